@@ -1,0 +1,4 @@
+pub mod ColumnFacts
+pub mod NameFacts
+pub mod PackedFacts
+pub mod TableFacts

@@ -1,0 +1,6 @@
+use Rattle.std.proofs.Common.{◌∙◌, sym}
+use Rattle.ssb_cells.proofs.ColumnFacts.{cells-len}
+use Rattle.ssb_cells.proofs.column.Column.len.Goals as goal
+
+pub returns : goal.returns
+returns c = rw (← c.self.view_is) (c.len.ensures ∙ sym (cells-len c.self.inside.kind c.self.inside c.self.invariant.parts))

@@ -1,0 +1,14 @@
+-- What a contract sees of a value and of a column.
+use Rattle.std.specs.Prelude.{ℕ, ℤ, List}
+use Rattle.ssb_cells.specs.declared.value.ColType.{ColType}
+
+-- null, a number or a text's bytes
+pub data Cell : Type 0 where
+  null : Cell
+  number : ℤ → Cell
+  text : List ℕ → Cell
+
+-- a type, and the values in order
+pub record Filled : Type 0 where
+  pub kind : ColType
+  pub values : List Cell

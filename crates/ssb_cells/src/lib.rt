@@ -1,0 +1,21 @@
+//! Values, columns and tables: what every other layer computes with.
+//!
+//! A column is its type and the list of its values; a table is its columns, all of one length. Both
+//! keep numbers and texts packed, and both are seen in contracts as those lists alone. What a name
+//! of a table or column looks like, and which words are reserved, stands here too, once for the
+//! catalog and the query language.
+#![tactic(auto)]
+
+pub mod column;
+pub mod name;
+pub mod table;
+mod texts;
+pub mod value;
+
+pub use column::Column;
+pub use name::{Name, is_name, is_reserved, is_word_byte};
+pub use table::Table;
+pub use value::{ColType, Op, Value};
+
+/// A growth was refused: the only fault of a call that needs nothing but memory.
+pub type Memory = std::alloc::AllocError;

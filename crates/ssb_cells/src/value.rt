@@ -1,0 +1,74 @@
+// Values, their types, and the operators that compare them.
+
+ghost use Rattle.std.specs.Prelude.{◌≡◌};
+
+/// The type of a column.
+#[derive(Clone, Copy, PartialEq, Eq, Debug)]
+pub enum ColType {
+    /// Whole numbers of 64 bits.
+    Int,
+    /// Texts.
+    Text,
+}
+
+/// A comparison of SQL.
+#[derive(Clone, Copy, PartialEq, Eq, Debug)]
+pub enum Op {
+    /// `=`
+    Eq,
+    /// `<>`
+    Ne,
+    /// `<`
+    Lt,
+    /// `<=`
+    Le,
+    /// `>`
+    Gt,
+    /// `>=`
+    Ge,
+}
+
+/// One value, lent.
+#[derive(Clone, Copy)]
+pub enum Value<'a> {
+    /// No value.
+    Null,
+    /// A number.
+    Int(i64),
+    /// A text.
+    Text(&'a str),
+}
+
+impl<'a> Value<'a> {
+    ghost use Rattle.ssb_cells.specs.Values.{is_null_value, number_in, text_in};
+
+    /// Whether there is no value.
+    pub fn is_null(self) -> bool
+        ensures { result ≡ is_null_value self.entry }
+    {
+        match self {
+            Value::Null => true,
+            _ => false,
+        }
+    }
+
+    // The number, or 0 where there is none.
+    pub(crate) fn number(self) -> i64
+        ensures { result ≡ number_in self.entry }
+    {
+        match self {
+            Value::Int(number) => number,
+            _ => 0,
+        }
+    }
+
+    // The text, or the empty one where there is none.
+    pub(crate) fn text(self) -> &'a str
+        ensures { result.now ≡ text_in self.entry }
+    {
+        match self {
+            Value::Text(text) => text,
+            _ => "",
+        }
+    }
+}

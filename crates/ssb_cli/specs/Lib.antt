@@ -1,0 +1,9 @@
+pub mod Binding
+pub mod Faults
+pub mod Loaded
+pub mod Reading
+pub mod Reply
+pub mod SumAnswer
+pub mod SumQuery
+pub mod SumText
+pub mod Taking

@@ -1,0 +1,13 @@
+// Why a query has no answer: a file of faults for each layer, and one for the program.
+
+pub mod answer;
+pub mod bind;
+pub mod program;
+pub mod run;
+pub mod sql;
+
+pub use answer::AnswerFault;
+pub use bind::{BindFault, TooMany};
+pub use program::ProgramFault;
+pub use run::RunFault;
+pub use sql::SqlFault;

@@ -1,0 +1,116 @@
+// Files that are opened and read.
+
+ghost use Rattle.std.specs.Prelude.{◌≡◌, ◌≤◌, ◌<◌, IfOk, IfErr, IsOk, IsErrAnd, IsUtf8, length, vec_len, string_bytes};
+ghost use Rattle.ssb_cli.specs.Faults.{IsOpenFault, IsQueryFault};
+ghost use Rattle.ssb_cli.specs.declared.files.TheConstants.{MAX_QUERY_BYTES};
+
+use crate::fault::{ProgramFault, RunFault, SqlFault};
+use ssb_load::Catalog;
+use std::alloc::{AllocError, Global};
+use std::io::Read;
+use std::rt::Files;
+use std::{fs, io};
+
+// A query has at most 65,536 bytes.
+const MAX_QUERY_BYTES: usize = 65536;
+
+// The fault of a file that is not opened, or not read where that counts as not opened.
+fn open_fault(alloc: Global, path: &str, error: &io::Error) -> ProgramFault
+    ensures { IsOpenFault result }
+{
+    if error.kind() == io::ErrorKind::OutOfMemory {
+        return ProgramFault::Memory;
+    }
+    match String::from_str(alloc, path) {
+        Ok(path) => ProgramFault::CannotOpen(path),
+        Err(_) => ProgramFault::Memory,
+    }
+}
+
+fn open<R: Files + AllocGlobal>(rt: &R, path: &str) -> Result<R::File, ProgramFault>
+    ensures { IfErr result IsOpenFault }
+{
+    match fs::open(rt, path) {
+        Ok(file) => Ok(file),
+        Err(error) => Err(open_fault(rt.alloc(), path, &error)),
+    }
+}
+
+/// The catalog of a file.
+pub fn read_catalog<R: Files + AllocGlobal>(rt: &R, path: &str) -> Result<Catalog, ProgramFault> {
+    let file = open(rt, path)?;
+    match Catalog::read(rt.alloc(), file) {
+        Ok(catalog) => Ok(catalog),
+        Err(fault) => Err(ProgramFault::Catalog(fault)),
+    }
+}
+
+fn query_fault(alloc: Global, fault: SqlFault) -> ProgramFault
+    ensures { IsQueryFault fault result }
+{
+    ProgramFault::Run {
+        names: Vec::new(alloc),
+        fault: RunFault::Sql(fault),
+    }
+}
+
+// The text that the bytes of a query are.
+fn text_of(alloc: Global, bytes: Vec<u8>) -> Result<String, ProgramFault>
+    ensures text { IfOk result (λ text. string_bytes text ≡ bytes.items) }
+    ensures succeeds { IsUtf8 bytes.items → vec_len bytes ≤ MAX_QUERY_BYTES → IsOk result }
+    ensures too_long { MAX_QUERY_BYTES < vec_len bytes → IsErrAnd result (IsQueryFault SqlFault.TooLong) }
+    ensures no_text { vec_len bytes ≤ MAX_QUERY_BYTES → IfErr result (IsQueryFault SqlFault.Syntax) }
+{
+    if bytes.len() > MAX_QUERY_BYTES {
+        return Err(query_fault(alloc, SqlFault::TooLong));
+    }
+    match String::from_utf8(bytes) {
+        Ok(text) => Ok(text),
+        Err(_) => Err(query_fault(alloc, SqlFault::Syntax)),
+    }
+}
+
+/// The query of a file, of which no more is read than shows that it is too long.
+pub fn read_query<R: Files + AllocGlobal>(rt: &R, path: &str) -> Result<String, ProgramFault> {
+    let file = open(rt, path)?;
+    let mut bytes = Vec::new(rt.alloc());
+    match file.take(65537).read_to_end(&mut bytes) {
+        Ok(_) => text_of(rt.alloc(), bytes),
+        Err(error) => Err(open_fault(rt.alloc(), path, &error)),
+    }
+}
+
+/// The names of the tables, in the catalog's order.
+pub fn names_of(alloc: Global, catalog: &Catalog) -> Result<Vec<String>, AllocError>
+    ensures { IfOk result (λ names. vec_len names ≡ length catalog.now) }
+{
+    let mut names = Vec::new(alloc);
+    for table in catalog.tables() {
+        names.push(String::from_str(alloc, table.name())?)?;
+    }
+    Ok(names)
+}
+
+fn path_of(alloc: Global, data: &str, table: &str) -> Result<String, AllocError> {
+    format!(in alloc; "{data}/{table}.tbl")
+}
+
+/// The files of the tables, in the catalog's order.
+pub fn open_all<R: Files + AllocGlobal>(
+    rt: &R,
+    data: &str,
+    catalog: &Catalog,
+) -> Result<Vec<R::File>, ProgramFault>
+    ensures readers { IfOk result (λ readers. vec_len readers ≡ length catalog.now) }
+    ensures fault { IfErr result IsOpenFault }
+{
+    let mut readers = Vec::new(rt.alloc());
+    for table in catalog.tables() {
+        let path = path_of(rt.alloc(), data, table.name())?;
+        let file = open(rt, path.as_str())?;
+        let Ok(()) = readers.push(file) else {
+            return Err(ProgramFault::Memory);
+        };
+    }
+    Ok(readers)
+}

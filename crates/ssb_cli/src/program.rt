@@ -1,0 +1,88 @@
+// The program: words, files, one run, and one line and a status for a fault.
+
+use crate::fault::{AnswerFault, ProgramFault, RunFault};
+use crate::files::{names_of, open_all, read_catalog, read_query};
+use crate::out::Out;
+use crate::report::{MEMORY_LINE, OUT_OF_MEMORY, program_line, program_status_of};
+use crate::run::run_sum;
+use crate::words::{Task, WordsFault, task_of};
+use std::alloc::{AllocError, Global};
+use std::io::{BufWriter, Write};
+use std::rt::{Env, Files};
+use std::{env, io};
+
+fn write_fault(alloc: Global) -> ProgramFault {
+    ProgramFault::Run {
+        names: Vec::new(alloc),
+        fault: RunFault::Answer(AnswerFault::Write),
+    }
+}
+
+// The answer goes through one buffer, which is flushed after it is complete.
+fn run<R: Files + Print + AllocGlobal>(rt: &R, task: Task<'_>) -> Result<(), ProgramFault> {
+    let catalog = read_catalog(rt, task.catalog)?;
+    let text = read_query(rt, task.query)?;
+    let names = names_of(rt.alloc(), &catalog)?;
+    let readers = open_all(rt, task.data, &catalog)?;
+    let Ok(writer) = BufWriter::new(rt.alloc(), io::writer(rt)) else {
+        return Err(ProgramFault::Memory);
+    };
+    let mut out = Out::new(writer);
+    if let Err(fault) = run_sum(rt.alloc(), catalog, readers, text.as_str(), &mut out) {
+        return Err(ProgramFault::Run { names, fault });
+    }
+    match out.into_writer().flush() {
+        Ok(()) => Ok(()),
+        Err(_) => Err(write_fault(rt.alloc())),
+    }
+}
+
+fn words<R: Env + AllocGlobal>(rt: &R) -> Result<Vec<String>, ProgramFault> {
+    let given = match env::args(rt) {
+        Ok(given) => given,
+        Err(error) if error.kind() == io::ErrorKind::OutOfMemory => {
+            return Err(ProgramFault::Memory);
+        }
+        Err(_) => return Err(ProgramFault::BadWords),
+    };
+    let collected: Result<Vec<String>, AllocError> = given.collect(rt.alloc());
+    match collected {
+        Ok(given) => Ok(given),
+        Err(_) => Err(ProgramFault::Memory),
+    }
+}
+
+fn act<R: Files + Print + Eprint + Env + AllocGlobal>(rt: &R) -> Result<(), ProgramFault> {
+    let given = words(rt)?;
+    match task_of(rt.alloc(), given.as_slice()) {
+        Ok(task) => run(rt, task),
+        Err(WordsFault::Help(text)) => match text.print(rt) {
+            Ok(()) => Ok(()),
+            Err(_) => Err(write_fault(rt.alloc())),
+        },
+        Err(WordsFault::Bad) => Err(ProgramFault::BadWords),
+        Err(WordsFault::Memory) => Err(ProgramFault::Memory),
+    }
+}
+
+// The line of a fault on the error output, and the status. A line that can't be printed is lost.
+fn tell<R: Eprint + AllocGlobal>(rt: &R, fault: &ProgramFault) -> u8 {
+    match program_line(rt.alloc(), fault) {
+        Ok(line) => {
+            let _ = rt.eprint(line.as_str());
+            program_status_of(fault)
+        }
+        Err(_) => {
+            let _ = rt.eprint(MEMORY_LINE);
+            OUT_OF_MEMORY
+        }
+    }
+}
+
+/// Does what the words of the command line ask, and gives the exit status.
+pub fn status_of_program<R: Files + Print + Eprint + Env + AllocGlobal>(rt: &R) -> u8 {
+    match act(rt) {
+        Ok(()) => 0,
+        Err(fault) => tell(rt, &fault),
+    }
+}

@@ -1,0 +1,101 @@
+// The words of the command line.
+
+use clap::error::ErrorKind;
+use clap::{Arg, ArgAction, ArgMatches, Command, Error};
+use std::alloc::Global;
+
+/// What is asked: to answer a query of one file over the tables of a folder, whose catalog is
+/// another file.
+#[derive(Clone, Copy)]
+pub struct Task<'a> {
+    /// The folder.
+    pub data: &'a str,
+    /// The query's file.
+    pub query: &'a str,
+    /// The catalog's file.
+    pub catalog: &'a str,
+}
+
+/// Why nothing is asked.
+#[derive(Drop)]
+pub enum WordsFault {
+    /// Help is asked, and this is its text.
+    Help(Error),
+    /// The words are none that are known.
+    Bad,
+    /// A growth was refused.
+    Memory,
+}
+
+fn run_command<'a>(alloc: Global) -> Result<Command<'a>, Error> {
+    let data = Arg::new(alloc, "data")
+        .long("data")
+        .required(true)
+        .action(ArgAction::Set)
+        .value_name("DIR")
+        .help("The folder with a file TABLE.tbl for each table");
+    let query = Arg::new(alloc, "query")
+        .long("query")
+        .required(true)
+        .action(ArgAction::Set)
+        .value_name("FILE")
+        .help("The query");
+    let catalog = Arg::new(alloc, "catalog")
+        .long("catalog")
+        .required(true)
+        .action(ArgAction::Set)
+        .value_name("FILE")
+        .help("The tables and their columns");
+    let run = Command::new(alloc, "run")
+        .about("Answers a query over tables")
+        .arg(data)?
+        .arg(query)?
+        .arg(catalog)?;
+    Ok(run)
+}
+
+fn command<'a>(alloc: Global) -> Result<Command<'a>, Error> {
+    let program = Command::new(alloc, "ssb")
+        .bin_name("ssb")?
+        .about("Answers queries of the Star Schema Benchmark")
+        .disable_help_subcommand(true)
+        .subcommand_required(true)
+        .subcommand(run_command(alloc)?)?;
+    Ok(program)
+}
+
+fn parse<'a>(alloc: Global, given: &'a [String]) -> Result<ArgMatches<'a>, Error> {
+    command(alloc)?.try_get_matches_from(given)
+}
+
+fn run_task<'a>(found: &ArgMatches<'a>) -> Option<Task<'a>> {
+    Some(Task {
+        data: found.get_str("data")?,
+        query: found.get_str("query")?,
+        catalog: found.get_str("catalog")?,
+    })
+}
+
+fn fault_of(error: Error) -> WordsFault {
+    match error.kind() {
+        ErrorKind::DisplayHelp => WordsFault::Help(error),
+        ErrorKind::OutOfMemory => WordsFault::Memory,
+        _ => WordsFault::Bad,
+    }
+}
+
+/// What the words ask. The first is the program's own name.
+pub fn task_of<'a>(alloc: Global, given: &'a [String]) -> Result<Task<'a>, WordsFault> {
+    let matches = match parse(alloc, given) {
+        Ok(matches) => matches,
+        Err(error) => return Err(fault_of(error)),
+    };
+    let task = match matches.subcommand() {
+        Some(("run", found)) => run_task(found),
+        _ => None,
+    };
+    match task {
+        Some(task) => Ok(task),
+        None => Err(WordsFault::Bad),
+    }
+}

@@ -1,0 +1,94 @@
+-- One more record in the columns and among the keys.
+use Rattle.std.proofs.Common.{◌≡◌, ◌∙◌, ◌++◌, ◌+◌, ℕ, ℤ, Bool, true, false, cond, ◌||◌, List, [], ◌∷◌, length, map, take, get_or, zero, suc, ◌<◌, add-one, Option, Some, None, refl, sym, ap, arith}
+use Rattle.std.proofs.lemmas.Cmp.{int_eq_equiv}
+use Rattle.std.proofs.lemmas.List.{map-append}
+use Rattle.ssb_cells.specs.Cell.{Filled}
+use Rattle.ssb_cells.specs.Tables.{AreLong, rows_in}
+use Rattle.ssb_load.proofs.RuleFacts.{sized-len}
+use Rattle.ssb_load.specs.Records.{Fields}
+use Rattle.ssb_load.specs.Rules.{has_key, key_of, is_value, columns_from, columns_of}
+use Rattle.ssb_load.specs.Tables.{repeats, fault_by, fault_of}
+use Rattle.ssb_load.specs.Loader.{Holds, AddsKey, AreSized, seen_in, with_front, with_record}
+use Rattle.ssb_load.specs.declared.rule.Rule.{Rule}
+
+-- the same keys give the same fault
+repeats-same : (key : Option ℤ) (a b : ℤ → Bool) → ((z : ℤ) → a z ≡ b z) → repeats key a ≡ repeats key b
+repeats-same None a b h = refl
+repeats-same (Some z) a b h = h z
+
+pub same-fault : (plan : List Rule) (m : ℕ) (good : List Fields) (seen : List ℤ) (columns : List Filled) (r : Fields) → Holds plan good seen columns
+    → fault_by plan m (length good) (seen_in seen) r ≡ fault_of plan m good r
+same-fault plan m good seen columns r h = rw (repeats-same (key_of plan r) (seen_in seen) (has_key plan good) h.held) refl
+
+-- a record more, key by key
+or-last : (a c : Bool) → a ≡ c → (a || false) ≡ cond c true false
+or-last true c e = rw (← e) refl
+or-last false c e = rw (← e) refl
+
+or-more : (a c h : Bool) → (a || cond c true h) ≡ cond c true (a || h)
+or-more true true h = refl
+or-more true false h = refl
+or-more false c h = refl
+
+has-last : (plan : List Rule) (good : List Fields) (r : Fields) (z : ℤ) → has_key plan (good ++ r ∷ []) z ≡ cond (is_value (key_of plan r) z) true (has_key plan good z)
+has-last plan [] r z = or-last (is_value (key_of plan r) z) (is_value (key_of plan r) z) refl
+has-last plan (g ∷ gs) r z = ap (λ t. is_value (key_of plan g) z || t) (has-last plan gs r z) ∙ or-more (is_value (key_of plan g) z) (is_value (key_of plan r) z) (has_key plan gs z)
+
+adds : (key : Option ℤ) (old new : List ℤ) (z : ℤ) → AddsKey key old new → seen_in new z ≡ cond (is_value key z) true (seen_in old z)
+adds None old new z h = rw h refl
+adds (Some k) old new z h = h z ∙ (rw (int_eq_equiv.symm k z) refl)
+
+-- columns with a record more
+pub columns-last : (at : ℕ) (ps : List Rule) (good : List Fields) (r : Fields) → with_front (length ps) at ps (columns_from at ps good) r ≡ columns_from at ps (good ++ r ∷ [])
+columns-last at [] good r = refl
+columns-last at (p ∷ ps) good r = rw (columns-last (at + 1) ps good r, map-append) refl
+
+len-map : {A B : Type 0} (f : A → B) (xs : List A) → length (map f xs) ≡ length xs
+len-map f [] = refl
+len-map f (x ∷ xs) = let h = len-map f xs in omega arith
+
+pub columns-sized : (at : ℕ) (ps : List Rule) (good : List Fields) → AreSized (length good) ps (columns_from at ps good)
+columns-sized at [] good = tt
+columns-sized at (p ∷ ps) good = (refl, len-map _ good, columns-sized (at + 1) ps good)
+
+pub holds-more : (plan : List Rule) (good : List Fields) (r : Fields) (seen seen' : List ℤ) (columns columns' : List Filled) → Holds plan good seen columns
+    → AddsKey (key_of plan r) seen seen' → columns' ≡ with_record plan columns r → Holds plan (good ++ r ∷ []) seen' columns'
+holds-more plan good r seen seen' columns columns' h adds_key is =
+    record {
+      held = λ z. adds (key_of plan r) seen seen' z adds_key ∙ (rw (h.held z) (sym (has-last plan good r z)));
+      columns_are = is ∙ (rw h.columns_are (columns-last 0 plan good r));
+    }
+
+pub holds-none : (plan : List Rule) (seen : List ℤ) (columns : List Filled) → seen ≡ [] → columns ≡ columns_of plan [] → Holds plan [] seen columns
+holds-none plan seen columns e is = record { held = λ z. rw e refl; columns_are = is }
+
+pub holds-sized : (plan : List Rule) (good : List Fields) (seen : List ℤ) (columns : List Filled) (n : ℕ) → Holds plan good seen columns → length good ≡ n → AreSized n plan columns
+holds-sized plan good seen columns n h e = rw (← e, h.columns_are) (columns-sized 0 plan good)
+
+none-suc : (at k : ℕ) (ps : List Rule) (q : Rule) → k < length ps → columns_from at (take (suc k) ps) [] ≡ columns_from at (take k ps) [] ++ record { kind = (get_or ps k q).kind; values = [] } ∷ []
+none-suc at k [] q lt = absurd (omega arith)
+none-suc at zero (p ∷ ps) q lt = refl
+none-suc at (suc k) (p ∷ ps) q lt = ap (λ t. record { kind = p.kind; values = [] } ∷ t) (none-suc (at + 1) k ps q (omega arith))
+
+-- columns of no record, one more of them
+pub none-next : (k : ℕ) (ps : List Rule) (q : Rule) (now : List Filled) → k < length ps → now ≡ columns_of (take k ps) []
+    → now ++ record { kind = (get_or ps k q).kind; values = [] } ∷ [] ≡ columns_of (take (k + 1) ps) []
+none-next k ps q now lt is = let h : k + 1 ≡ suc k = add-one k in rw (is, h) (sym (none-suc 0 k ps q lt))
+
+-- the columns of a table, all of one length
+sized-long : (n : ℕ) (ps : List Rule) (cs : List Filled) → AreSized n ps cs → AreLong n cs
+sized-long n [] [] s = tt
+sized-long n [] (c ∷ cs) s = absurd s
+sized-long n (p ∷ ps) [] s = absurd s
+sized-long n (p ∷ ps) (c ∷ cs) s = (s.1, sized-long n ps cs s.2)
+
+rows-sized : (n : ℕ) (ps : List Rule) (cs : List Filled) → AreSized n ps cs → 0 < length ps → rows_in cs ≡ n
+rows-sized n [] cs s lt = absurd (omega arith)
+rows-sized n (p ∷ ps) [] s lt = absurd s
+rows-sized n (p ∷ ps) (c ∷ cs) s lt = s.1
+
+pub holds-long : (plan : List Rule) (good : List Fields) (seen : List ℤ) (columns : List Filled) → Holds plan good seen columns → 0 < length plan → (0 < length columns) × AreLong (rows_in columns) columns
+holds-long plan good seen columns h lt =
+    let s = holds-sized plan good seen columns (length good) h refl in
+    let n = sized-len (length good) plan columns s in
+    (omega arith, rw (rows-sized (length good) plan columns s lt) (sized-long (length good) plan columns s))

@@ -1,0 +1,17 @@
+pub mod CatalogFaults
+pub mod CatalogGoing
+pub mod DigitFacts
+pub mod DraftFacts
+pub mod EntryFacts
+pub mod FaultFacts
+pub mod FieldFacts
+pub mod Going
+pub mod GroupFacts
+pub mod HoldsFacts
+pub mod LawfulFacts
+pub mod NumberFacts
+pub mod OneKey
+pub mod PlaceFacts
+pub mod Reading
+pub mod RuleFacts
+pub mod Step

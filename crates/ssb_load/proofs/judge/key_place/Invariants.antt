@@ -1,0 +1,6 @@
+use Rattle.std.proofs.Common.{◌≡◌, drop}
+use Rattle.ssb_load.specs.Rules.{key_from}
+use Rattle.ssb_load.proofs.judge.key_place.Given as goal
+
+abbrev pub invariant-loop-k : goal.invariant-loop-k
+invariant-loop-k l = key_from 0 l.plan ≡ key_from l.k (drop l.k l.plan)

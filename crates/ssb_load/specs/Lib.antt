@@ -1,0 +1,11 @@
+pub mod Catalog
+pub mod CatalogReading
+pub mod Lawful
+pub mod Loader
+pub mod Loading
+pub mod Numbers
+pub mod Records
+pub mod Rules
+pub mod Shapes
+pub mod Tables
+pub mod Width

@@ -1,0 +1,83 @@
+-- What the loader holds after some records: for the contracts inside this crate.
+use Rattle.std.specs.Prelude.{◌≡◌, ◌+◌, ◌++◌, ◌∷◌, ℕ, ℤ, Bool, true, ◌||◌, suc, zero, List, [], length, Option, None, Some, ⊤, if◌then◌else◌}
+use Rattle.std.specs.List.{list_any}
+use Rattle.std.specs.Ordering.{int_eq}
+use Rattle.ssb_cells.specs.Cell.{Cell, Filled}
+use Rattle.ssb_load.specs.Records.{Fields, field}
+use Rattle.ssb_load.specs.Rules.{cell_in, columns_of, has_key, fails}
+use Rattle.ssb_load.specs.Tables.{fault_by}
+use Rattle.csv.specs.declared.error.ErrorKind.{ErrorKind}
+use Rattle.csv.specs.declared.error.ErrorKind.TheVariants as kind
+use Rattle.ssb_load.specs.declared.rule.Rule.{Rule}
+use Rattle.ssb_load.specs.declared.rule.Test.TheVariants as tests
+use Rattle.ssb_load.specs.declared.fault.LoadFault.{LoadFault}
+use Rattle.ssb_load.specs.declared.fault.LoadFault.TheVariants as load
+
+-- the keys that were seen, as a test
+abbrev pub seen_in : List ℤ → ℤ → Bool
+seen_in seen z = list_any (int_eq z) seen
+
+abbrev pub with_cell : Filled → Cell → Filled
+with_cell c v = record c { values = c.values ++ v ∷ [] }
+
+-- columns with a record more: the first k of them
+abbrev pub with_front : ℕ → ℕ → List Rule → List Filled → Fields → List Filled
+with_front zero at ps cs r = cs
+with_front (suc k) at [] cs r = cs
+with_front (suc k) at (p ∷ ps) [] r = []
+with_front (suc k) at (p ∷ ps) (c ∷ cs) r = with_cell c (cell_in p.kind (field r at)) ∷ with_front k (at + 1) ps cs r
+
+abbrev pub with_record : List Rule → List Filled → Fields → List Filled
+with_record rules cs r = with_front (length rules) 0 rules cs r
+
+-- the keys with that of a record more
+abbrev pub AddsKey : Option ℤ → List ℤ → List ℤ → Type 0
+AddsKey None old new = new ≡ old
+AddsKey (Some k) old new = (z : ℤ) → seen_in new z ≡ (if int_eq k z then true else seen_in old z)
+
+-- the columns have so many values, of their types
+abbrev pub AreSized : ℕ → List Rule → List Filled → Type 0
+AreSized count [] [] = ⊤
+AreSized count [] (c ∷ cs) = ⊥
+AreSized count (p ∷ ps) [] = ⊥
+AreSized count (p ∷ ps) (c ∷ cs) = (c.kind ≡ p.kind) × (length c.values ≡ count) × AreSized count ps cs
+
+-- the columns, and the keys that were seen, are those of these records
+pub record Holds (rules : List Rule) (good : List Fields) (seen : List ℤ) (columns : List Filled) : Type 0 where
+  pub held : (z : ℤ) → seen_in seen z ≡ has_key rules good z
+  pub columns_are : columns ≡ columns_of rules good
+
+-- a record was refused for its fault, or for memory
+abbrev pub IsFaultBy : List Rule → ℕ → ℕ → List ℤ → Fields → LoadFault → Type 0
+IsFaultBy rules max_rows count seen r (load.Record f n) = (fault_by rules max_rows count (seen_in seen) r ≡ Some f) × (n ≡ count + 1)
+IsFaultBy rules max_rows count seen r load.Memory = ⊤
+IsFaultBy rules max_rows count seen r (load.Read n) = ⊥
+IsFaultBy rules max_rows count seen r (load.BadCatalog f n) = ⊥
+
+-- a field fails some test
+abbrev pub fails_some : Rule → List ℕ → Bool
+fails_some p f = fails tests.Number p f || (fails tests.Value p f || fails tests.Length p f)
+
+-- the reader failed, or memory did
+abbrev pub IsIoOrMemory : ErrorKind → Type 0
+IsIoOrMemory (kind.Io e) = ⊤
+IsIoOrMemory kind.OutOfMemory = ⊤
+IsIoOrMemory (kind.UnequalLengths pos expected len) = ⊥
+IsIoOrMemory (kind.Utf8 pos err) = ⊥
+IsIoOrMemory (kind.Serialize why) = ⊥
+IsIoOrMemory (kind.Deserialize pos err) = ⊥
+
+-- only a fault of the reader underneath is told as one
+abbrev pub fault_of_read : ℕ → ErrorKind → LoadFault
+fault_of_read n (kind.Io e) = load.Read n
+fault_of_read n kind.OutOfMemory = load.Memory
+fault_of_read n (kind.UnequalLengths pos expected len) = load.Memory
+fault_of_read n (kind.Utf8 pos err) = load.Memory
+fault_of_read n (kind.Serialize why) = load.Memory
+fault_of_read n (kind.Deserialize pos err) = load.Memory
+
+abbrev pub IsReadFault : ℕ → LoadFault → Type 0
+IsReadFault n (load.Read k) = k ≡ n
+IsReadFault n load.Memory = ⊤
+IsReadFault n (load.Record f k) = ⊥
+IsReadFault n (load.BadCatalog f k) = ⊥

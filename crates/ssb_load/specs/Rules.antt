@@ -1,0 +1,89 @@
+-- What a column takes of a field, and what it then holds.
+-- Source: own. An empty field is null; `int` is a number of 64 bits; a text has at most 4,096 bytes; `key` and `need` are not null.
+use Rattle.std.specs.Prelude.{◌+◌, ◌∷◌, ◌==◌, ◌&&◌, ◌||◌, ℕ, ℤ, pos, Bool, true, false, List, [], length, map, not, nat_lt, is_none, Option, Some, None, unwrap_or, if◌then◌else◌}
+use Rattle.std.specs.List.{list_any}
+use Rattle.std.specs.Ordering.{int_eq}
+use Rattle.ssb_cells.specs.Cell.{Cell, Filled, null, number, text}
+use Rattle.ssb_cells.specs.declared.value.ColType.{ColType}
+use Rattle.ssb_cells.specs.declared.value.ColType.TheVariants as kinds
+use Rattle.ssb_load.specs.Records.{Fields, field}
+use Rattle.ssb_load.specs.Numbers.{number_of}
+use Rattle.ssb_load.specs.declared.rule.Role.{Role}
+use Rattle.ssb_load.specs.declared.rule.Role.TheVariants as roles
+use Rattle.ssb_load.specs.declared.rule.Rule.{Rule}
+use Rattle.ssb_load.specs.declared.rule.Test.{Test}
+use Rattle.ssb_load.specs.declared.rule.Test.TheVariants as tests
+
+abbrev pub is_empty : List ℕ → Bool
+is_empty bytes = length bytes == 0
+
+abbrev pub is_int : ColType → Bool
+is_int kinds.Int = true
+is_int kinds.Text = false
+
+abbrev pub needs_value : Role → Bool
+needs_value roles.Key = true
+needs_value roles.Need = true
+needs_value roles.Nullable = false
+
+abbrev pub is_key : Role → Bool
+is_key roles.Key = true
+is_key roles.Need = false
+is_key roles.Nullable = false
+
+-- a field fails a test of its column's rule
+abbrev pub fails : Test → Rule → List ℕ → Bool
+fails tests.Number p f = is_int p.kind && (not (is_empty f) && is_none (number_of f))
+fails tests.Value p f = needs_value p.role && is_empty f
+fails tests.Length p f = not (is_int p.kind) && nat_lt 4096 (length f)
+
+-- some field of a record, from this one on, has a property under its rule
+abbrev pub any_from : (Rule → List ℕ → Bool) → ℕ → List Rule → Fields → Bool
+any_from t at [] r = false
+any_from t at (p ∷ ps) r = t p (field r at) || any_from t (at + 1) ps r
+
+-- some field of a record fails a test
+abbrev pub any_fails : Test → List Rule → Fields → Bool
+any_fails test rules r = any_from (fails test) 0 rules r
+
+-- the place of the first key
+abbrev pub key_from : ℕ → List Rule → Option ℕ
+key_from at [] = None
+key_from at (p ∷ ps) = if is_key p.role then Some at else key_from (at + 1) ps
+
+abbrev pub key_place : List Rule → Option ℕ
+key_place rules = key_from 0 rules
+
+abbrev pub number_at : Option ℕ → Fields → Option ℤ
+number_at None r = None
+number_at (Some k) r = number_of (field r k)
+
+-- the key of a record
+abbrev pub key_of : List Rule → Fields → Option ℤ
+key_of rules r = number_at (key_place rules) r
+
+abbrev pub is_value : Option ℤ → ℤ → Bool
+is_value None z = false
+is_value (Some k) z = int_eq z k
+
+-- a key stands in one of these records
+abbrev pub has_key : List Rule → List Fields → ℤ → Bool
+has_key rules good z = list_any (λ r. is_value (key_of rules r) z) good
+
+-- what a column of this type holds of a field that is not empty
+abbrev pub value_in : ColType → List ℕ → Cell
+value_in kinds.Int f = number (unwrap_or (number_of f) (pos 0))
+value_in kinds.Text f = text f
+
+-- what a column of this type holds of a field
+abbrev pub cell_in : ColType → List ℕ → Cell
+cell_in kind f = if is_empty f then null else value_in kind f
+
+-- the columns of these records, from this field on
+abbrev pub columns_from : ℕ → List Rule → List Fields → List Filled
+columns_from at [] rs = []
+columns_from at (p ∷ ps) rs = record { kind = p.kind; values = map (λ r. cell_in p.kind (field r at)) rs } ∷ columns_from (at + 1) ps rs
+
+-- the columns of these records: a value for each record in each column
+abbrev pub columns_of : List Rule → List Fields → List Filled
+columns_of rules rs = columns_from 0 rules rs

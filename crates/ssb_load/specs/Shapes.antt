@@ -1,0 +1,12 @@
+-- What a contract sees of a catalog: for each table its name, and for each of its columns name, type and role.
+use Rattle.std.specs.Prelude.{ℕ, List, map}
+use Rattle.ssb_load.specs.declared.catalog.ColumnDef.{ColumnDef}
+use Rattle.ssb_load.specs.declared.rule.Rule.{Rule}
+
+pub record TableShape : Type 0 where
+  pub name : List ℕ
+  pub columns : List ColumnDef
+
+-- what the columns of a table take
+abbrev pub rules_of : TableShape → List Rule
+rules_of t = map (λ c. c.rule) t.columns

@@ -1,0 +1,24 @@
+//! Catalogs, and the tables that files give.
+//!
+//! A file is a list of records of fields between bars, as `csv` reads them. A catalog says which
+//! tables there are and what each of their columns takes; [`load`] gives the table of a file, or the
+//! first faulty record with the least fault that applies to it.
+#![tactic(auto)]
+
+pub mod catalog;
+mod draft;
+mod entry;
+pub mod fault;
+mod field;
+mod judge;
+pub mod load;
+mod loader;
+mod number;
+mod read_catalog;
+pub mod rule;
+mod value;
+
+pub use catalog::{Catalog, ColumnDef, TableDef};
+pub use fault::{CatalogFault, LoadFault, RecordFault};
+pub use load::load as load_table;
+pub use rule::{Role, Rule};

@@ -1,0 +1,124 @@
+// A table on its way, record by record.
+
+ghost use Rattle.std.specs.Prelude.{◌≡◌, ◌≢◌, ◌+◌, ◌<◌, ◌^◌, ◌++◌, ◌∷◌, ◌||◌, [], true, false, not, List, length, IfOk, IfErr, OnOk, MatchResult, None, vec_len};
+ghost use Rattle.std.specs.List.{list_all};
+ghost use Rattle.std.specs.Str.{is_utf8};
+ghost use Rattle.csv.specs.Records.{fields_of};
+ghost use Rattle.ssb_cells.specs.Tables.{AreLong, rows_in};
+ghost use Rattle.ssb_load.specs.Rules.{any_from, key_place, number_at, key_of, columns_of};
+ghost use Rattle.ssb_load.specs.Tables.{fault_by, repeats};
+ghost use Rattle.ssb_load.specs.Loader.{seen_in, AddsKey, AreSized, with_record, IsFaultBy, fails_some};
+
+use crate::fault::LoadFault;
+use crate::field::{field_text, is_all_text, is_wide};
+use crate::judge::{number_in_field, refuse};
+use crate::rule::Rule;
+use crate::value::value_of;
+use csv::ByteRecord;
+use ssb_cells::{Column, Table};
+use std::alloc::{AllocError, Global};
+use std::collections::HashSet;
+
+#[derive(Drop)]
+pub(crate) struct Loader {
+    seen: HashSet<i64>,
+    columns: Vec<Column>,
+}
+
+// Puts each field of a record into its column, or stops at one that fails a test.
+fn push_fields(
+    columns: &mut Vec<Column>,
+    plan: &[Rule],
+    count: u64,
+    row: &ByteRecord,
+) -> Result<bool, AllocError>
+    requires text { list_all is_utf8 (fields_of row.now) ≡ true }
+    requires sized { AreSized count plan.now columns.old.items }
+    requires room { count < 4294967295 }
+    ensures fails { IfOk result (λ taken. any_from fails_some 0 plan.now (fields_of row.now) ≡ not taken) }
+    ensures pushed { IfOk result (λ taken. taken ≡ true → columns.new.items ≡ with_record plan.now columns.old.items (fields_of row.now)) }
+{
+    for k in 0..plan.len() {
+        let rule = plan[k];
+        let Some(value) = value_of(rule, field_text(row, k)) else {
+            return Ok(false);
+        };
+        let column = &mut columns[k];
+        column.push(value)?;
+    }
+    Ok(true)
+}
+
+// Puts a key among those that were seen, if there is one and it is new.
+fn add_key(seen: &mut HashSet<i64>, key: Option<i64>) -> Result<bool, AllocError>
+    ensures fresh { IfOk result (λ fresh. repeats key (seen_in seen.old.keys) ≡ not fresh) }
+    ensures added { IfOk result (λ fresh. fresh ≡ true → AddsKey key seen.old.keys seen.new.keys) }
+    ensures kept { IfOk result (λ fresh. fresh ≡ false → seen.new ≡ seen.old) }
+{
+    let Some(key) = key else {
+        return Ok(true);
+    };
+    if seen.contains(&key) {
+        return Ok(false);
+    }
+    seen.insert(key)?;
+    Ok(true)
+}
+
+impl Loader {
+    pub(crate) fn new(alloc: Global, plan: &[Rule]) -> Result<Loader, AllocError>
+        ensures seen { IfOk result (λ l. l.seen.keys ≡ []) }
+        ensures columns { IfOk result (λ l. l.columns.items ≡ columns_of plan.now []) }
+    {
+        let mut columns: Vec<Column> = Vec::new(alloc);
+        for k in 0..plan.len() {
+            let rule = plan[k];
+            columns.push(Column::new(alloc, rule.kind)?)?;
+        }
+        Ok(Loader {
+            seen: HashSet::new(alloc),
+            columns,
+        })
+    }
+
+    pub(crate) fn into_table(self) -> Table
+        requires some { 0 < vec_len self.columns }
+        requires long { AreLong (rows_in self.columns.items) self.columns.items }
+        ensures { result ≡ self.columns.items }
+    {
+        Table::new(self.columns)
+    }
+
+    // Takes one more record after so many good ones, or says why not.
+    pub(crate) fn accept(
+        &mut self,
+        plan: &[Rule],
+        key: Option<usize>,
+        accepted: u64,
+        max_rows: u32,
+        row: &ByteRecord,
+    ) -> Result<(), LoadFault>
+        requires sized { AreSized accepted plan.now self.old.columns.items }
+        requires key { key ≡ key_place plan.now }
+        requires room { accepted + 1 < 2 ^ 64 }
+        ensures room { OnOk result (accepted < max_rows) }
+        ensures taken { OnOk result (fault_by plan.now max_rows accepted (seen_in self.old.seen.keys) (fields_of row.now) ≡ None) }
+        ensures columns { OnOk result (self.new.columns.items ≡ with_record plan.now self.old.columns.items (fields_of row.now)) }
+        ensures seen { OnOk result (AddsKey (key_of plan.now (fields_of row.now)) self.old.seen.keys self.new.seen.keys) }
+        ensures refused { IfErr result (λ e. IsFaultBy plan.now max_rows accepted self.old.seen.keys (fields_of row.now) e) }
+    {
+        if accepted >= u64::from(max_rows) || !is_wide(row, plan.len()) || !is_all_text(row) {
+            return Err(refuse(plan, &self.seen, accepted, max_rows, row));
+        }
+        match push_fields(&mut self.columns, plan, accepted, row) {
+            Ok(true) => {}
+            Ok(false) => return Err(refuse(plan, &self.seen, accepted, max_rows, row)),
+            Err(_) => return Err(LoadFault::Memory),
+        }
+        match add_key(&mut self.seen, number_in_field(key, row)) {
+            Ok(true) => Ok(()),
+            Ok(false) => Err(refuse(plan, &self.seen, accepted, max_rows, row)),
+            Err(_) => Err(LoadFault::Memory),
+        }
+    }
+}

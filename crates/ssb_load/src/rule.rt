@@ -1,0 +1,34 @@
+// What a column takes.
+
+use ssb_cells::ColType;
+
+/// Which fields a column takes.
+#[derive(Clone, Copy, PartialEq, Eq, Debug)]
+pub enum Role {
+    /// Not null, and all values different.
+    Key,
+    /// Not null.
+    Need,
+    /// Perhaps null.
+    Nullable,
+}
+
+/// The type and the role of a column.
+#[derive(Clone, Copy, PartialEq, Eq, Debug)]
+pub struct Rule {
+    /// The type.
+    pub kind: ColType,
+    /// The role.
+    pub role: Role,
+}
+
+/// What a field under a rule may fail.
+#[derive(Clone, Copy, PartialEq, Eq, Debug)]
+pub(crate) enum Test {
+    /// To spell a number, where it is not empty and the type is that of numbers.
+    Number,
+    /// To be a value, where one is needed.
+    Value,
+    /// To be no longer than a text may be.
+    Length,
+}

@@ -1,0 +1,75 @@
+// One field under its rule.
+
+ghost use Rattle.std.specs.Prelude.{◌≡◌, ◌||◌, is_none, IfSome};
+ghost use Rattle.ssb_cells.specs.Values.{cell_of, IsOfType};
+ghost use Rattle.ssb_load.specs.Rules.{fails, cell_in, needs_value, is_key};
+ghost use Rattle.ssb_load.specs.declared.rule.Test.TheVariants as tests;
+
+use crate::number::number;
+use crate::rule::{Role, Rule, Test};
+use ssb_cells::{ColType, Value};
+
+const MAX_TEXT: usize = 4096;
+
+fn is_needed(role: Role) -> bool
+    ensures { result ≡ needs_value role }
+{
+    match role {
+        Role::Key => true,
+        Role::Need => true,
+        Role::Nullable => false,
+    }
+}
+
+pub(crate) fn is_key_role(role: Role) -> bool
+    ensures { result ≡ is_key role }
+{
+    match role {
+        Role::Key => true,
+        Role::Need => false,
+        Role::Nullable => false,
+    }
+}
+
+// The value of a field under its rule, where it fails no test.
+pub(crate) fn value_of<'a>(rule: Rule, text: &'a str) -> Option<Value<'a>>
+    ensures fails { is_none result ≡ (fails tests.Number rule text.now || (fails tests.Value rule text.now || fails tests.Length rule text.now)) }
+    ensures cell { IfSome result (λ v. cell_of v ≡ cell_in rule.kind text.now) }
+    ensures kind { IfSome result (λ v. IsOfType rule.kind v) }
+{
+    if text.is_empty() {
+        if is_needed(rule.role) {
+            return None;
+        }
+        return Some(Value::Null);
+    }
+    match rule.kind {
+        ColType::Int => match number(text) {
+            Some(value) => Some(Value::Int(value)),
+            None => None,
+        },
+        ColType::Text => {
+            if text.len() > MAX_TEXT {
+                return None;
+            }
+            Some(Value::Text(text))
+        }
+    }
+}
+
+// Whether a field fails a test of its rule.
+pub(crate) fn fails_test(test: Test, rule: Rule, text: &str) -> bool
+    ensures { result ≡ fails test rule text.now }
+{
+    match test {
+        Test::Number => match rule.kind {
+            ColType::Int => !text.is_empty() && number(text).is_none(),
+            ColType::Text => false,
+        },
+        Test::Value => is_needed(rule.role) && text.is_empty(),
+        Test::Length => match rule.kind {
+            ColType::Int => false,
+            ColType::Text => text.len() > MAX_TEXT,
+        },
+    }
+}

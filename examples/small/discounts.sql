@@ -1,0 +1,1 @@
+SELECT SUM(lo_discount) FROM lineorder;

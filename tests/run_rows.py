@@ -1,0 +1,192 @@
+#!/usr/bin/env python3
+"""Runs each row of tests/rows through the real program, and compares what it prints byte by byte.
+
+Usage: run_rows.py [PROGRAM]
+
+PROGRAM is crates/ssb_cli/out/ssb_cli where it is left out. tests/README.md says what a row holds.
+"""
+
+import json
+import subprocess
+import sys
+import tempfile
+from pathlib import Path
+
+ROOT = Path(__file__).resolve().parent.parent
+ROWS = ROOT / "tests" / "rows"
+PROGRAM = ROOT / "crates" / "ssb_cli" / "out" / "ssb_cli"
+SECONDS = 120
+
+# The folder of a row's files, below the one that the program runs in.
+DATA = "d"
+
+# Each key of a row, with what it is where the row leaves it out.
+DEFAULTS = {
+    "shows": "",
+    "base": "small",
+    "files": {},
+    "query": None,
+    "options": [],
+    "words": None,
+    "standard_output": "",
+    "output": "",
+    "error": "",
+    "status": None,
+}
+
+
+class BadRow(Exception):
+    """A row that can't be run."""
+
+
+def read_row(path):
+    """The row of a file, with each key."""
+    try:
+        row = json.loads(path.read_text(encoding="utf-8"))
+    except ValueError as error:
+        raise BadRow(f"no JSON: {error}") from None
+    unknown = sorted(set(row) - set(DEFAULTS))
+    if unknown:
+        raise BadRow(f"unknown keys: {', '.join(unknown)}")
+    row = {**DEFAULTS, **row}
+    for key in ("shows", "status"):
+        if row[key] in ("", None):
+            raise BadRow(f"no {key}")
+    if row["standard_output"] not in ("", "closed", "full"):
+        raise BadRow("standard_output is closed or full, or left out")
+    return row
+
+
+def part_bytes(part):
+    """The bytes of one part of a content."""
+    if isinstance(part, str):
+        return part.encode()
+    if not isinstance(part, dict):
+        raise BadRow(f"no content: {part!r}")
+    part = dict(part)
+    times = part.pop("times", 1)
+    if set(part) == {"text"}:
+        return part["text"].encode() * times
+    if set(part) == {"hex"}:
+        return bytes.fromhex(part["hex"]) * times
+    raise BadRow(f"no content: {part!r}")
+
+
+def content_bytes(content):
+    """The bytes of a content: one part, or a list of parts that follow one another."""
+    parts = content if isinstance(content, list) else [content]
+    return b"".join(part_bytes(part) for part in parts)
+
+
+def with_lines(before, lines):
+    """The bytes of a file after some of its lines, by their numbers from 1, are replaced."""
+    rows = before.split(b"\n")
+    for number, content in lines.items():
+        place = int(number) - 1
+        if not 0 <= place < len(rows):
+            raise BadRow(f"the file has no line {number}")
+        rows[place] = content_bytes(content)
+    return b"\n".join(rows)
+
+
+def change_file(path, content):
+    """Makes one file of a row what the row says."""
+    if isinstance(content, dict) and set(content) == {"lines"}:
+        path.write_bytes(with_lines(path.read_bytes(), content["lines"]))
+        return
+    path.unlink(missing_ok=True)
+    if content is None:
+        return
+    if content == {"folder": True}:
+        path.mkdir()
+    else:
+        path.write_bytes(content_bytes(content))
+
+
+def lay_out(row, folder):
+    """Writes the files of a row."""
+    data = folder / DATA
+    data.mkdir()
+    if row["base"] is not None:
+        for source in sorted((ROOT / "examples" / row["base"]).iterdir()):
+            if source.suffix in (".tbl", ""):
+                (data / source.name).write_bytes(source.read_bytes())
+    if row["query"] is not None:
+        (data / "query.sql").write_bytes(content_bytes(row["query"]))
+    for name, content in row["files"].items():
+        change_file(data / name, content)
+
+
+def words_of(row):
+    """The words of the command line behind the program's name, as bytes."""
+    if row["words"] is not None:
+        return [content_bytes(word) for word in row["words"]]
+    words = ["run", "--data", DATA, "--query", f"{DATA}/query.sql", "--catalog", f"{DATA}/catalog"]
+    return [word.encode() for word in words] + [content_bytes(word) for word in row["options"]]
+
+
+def run(row, program, folder):
+    """Runs the program: its status, and what it wrote on its two outputs."""
+    command = [str(program).encode()] + words_of(row)
+    if row["standard_output"] == "closed":
+        command = [b"/bin/sh", b"-c", b'exec "$0" "$@" >&-'] + command
+    if row["standard_output"] == "full":
+        command = [b"/bin/sh", b"-c", b'exec "$0" "$@" >/dev/full'] + command
+    ended = subprocess.run(
+        command, cwd=folder, stdin=subprocess.DEVNULL, capture_output=True, timeout=SECONDS
+    )
+    return ended.returncode, ended.stdout, ended.stderr
+
+
+def differences(row, status, output, error):
+    """What is not as the row says, one text for each difference."""
+    found = []
+    if status != row["status"]:
+        found.append(f"status {status}, wanted {row['status']}")
+    if row["output"] is None:
+        if not output:
+            found.append("nothing on the standard output, wanted some text")
+    elif output != row["output"].encode():
+        found.append(f"output {output[:200]!r}, wanted {row['output'].encode()!r}")
+    wanted = f"{row['error']}\n".encode() if row["error"] else b""
+    if error != wanted:
+        found.append(f"error {error[:200]!r}, wanted {wanted!r}")
+    return found
+
+
+def check(path, program):
+    """What is wrong with a row, nothing where it passes."""
+    try:
+        row = read_row(path)
+        with tempfile.TemporaryDirectory() as name:
+            folder = Path(name)
+            lay_out(row, folder)
+            return differences(row, *run(row, program, folder))
+    except BadRow as error:
+        return [str(error)]
+    except (KeyError, OSError, TypeError, ValueError, subprocess.TimeoutExpired) as error:
+        return [f"{type(error).__name__}: {error}"]
+
+
+def main(words):
+    """Runs all rows, and gives the exit status."""
+    if len(words) > 1:
+        print(__doc__.strip(), file=sys.stderr)
+        return 2
+    program = Path(words[0]).resolve() if words else PROGRAM
+    if not program.is_file():
+        print(f"no program at {program}: `./ssb --help` builds it", file=sys.stderr)
+        return 2
+    paths = sorted(ROWS.rglob("*.json"))
+    failed = 0
+    for path in paths:
+        wrong = check(path, program)
+        if wrong:
+            failed += 1
+            print(f"{path.relative_to(ROWS).with_suffix('')}: {'; '.join(wrong)}")
+    print(f"{len(paths) - failed} passed, {failed} failed")
+    return 1 if failed or not paths else 0
+
+
+if __name__ == "__main__":
+    sys.exit(main(sys.argv[1:]))

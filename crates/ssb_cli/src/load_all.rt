@@ -5,7 +5,7 @@ ghost use Rattle.ssb_cli.specs.Loaded.{AreLawful, Bytes, IsLoadFault, LoadsAll, 
 
 use crate::fault::RunFault;
 use ssb_cells::Table;
-use ssb_load::{Catalog, LoadFault, load_table};
+use ssb_load::{Catalog, LoadFault, load};
 use std::alloc::Global;
 use std::io::Read;
 
@@ -38,7 +38,7 @@ pub(crate) fn load_all<R: Read + Drop>(
     let mut tables = Vec::new(alloc);
     for number in 0..catalog.tables().len() {
         let reader = waiting.remove(0);
-        match load_table(alloc, catalog, number, MAX_ROWS, reader) {
+        match load(alloc, catalog, number, MAX_ROWS, reader) {
             Ok(table) => {
                 let Ok(()) = tables.push(table) else {
                     return Err(RunFault::Memory);

@@ -15,7 +15,7 @@ use Rattle.ssb_load.specs.Records.{Fields, bar_config, records_of}
 use Rattle.ssb_load.specs.Tables.{fault_of, first_fault}
 use Rattle.ssb_load.specs.Rules.{columns_of}
 use Rattle.ssb_load.specs.declared.rule.Rule.{Rule}
-use Rattle.ssb_load.specs.Loading.{Loads, Fails, IsGoodBefore}
+use Rattle.ssb_load.specs.Loading.{Loads, Fails, IsGoodBefore, IsTableFault}
 use Rattle.ssb_load.specs.Loader.{Holds, IsFaultBy, IsIoOrMemory, IsReadFault}
 use Rattle.ssb_load.specs.declared.fault.RecordFault.{RecordFault}
 use Rattle.ssb_load.specs.declared.fault.LoadFault.{LoadFault}
@@ -125,3 +125,16 @@ left-read rem plan m a good n (load.Read k) known e is clean left = left-good re
 left-read rem plan m a good n load.Memory known e is clean left = some-map known (Left rem a good) (λ bytes. Unit {0}) (λ (bytes : List ℕ) (l : Left rem a good bytes). tt) left
 left-read rem plan m a good n (load.Record f k) known e is clean left = absurd is
 left-read rem plan m a good n (load.BadCatalog f k) known e is clean left = absurd is
+
+-- the faults of a table
+pub read-kind : (n : ℕ) (e : LoadFault) → IsReadFault n e → IsTableFault e
+read-kind n (load.Read k) is = tt
+read-kind n load.Memory is = tt
+read-kind n (load.Record f k) is = absurd is
+read-kind n (load.BadCatalog f k) is = absurd is
+
+pub refused-kind : (plan : List Rule) (max_rows count : ℕ) (seen : List ℤ) (r : Fields) (e : LoadFault) → IsFaultBy plan max_rows count seen r e → IsTableFault e
+refused-kind plan m count seen r (load.Record f k) is = tt
+refused-kind plan m count seen r load.Memory is = tt
+refused-kind plan m count seen r (load.Read k) is = absurd is
+refused-kind plan m count seen r (load.BadCatalog f k) is = absurd is

@@ -31,3 +31,10 @@ Fails rules max_rows records load.Memory = ⊤
 abbrev pub Loads : List Rule → ℕ → List Fields → Result (List Filled) LoadFault → Type 0
 Loads rules max_rows records (Ok table) = table_of rules max_rows records ≡ Ok table
 Loads rules max_rows records (Err e) = Fails rules max_rows records e
+
+-- a fault that loading a table has
+abbrev pub IsTableFault : LoadFault → Type 0
+IsTableFault (load.Record f n) = ⊤
+IsTableFault (load.BadCatalog f n) = ⊥
+IsTableFault (load.Read n) = ⊤
+IsTableFault load.Memory = ⊤

@@ -11,14 +11,14 @@ mod entry;
 pub mod fault;
 mod field;
 mod judge;
-pub mod load;
 mod loader;
 mod number;
 mod read_catalog;
+mod read_table;
 pub mod rule;
 mod value;
 
 pub use catalog::{Catalog, ColumnDef, TableDef};
 pub use fault::{CatalogFault, LoadFault, RecordFault};
-pub use load::load as load_table;
+pub use read_table::load;
 pub use rule::{Role, Rule};

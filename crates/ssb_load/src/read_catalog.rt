@@ -8,7 +8,7 @@ ghost use Rattle.ssb_load.specs.CatalogReading.{IsDraft, ReadsCatalog, told};
 use crate::catalog::{Catalog, TableDef};
 use crate::draft::{accept, has_key};
 use crate::fault::{CatalogFault, LoadFault};
-use crate::load::read_fault;
+use crate::read_table::read_fault;
 use csv::{ByteRecord, ReaderBuilder};
 use std::alloc::Global;
 use std::io::Read;

@@ -1,10 +1,10 @@
 use Rattle.std.proofs.Common.{◌∙◌, ◌++◌, ◌∷◌, ◌+◌, [], refl, sym, inl, inr, arith, length-append}
 use Rattle.csv.specs.Records.{fields_of}
-use Rattle.ssb_load.proofs.Going.{left-start, left-more, left-end, left-refused, left-read, explains}
+use Rattle.ssb_load.proofs.Going.{read-kind, refused-kind, left-start, left-more, left-end, left-refused, left-read, explains}
 use Rattle.ssb_load.proofs.FaultFacts.{fault-more, fault-none}
 use Rattle.ssb_load.proofs.HoldsFacts.{holds-more, holds-none, holds-sized, holds-long, same-fault}
 use Rattle.ssb_load.proofs.LawfulFacts.{lawful}
-use Rattle.ssb_load.proofs.load.load_by.Goals as goal
+use Rattle.ssb_load.proofs.read_table.load_by.Goals as goal
 
 pub loop-accepted-init : goal.loop-accepted-init
 loop-accepted-init g c =
@@ -30,6 +30,7 @@ returns-in-Ok-false g c =
       known = left-end g.R.Read.remaining c.args.plan.now c.args.max_rows c.loop-accepted.reader c.read_byte_record.new.self inv.good (fields_of c.read_byte_record.new.row) c.into_table.result
           (g.R.Read.remaining c.args.source) inv.config r inv.clean (c.into_table.ensures ∙ inv.holds.columns_are) inv.left;
       lawful = lawful c.args.plan.now c.args.max_rows inv.good c.into_table.result c.requires.key inv.clean (c.into_table.ensures ∙ inv.holds.columns_are);
+      faults = tt;
     }
 
 pub returns-in-Err : goal.returns-in-Err
@@ -39,6 +40,7 @@ returns-in-Err g c =
       known = left-read g.R.Read.remaining c.args.plan.now c.args.max_rows c.loop-accepted.reader inv.good (c.loop-accepted.accepted + 1) c.read_fault.result
           (g.R.Read.remaining c.args.source) (rw inv.count refl) c.read_fault.ensures.kind inv.clean inv.left;
       lawful = tt;
+      faults = read-kind (c.loop-accepted.accepted + 1) c.read_fault.result c.read_fault.ensures.kind;
     }
 
 pub accept-requires-clause-sized : goal.accept-requires-clause-sized
@@ -55,6 +57,7 @@ returns-in-Err-accept g c =
       known = left-refused g.R.Read.remaining c.args.plan.now c.args.max_rows c.loop-accepted.reader c.read_byte_record.new.self inv.good (fields_of c.read_byte_record.new.row) c.in-Err-accept.fault
           c.loop-accepted.loader.seen.keys c.loop-accepted.loader.columns.items (g.R.Read.remaining c.args.source) inv.config r inv.clean inv.holds is inv.left;
       lawful = tt;
+      faults = refused-kind c.args.plan.now c.args.max_rows _ _ _ c.in-Err-accept.fault is;
     }
 
 pub loop-accepted-preserved : goal.loop-accepted-preserved

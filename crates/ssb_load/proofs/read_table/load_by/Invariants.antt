@@ -1,5 +1,5 @@
 use Rattle.ssb_load.proofs.Going.{Going}
-use Rattle.ssb_load.proofs.load.load_by.Given as goal
+use Rattle.ssb_load.proofs.read_table.load_by.Given as goal
 
 abbrev pub invariant-loop-accepted : goal.invariant-loop-accepted
 invariant-loop-accepted g l =

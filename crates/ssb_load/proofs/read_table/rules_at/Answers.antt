@@ -2,7 +2,7 @@ use Rattle.std.proofs.Common.{◌≡◌, ◌<◌, ◌∙◌, ap, length}
 use Rattle.ssb_load.specs.Lawful.{HasOneKey}
 use Rattle.ssb_load.specs.Loading.{rules_at}
 use Rattle.ssb_load.proofs.OneKey.{HasRules, has-rules, ok-map, rule_list}
-use Rattle.ssb_load.proofs.load.rules_at.Goals as goal
+use Rattle.ssb_load.proofs.read_table.rules_at.Goals as goal
 
 pub returns : goal.returns
 returns c =

@@ -3,7 +3,7 @@
 ghost use Rattle.std.specs.Prelude.{◌≡◌, ◌<◌, ℕ, List, IfSome, IfOk, IfErr, length, map, OnOk, None};
 ghost use Rattle.ssb_load.specs.Lawful.{HasOneKey, IsLawful};
 ghost use Rattle.ssb_load.specs.Loader.{IsIoOrMemory, IsReadFault, fault_of_read};
-ghost use Rattle.ssb_load.specs.Loading.{Loads, rules_at};
+ghost use Rattle.ssb_load.specs.Loading.{IsTableFault, Loads, rules_at};
 ghost use Rattle.ssb_load.specs.Records.{records_of};
 ghost use Rattle.csv.specs.Reading.{error_kind};
 
@@ -68,6 +68,7 @@ pub fn load<R: Read + Drop>(
     requires { table < length catalog.now }
     ensures known { IfSome (R.remaining source) (λ bytes. Loads (rules_at catalog.now table) max_rows (records_of bytes) result) }
     ensures lawful { IfOk result (λ t. IsLawful (rules_at catalog.now table) t) }
+    ensures faults { IfErr result IsTableFault }
 {
     let Ok(rules) = rules_at(alloc, catalog, table) else {
         return Err(LoadFault::Memory);
@@ -86,6 +87,7 @@ fn load_by<R: Read + Drop>(
     requires key { HasOneKey plan.now }
     ensures known { IfSome (R.remaining source) (λ bytes. Loads plan.now max_rows (records_of bytes) result) }
     ensures lawful { IfOk result (λ t. IsLawful plan.now t) }
+    ensures faults { IfErr result IsTableFault }
 {
     let mut reader = ReaderBuilder::new()
         .delimiter(b'|')

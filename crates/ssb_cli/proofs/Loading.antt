@@ -143,8 +143,7 @@ pub loading-end : {R : Type 0} (remaining : R → Option Bytes) (catalog : List 
 loading-end remaining catalog readers waiting tables none l =
     let n : length waiting ≡ 0 = ap length none in
     let count = l.count in
-    let le : length catalog ≤ length tables = omega arith in
-    (
+    let le : length catalog ≤ length tables = omega arith in (
       λ files k. (l.loaded files k).2 ∙ (rw (drop-all (length tables) catalog le) (ap Ok (append-nil tables))),
       subst (λ ss. AreLawful ss tables) (take-all (length tables) catalog le) l.lawful,
     )

@@ -131,8 +131,8 @@ summing-end columns column row s b count h long lt le =
     let n = long-cells count column columns long lt in
     let none = drop-all row (values_in (slice_get columns column)) (omega arith) in
     (ended s _ (h.all ∙ ap (λ vs. s +ℤ total (numbers_in vs)) none), λ e. h.none e ∙ ap numbers_in none, h.some) where
-  ended : (s t : ℤ) → t ≡ s +ℤ pos 0 → s ≡ t
-  ended s t e = omega (arith, ints)
+      ended : (s t : ℤ) → t ≡ s +ℤ pos 0 → s ≡ t
+      ended s t e = omega (arith, ints)
 
 -- what the sum answers
 pub sum-null : (ns : List ℤ) → ns ≡ [] → sum_in ns ≡ Ok null

@@ -38,6 +38,13 @@ impl Table {
         Table { columns }
     }
 
+    /// How many columns there are.
+    pub fn column_count(&self) -> usize
+        ensures { result ≡ length self.now }
+    {
+        self.columns.len()
+    }
+
     /// How many rows there are: as many as each column has values.
     pub fn row_count(&self) -> u32
         ensures rows { result ≡ rows_in self.now }

@@ -1,15 +1,15 @@
 -- From a text to its sum.
-use Rattle.std.proofs.Common.{◌≡◌, ◌∙◌, ◌<◌, ℕ, ℤ, zero, suc, List, [], ◌∷◌, length, map, get_or, slice_get, Option, Some, None, refl, sym, ap, arith}
-use Rattle.std.specs.Prelude.{Result, Ok, Err}
-use Rattle.ssb_cells.specs.Cell.{Cell, Filled}
-use Rattle.ssb_load.specs.Lawful.{EachObeys, IsLawful}
+use Rattle.std.proofs.Common.{◌≡◌, ◌∙◌, ◌<◌, ℕ, ℤ, zero, suc, List, [], ◌∷◌, length, map, get_or, slice_get, Option, Some, refl, ap, arith}
+use Rattle.std.specs.Prelude.{Ok, Err}
+use Rattle.ssb_cells.specs.Cell.{Filled}
+use Rattle.ssb_load.specs.Lawful.{EachObeys}
 use Rattle.ssb_load.specs.Shapes.{TableShape, rules_of}
 use Rattle.ssb_load.specs.declared.catalog.ColumnDef.{ColumnDef}
 use Rattle.ssb_load.specs.declared.rule.Rule.{Rule}
-use Rattle.ssb_cli.specs.Binding.{Answers, IsSumFault, IsWithin, shown_sum}
+use Rattle.ssb_cli.specs.Binding.{Answers, IsSumFault, IsWithin}
 use Rattle.ssb_cli.specs.Loaded.{AreLawful, Bytes, Columns}
-use Rattle.ssb_cli.specs.Reply.{answered, spelt}
-use Rattle.ssb_cli.specs.SumAnswer.{answer_of, line_of, numbers_in, sum_cell, sum_in, values_at, values_in}
+use Rattle.ssb_cli.specs.Reply.{spelt}
+use Rattle.ssb_cli.specs.SumAnswer.{answer_of, line_of, numbers_in, sum_cell, sum_in, values_in}
 use Rattle.ssb_cli.specs.SumQuery.{columns_at, means}
 use Rattle.ssb_cli.specs.SumText.{read}
 use Rattle.ssb_cli.specs.declared.fault.answer.AnswerFault.{AnswerFault}

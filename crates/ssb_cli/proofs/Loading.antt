@@ -1,5 +1,5 @@
 -- Tables loaded one after another.
-use Rattle.std.proofs.Common.{◌≡◌, ◌∙◌, ◌++◌, ◌∷◌, [], ◌+◌, ◌<◌, ◌≤◌, zero, suc, get_or, take, drop, ℕ, List, length, map, Option, Some, None, Ok, Err, Result, refl, sym, ap, subst, arith, append_assoc, length-append, IfSome, add-one}
+use Rattle.std.proofs.Common.{◌≡◌, ◌∙◌, ◌++◌, ◌∷◌, [], ◌+◌, ◌<◌, ◌≤◌, zero, suc, get_or, take, drop, ℕ, List, length, map, Option, Some, Ok, Err, Result, refl, sym, ap, subst, arith, append_assoc, length-append, IfSome, add-one}
 use Rattle.std.proofs.lemmas.List.{append-nil}
 use Rattle.ssb_load.specs.Lawful.{IsLawful}
 use Rattle.ssb_load.specs.Loading.{Loads, rules_at}

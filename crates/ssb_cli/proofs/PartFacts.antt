@@ -1,8 +1,8 @@
 -- The first part of a text.
-use Rattle.std.proofs.Common.{◌≡◌, ◌∙◌, ◌+◌, ◌<◌, ◌≤◌, ℕ, zero, suc, Bool, true, false, cond, List, [], ◌∷◌, length, take, drop, refl, sym, ap, arith}
+use Rattle.std.proofs.Common.{◌≡◌, ◌∙◌, ◌+◌, ℕ, suc, Bool, true, false, cond, List, [], ◌∷◌, length, take, drop, refl, ap, arith}
 use Rattle.std.specs.List.{prefix_len}
 use Rattle.ssb_cells.specs.Names.{is_word_byte}
-use Rattle.ssb_cli.specs.SumText.{is_blank, in_front, joined, parts_of}
+use Rattle.ssb_cli.specs.SumText.{is_blank, in_front, parts_of}
 
 pub parts-none : parts_of [] ≡ []
 unfolding parts_of

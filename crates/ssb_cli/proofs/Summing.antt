@@ -1,6 +1,6 @@
 -- A sum on its way.
-use Rattle.std.proofs.Common.{◌≡◌, ◌≢◌, ◌∙◌, ◌+◌, ◌*◌, ◌^◌, ◌<◌, ◌≤◌, ℕ, zero, suc, ℤ, pos, ◌+ℤ◌, ◌≤ℤ◌, Bool, true, false, List, [], ◌∷◌, length, drop, slice_get, Option, Some, None, refl, sym, ap, arith, add-one, w64, FitsSigned, cond, negsuc}
-use Rattle.std.specs.Prelude.{neg_ℤ, Result, Ok, Err}
+use Rattle.std.proofs.Common.{◌≡◌, ◌≢◌, ◌∙◌, ◌+◌, ◌*◌, ◌^◌, ◌<◌, ◌≤◌, ℕ, zero, suc, ℤ, pos, ◌+ℤ◌, ◌≤ℤ◌, Bool, true, false, List, [], ◌∷◌, length, drop, slice_get, Option, Some, None, refl, sym, ap, arith, add-one, w64, FitsSigned, negsuc}
+use Rattle.std.specs.Prelude.{neg_ℤ, Ok, Err}
 use Rattle.std.specs.Int.{w128}
 use Rattle.std.proofs.lemmas.Int.{ints}
 use Rattle.std.proofs.lemmas.Bool.Decides.{nat_tests}
@@ -9,7 +9,6 @@ use Rattle.ssb_cells.specs.declared.value.Value.{Value}
 use Rattle.ssb_cells.specs.declared.value.Value.TheVariants as values
 use Rattle.ssb_cells.specs.Cell.{Cell, Filled, null, number, text}
 use Rattle.ssb_cells.specs.Tables.{AreLong, cell_at, cell_in_column}
-use Rattle.ssb_cli.specs.Binding.{shown_sum}
 use Rattle.ssb_cli.specs.SumAnswer.{is_in_range, numbers_in, sum_in, total, values_in}
 use Rattle.ssb_cli.specs.declared.fault.answer.AnswerFault.TheVariants as answer
 

@@ -1,5 +1,5 @@
 -- What binding and answering give, for the contracts inside this crate.
-use Rattle.std.specs.Prelude.{◌≡◌, ◌<◌, ◌≤◌, ℕ, ℤ, List, length, Option, Result, Ok, Err, ⊤}
+use Rattle.std.specs.Prelude.{◌≡◌, ◌<◌, ◌≤◌, ℤ, List, length, Option, Result, Ok, Err, ⊤}
 use Rattle.ssb_cells.specs.Cell.{Cell}
 use Rattle.ssb_load.specs.Shapes.{TableShape}
 use Rattle.ssb_cli.specs.Loaded.{Bytes}
@@ -7,7 +7,6 @@ use Rattle.ssb_cli.specs.SumQuery.{columns_at}
 use Rattle.ssb_cli.specs.SumAnswer.{sum_cell, line_of}
 use Rattle.ssb_cli.specs.declared.fault.answer.AnswerFault.{AnswerFault}
 use Rattle.ssb_cli.specs.declared.fault.answer.AnswerFault.TheVariants as answer
-use Rattle.ssb_cli.specs.declared.fault.bind.BindFault.{BindFault}
 use Rattle.ssb_cli.specs.declared.fault.run.RunFault.{RunFault}
 use Rattle.ssb_cli.specs.declared.fault.run.RunFault.TheVariants as run
 use Rattle.ssb_cli.specs.declared.sum_query.SumQuery.{SumQuery}

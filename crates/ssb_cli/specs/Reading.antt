@@ -1,5 +1,5 @@
 -- What reading answers, for the contracts inside this crate.
-use Rattle.std.specs.Prelude.{◌≡◌, true, List, ℕ, Result, Ok, Err, ⊤}
+use Rattle.std.specs.Prelude.{◌≡◌, true, Result, Ok, Err, ⊤}
 use Rattle.std.specs.Str.{str_to_ascii_lowercase}
 use Rattle.ssb_cells.specs.Names.{is_name}
 use Rattle.ssb_cli.specs.declared.fault.sql.SqlFault.{SqlFault}

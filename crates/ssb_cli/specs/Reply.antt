@@ -1,5 +1,5 @@
 -- What a run replies to a query over the files of a catalog's tables: it loads, reads, binds and answers, and the first fault ends it.
-use Rattle.std.specs.Prelude.{◌≡◌, ◌++◌, ◌<◌, ℕ, List, [], Result, Ok, Err, ⊤}
+use Rattle.std.specs.Prelude.{◌≡◌, ◌++◌, List, Result, Ok, Err, ⊤}
 use Rattle.ssb_cells.specs.Cell.{Cell}
 use Rattle.ssb_load.specs.Shapes.{TableShape}
 use Rattle.ssb_load.specs.declared.fault.LoadFault.TheVariants as load

@@ -1,6 +1,6 @@
 -- The answer of a sum: one row of one value.
 -- Source: SQL-92, 6.5 <set function specification>: SUM leaves nulls out and is null over no value. That only the exact sum has a range is this project's own.
-use Rattle.std.specs.Prelude.{◌≡◌, ◌∷◌, ◌++◌, ◌^◌, ◌+ℤ◌, ℕ, ℤ, pos, negsuc, Bool, true, false, List, [], nat_lt, slice_get, Option, Some, None, Result, Ok, Err, if◌then◌else◌}
+use Rattle.std.specs.Prelude.{◌∷◌, ◌++◌, ◌^◌, ◌+ℤ◌, ℤ, pos, negsuc, Bool, List, [], nat_lt, slice_get, Option, Some, None, Result, Ok, Err, if◌then◌else◌}
 use Rattle.std.specs.Fmt.{signed_decimal}
 use Rattle.ssb_cells.specs.Cell.{Cell, Filled, null, number, text}
 use Rattle.ssb_cli.specs.Loaded.{Bytes, Columns}

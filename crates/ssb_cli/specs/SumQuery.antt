@@ -1,6 +1,6 @@
 -- What the text of a sum means over a catalog.
 -- Source: SQL-92, 5.4 Names and identifiers; that FROM must hold the fact table is this project's own.
-use Rattle.std.specs.Prelude.{◌≡◌, ◌∷◌, ℕ, Bool, true, false, not, List, [], position, slice_get, Option, Some, None, Result, Ok, Err, if◌then◌else◌}
+use Rattle.std.specs.Prelude.{ℕ, Bool, false, not, List, [], position, slice_get, Option, Some, None, Result, Ok, Err, if◌then◌else◌}
 use Rattle.std.specs.List.{list_any}
 use Rattle.std.specs.Str.{bytes_eq}
 use Rattle.ssb_load.specs.Catalog.{is_key_column}

@@ -1,6 +1,6 @@
 -- The texts `SELECT SUM ( name ) FROM name`, with or without `;`: all that is read today.
 -- Source: SQL-92, 7.9 <query specification> with 6.5 <set function specification>, cut down to one sum.
-use Rattle.std.specs.Prelude.{◌≡◌, ◌∷◌, ◌&&◌, ◌||◌, ◌==◌, ◌≤◌, ℕ, Bool, true, false, List, [], length, nat_lt, Option, Some, None, Result, Ok, Err, codes, if◌then◌else◌}
+use Rattle.std.specs.Prelude.{◌∷◌, ◌&&◌, ◌||◌, ◌==◌, ℕ, Bool, true, false, List, [], length, nat_lt, Option, Some, None, Result, Ok, Err, codes, if◌then◌else◌}
 use Rattle.std.specs.Str.{bytes_eq, str_eq_ignore_ascii_case, str_to_ascii_lowercase}
 use Rattle.ssb_cells.specs.Names.{is_name, is_word_byte}
 use Rattle.ssb_cli.specs.declared.sum_text.SumText.{SumText}

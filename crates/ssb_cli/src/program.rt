@@ -1,5 +1,8 @@
 // The program: words, files, one run, and one line and a status for a fault.
 
+ghost use Rattle.std.specs.Prelude.{◌≡◌, ◌⊎◌};
+ghost use Rattle.ssb_cli.specs.Faults.{out_of_memory, program_status};
+
 use crate::fault::{AnswerFault, ProgramFault, RunFault};
 use crate::files::{names_of, open_all, read_catalog, read_query};
 use crate::out::Out;
@@ -65,8 +68,11 @@ fn act<R: Files + Print + Eprint + Env + AllocGlobal>(rt: &R) -> Result<(), Prog
     }
 }
 
-// The line of a fault on the error output, and the status. A line that can't be printed is lost.
-fn tell<R: Eprint + AllocGlobal>(rt: &R, fault: &ProgramFault) -> u8 {
+// The line of a fault on the error output, and the status, which is that of memory where the line
+// could not be made. A line that can't be printed is lost.
+fn tell<R: Eprint + AllocGlobal>(rt: &R, fault: &ProgramFault) -> u8
+    ensures { (result ≡ program_status fault.now) ⊎ (result ≡ out_of_memory) }
+{
     match program_line(rt.alloc(), fault) {
         Ok(line) => {
             let _ = rt.eprint(line.as_str());

@@ -76,3 +76,6 @@ pub fn run_sum<R: Read + Drop, W: Sink>(
         Err(_) => Err(RunFault::Answer(AnswerFault::Write)),
     }
 }
+
+#[cfg(test)]
+mod tests;

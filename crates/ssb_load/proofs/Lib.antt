@@ -1,5 +1,6 @@
 pub mod CatalogFaults
 pub mod CatalogGoing
+pub mod CatalogLaws
 pub mod DigitFacts
 pub mod DraftFacts
 pub mod EntryFacts

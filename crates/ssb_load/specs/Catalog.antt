@@ -1,4 +1,5 @@
 -- The catalog that records spell, or the first faulty record and what is wrong with it.
+-- Source: own. Words are spelt in lower case exactly; names may have letters of either case and are kept in lower case.
 use Rattle.std.specs.Prelude.{◌≡◌, ◌<◌, ◌≤◌, ◌+◌, ◌++◌, ◌∷◌, ◌&&◌, ℕ, Bool, true, not, List, [], length, map, nat_le, Option, Some, None, is_none, unwrap_or, Result, Ok, Err, codes, if◌then◌else◌}
 use Rattle.std.specs.List.{All, IsDistinct, filter, list_any}
 use Rattle.std.specs.Str.{bytes_eq, str_to_ascii_lowercase}
@@ -15,7 +16,7 @@ use Rattle.ssb_load.specs.declared.fault.CatalogFault.TheVariants as faults
 use Rattle.ssb_load.specs.declared.rule.Role.{Role}
 use Rattle.ssb_load.specs.declared.rule.Role.TheVariants as roles
 
--- A record is `table|column|type|role`.
+-- A record is `table|column|type|role`: what its words say.
 
 abbrev pub kind_named : List ℕ → Option ColType
 kind_named word = if bytes_eq word (codes "int") then Some kinds.Int else (if bytes_eq word (codes "text") then Some kinds.Text else None)

@@ -38,10 +38,16 @@ fn finish(tables: Vec<TableDef>) -> Result<Catalog, LoadFault>
 }
 
 impl Catalog {
-    /// The catalog that a text of records spells.
+    /// The catalog that a file gives, read to its end.
     ///
-    /// A record is `table|column|type|role`, perhaps with a closing bar. What is read of a source
-    /// that fails is lost.
+    /// A record is `table|column|type|role`, perhaps with a closing bar.
+    ///
+    /// # Errors
+    ///
+    /// `BadCatalog` with the least fault of the first faulty record and the record's number, from 1,
+    /// or with `NoFact` or `TwoFacts` and 0 where each record is good; `Read` only where `csv` answers
+    /// a fault of the reader, with the number of the record that was on its way; `Memory` where a
+    /// growth was refused.
     pub fn read<R: Read + Drop>(alloc: Global, source: R) -> Result<Catalog, LoadFault>
         ensures known { IfSome (R.remaining source) (λ bytes. ReadsCatalog (records_of bytes) result) }
     {

@@ -112,3 +112,6 @@ fn load_by<R: Read + Drop>(
     }
     unreachable!()
 }
+
+#[cfg(test)]
+mod tests;

@@ -140,6 +140,13 @@ fn takes_names_of_128_bytes(rt: HostRuntime) -> Result<(), Fail> {
     Ok(())
 }
 
+#[test]
+fn takes_closing_bars_and_each_role(rt: HostRuntime) -> Result<(), Fail> {
+    let text = "f|a|text|need|\r\nd|k|int|key|\r\nf|b|int|null|";
+    assert_eq!(rt; fault_in(rt.alloc(), text), None);
+    Ok(())
+}
+
 // A reader that gives its bytes one by one, and then fails.
 #[derive(Drop)]
 struct Failing {

@@ -1,6 +1,4 @@
-use Rattle.std.proofs.Common.{◌≡◌, ◌∙◌, ◌<◌, ◌≤◌, [], ℕ, length, arith, sym, subst, ap, refl}
-use Rattle.ssb_load.specs.Catalog.{IsCatalog}
-use Rattle.ssb_cli.specs.Loaded.{IsLoadFault, LoadsAll}
+use Rattle.std.proofs.Common.{◌<◌, ◌≤◌, length, arith, sym, subst, ap}
 use Rattle.ssb_cli.proofs.Loading.{Loading, loading-start, loading-next, loading-stops, loading-end, front-is, some-wait, none-waits, push-length, told-kind}
 use Rattle.ssb_cli.proofs.load_all.load_all.Goals as goal
 

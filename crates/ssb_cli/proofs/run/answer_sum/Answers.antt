@@ -1,4 +1,4 @@
-use Rattle.std.proofs.Common.{◌≡◌, ◌∙◌, ◌<◌, arith, length, sym}
+use Rattle.std.proofs.Common.{arith}
 use Rattle.ssb_cli.proofs.Answering.{column-within, reply-fault, reply-sum, table-within}
 use Rattle.ssb_cli.proofs.run.answer_sum.Goals as goal
 

@@ -1,9 +1,9 @@
-use Rattle.std.proofs.Common.{◌≡◌, ◌∙◌, ◌<◌, ◌^◌, ◌+ℤ◌, ℕ, sym, ap, arith, rules, w64, FitsSigned, slice_get, to_z, of_z, Some, Ok}
+use Rattle.std.proofs.Common.{◌≡◌, ◌∙◌, ◌<◌, ◌^◌, sym, ap, arith, rules, w64, FitsSigned, slice_get, to_z, of_z, Some, Ok}
 use Rattle.std.proofs.lemmas.Int.{to_z-of_z}
 use Rattle.ssb_cells.specs.Cell.{number}
 use Rattle.std.specs.Int.{w128}
 use Rattle.ssb_cli.specs.SumAnswer.{values_in}
-use Rattle.ssb_cli.proofs.Summing.{Summing, summing-start, summing-number, summing-other, summing-end, cell-value, not-number, sum-fits, sum-null, sum-found, sum-over}
+use Rattle.ssb_cli.proofs.Summing.{summing-start, summing-number, summing-other, summing-end, cell-value, not-number, sum-fits, sum-null, sum-found, sum-over}
 use Rattle.ssb_cli.proofs.sum_answer.sum_column.Goals.{in-Int, in_default}
 use Rattle.ssb_cli.proofs.sum_answer.sum_column.Goals as goal
 

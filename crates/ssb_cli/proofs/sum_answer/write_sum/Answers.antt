@@ -1,6 +1,4 @@
-use Rattle.std.proofs.Common.{◌≡◌, ◌∙◌, ◌++◌, ap, sym}
-use Rattle.std.specs.Prelude.{IfErr, OnErr, OnOk}
-use Rattle.ssb_cli.specs.SumAnswer.{cell_text, sum_cell}
+use Rattle.std.proofs.Common.{◌∙◌}
 use Rattle.ssb_cli.proofs.Written.{began-front, began-back, wrote-both}
 use Rattle.ssb_cli.proofs.sum_answer.write_sum.Goals as goal
 

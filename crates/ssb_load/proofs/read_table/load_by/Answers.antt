@@ -1,6 +1,7 @@
 use Rattle.std.proofs.Common.{◌∙◌, ◌++◌, ◌∷◌, ◌+◌, [], refl, sym, inl, inr, arith, length-append}
 use Rattle.csv.specs.Records.{fields_of}
-use Rattle.ssb_load.proofs.Going.{read-kind, refused-kind, left-start, left-more, left-end, left-refused, left-read, explains}
+use Rattle.ssb_load.proofs.Going.{read-kind, refused-kind, left-end, left-refused, left-read}
+use Rattle.ssb_load.proofs.Reading.{left-start, left-more, explains}
 use Rattle.ssb_load.proofs.FaultFacts.{fault-more, fault-none}
 use Rattle.ssb_load.proofs.HoldsFacts.{holds-more, holds-none, holds-sized, holds-long, same-fault}
 use Rattle.ssb_load.proofs.LawfulFacts.{lawful}

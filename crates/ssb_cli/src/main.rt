@@ -5,7 +5,6 @@ mod fault;
 mod files;
 mod history;
 mod load_all;
-mod out;
 mod parts;
 mod program;
 mod report;
@@ -17,6 +16,7 @@ mod sum_text;
 #[cfg(test)]
 mod tests;
 mod words;
+mod writer;
 
 use std::process::ExitCode;
 

@@ -5,10 +5,10 @@ ghost use Rattle.ssb_cli.specs.Faults.{out_of_memory, program_status};
 
 use crate::fault::{AnswerFault, ProgramFault, RunFault};
 use crate::files::{names_of, open_all, read_catalog, read_query};
-use crate::out::Out;
 use crate::report::{MEMORY_LINE, OUT_OF_MEMORY, program_line, program_status_of};
 use crate::run::run_sum;
 use crate::words::{Task, WordsFault, task_of};
+use crate::writer::Out;
 use std::alloc::{AllocError, Global};
 use std::io::{BufWriter, Write};
 use std::rt::{Env, Files};

@@ -2,8 +2,8 @@
 // little or fail. The expected sums are worked out by hand from the files.
 
 use crate::fault::{AnswerFault, RunFault};
-use crate::out::Out;
 use crate::run::run_sum;
+use crate::writer::Out;
 use ssb_load::{Catalog, LoadFault};
 use std::alloc::{AllocError, Global};
 use std::io;

@@ -1,0 +1,143 @@
+-- What is read as a condition is one.
+use Rattle.std.proofs.Common.{◌≡◌, ℕ, zero, suc, ◌<◌, ◌≤◌, List, [], ◌∷◌, length, Option, Some, None, refl, sym, ap, subst, ◌∙◌, arith, inl, inr}
+use Rattle.ssb_sql.specs.declared.token.Token.{Token}
+use Rattle.ssb_sql.specs.declared.token.Token.TheVariants.{Fixed}
+use Rattle.ssb_sql.specs.declared.token.Sign.TheVariants as s
+use Rattle.ssb_sql.specs.declared.condition.Condition.{Condition}
+use Rattle.ssb_sql.specs.declared.condition.Condition.TheVariants as c
+use Rattle.ssb_sql.specs.Forms.{Spelling, IsOperand}
+use Rattle.ssb_sql.specs.Conditions.{IsBare, IsCond, IsOrs, IsConj, IsAnds, IsNeg, IsTest, IsWhereCond, any_of, all_of}
+use Rattle.ssb_sql.specs.Conditions.IsCond.{cond}
+use Rattle.ssb_sql.specs.Conditions.IsOrs.{no_or, or}
+use Rattle.ssb_sql.specs.Conditions.IsConj.{conj}
+use Rattle.ssb_sql.specs.Conditions.IsAnds.{no_and, and}
+use Rattle.ssb_sql.specs.Conditions.IsNeg.{plain, not}
+use Rattle.ssb_sql.specs.Conditions.IsTest.{parens, bare}
+use Rattle.ssb_sql.specs.Grammar.{IsWithin}
+use Rattle.ssb_sql.specs.Steps.{◌>>=◌, Parser, choose, after, more_at, closed_at}
+use Rattle.ssb_sql.specs.ReadConditions.{bare_at, test_at, neg_at, conj_at, disj_at, cond_at}
+use Rattle.ssb_sql.proofs.StepFacts.{some_is, bind_some, choose_some}
+use Rattle.ssb_sql.proofs.Loop.{Shrinks}
+use Rattle.ssb_sql.proofs.Shapes.{Sound, Tame, IsChain, spells, begins, sound_closed, sound_more, shrinks}
+use Rattle.ssb_sql.proofs.TestSound.{IsTested, sound_bare, tame_bare}
+
+mutual
+  pub cond_shorter : {from to : List Token} {x : Condition} → IsCond IsTested from to x → length to < length from
+  cond_shorter (cond a b) = let p = conj_shorter a in let q = ors_shorter b in omega arith
+
+  pub ors_shorter : {from to : List Token} {xs : List Condition} → IsOrs IsTested from to xs → length to ≤ length from
+  ors_shorter no_or = omega arith
+  ors_shorter (or a b) = let p = conj_shorter a in let q = ors_shorter b in omega arith
+
+  pub conj_shorter : {from to : List Token} {x : Condition} → IsConj IsTested from to x → length to < length from
+  conj_shorter (conj a b) = let p = neg_shorter a in let q = ands_shorter b in omega arith
+
+  pub ands_shorter : {from to : List Token} {xs : List Condition} → IsAnds IsTested from to xs → length to ≤ length from
+  ands_shorter no_and = omega arith
+  ands_shorter (and a b) = let p = neg_shorter a in let q = ands_shorter b in omega arith
+
+  pub neg_shorter : {from to : List Token} {x : Condition} → IsNeg IsTested from to x → length to < length from
+  neg_shorter (plain a) = test_shorter a
+  neg_shorter (not a) = let p = test_shorter a in omega arith
+
+  pub test_shorter : {from to : List Token} {x : Condition} → IsTest IsTested from to x → length to < length from
+  test_shorter (parens a) = let p = cond_shorter a in omega arith
+  test_shorter (bare a) = tame_bare.shorter a
+
+mutual
+  pub cond_within : {from to : List Token} {x : Condition} → IsCond IsTested from to x → (d : ℕ) → IsWithin d from → IsWithin d to
+  cond_within (cond a b) d h = ors_within b d (conj_within a d h)
+
+  pub ors_within : {from to : List Token} {xs : List Condition} → IsOrs IsTested from to xs → (d : ℕ) → IsWithin d from → IsWithin d to
+  ors_within no_or d h = h
+  ors_within (or a b) d h = ors_within b d (conj_within a d h)
+
+  pub conj_within : {from to : List Token} {x : Condition} → IsConj IsTested from to x → (d : ℕ) → IsWithin d from → IsWithin d to
+  conj_within (conj a b) d h = ands_within b d (neg_within a d h)
+
+  pub ands_within : {from to : List Token} {xs : List Condition} → IsAnds IsTested from to xs → (d : ℕ) → IsWithin d from → IsWithin d to
+  ands_within no_and d h = h
+  ands_within (and a b) d h = ands_within b d (neg_within a d h)
+
+  pub neg_within : {from to : List Token} {x : Condition} → IsNeg IsTested from to x → (d : ℕ) → IsWithin d from → IsWithin d to
+  neg_within (plain a) d h = test_within a d h
+  neg_within (not a) d h = test_within a d h
+
+  pub test_within : {from to : List Token} {x : Condition} → IsTest IsTested from to x → (d : ℕ) → IsWithin d from → IsWithin d to
+  test_within (parens a) zero h = absurd h
+  test_within (parens a) (suc d) h = cond_within a d h
+  test_within (bare a) d h = tame_bare.within a d h
+
+pub tame_cond : Tame (IsCond IsTested)
+tame_cond = record { shorter = λ h. cond_shorter h; within = λ h d w. cond_within h d w }
+
+tame_conj : Tame (IsConj IsTested)
+tame_conj = record { shorter = λ h. conj_shorter h; within = λ h d w. conj_within h d w }
+
+tame_neg : Tame (IsNeg IsTested)
+tame_neg = record { shorter = λ h. neg_shorter h; within = λ h d w. neg_within h d w }
+
+module _ (inner : Parser Condition) (h : Sound inner (IsCond IsTested)) where
+  test_sound : (ts : List Token) (x : Condition × List Token) → test_at inner ts ≡ Some x → IsTest IsTested ts x.1 x.0
+  unfolding test_at
+  test_sound ts x e =
+      elim (choose_some (after s.Open ts) _ _ (Some x) e) as (λ _. IsTest IsTested ts x.1 x.0) [
+        | inl g ↦ begins (IsTest IsTested) s.Open ts g.0 x.1 x.0 g.1 (parens (sound_closed inner (IsCond IsTested) h g.0 x g.2))
+        | inr g ↦ bare (sound_bare.by ts x g.1)
+      ]
+
+  neg_sound : (ts : List Token) (x : Condition × List Token) → neg_at inner ts ≡ Some x → IsNeg IsTested ts x.1 x.0
+  unfolding neg_at
+  neg_sound ts x e =
+      elim (choose_some (after s.Not ts) _ _ (Some x) e) as (λ _. IsNeg IsTested ts x.1 x.0) [
+        | inl g ↦
+            let f = bind_some (test_at inner g.0) _ x g.2 in
+            spells (IsNeg IsTested) ts f.0.1 (c.Not f.0.0) x (begins (IsNeg IsTested) s.Not ts g.0 f.0.1 (c.Not f.0.0) g.1 (not (test_sound g.0 f.0 f.1))) f.2
+        | inr g ↦ plain (test_sound ts x g.1)
+      ]
+
+  pub sound_neg : Sound (neg_at inner) (IsNeg IsTested)
+  sound_neg = record { by = neg_sound }
+
+  ands : IsChain (after s.And) (neg_at inner) (IsAnds IsTested)
+  ands = record {
+    none = λ to. no_and;
+    more = λ ts to l x xs a e m. begins (IsAnds IsTested) s.And ts l to (x.0 ∷ xs) a (and (neg_sound l x e) m);
+  }
+
+  conj_sound : (ts : List Token) (x : Condition × List Token) → conj_at inner ts ≡ Some x → IsConj IsTested ts x.1 x.0
+  unfolding conj_at
+  conj_sound ts x e =
+      let f = bind_some (neg_at inner ts) _ x e in
+      let g = bind_some (more_at (after s.And) (neg_at inner) (f.0.0 ∷ []) f.0.1) _ x f.2 in
+      let m = sound_more (after s.And) (neg_at inner) (IsAnds IsTested) ands (f.0.0 ∷ []) f.0.1 g.0 g.1 in
+      let here : IsConj IsTested ts g.0.1 (all_of g.0.0) = subst (λ xs. IsConj IsTested ts g.0.1 (all_of xs)) m.2 (conj (neg_sound ts f.0 f.1) m.1) in
+      spells (IsConj IsTested) ts g.0.1 (all_of g.0.0) x here g.2
+
+  pub sound_conj : Sound (conj_at inner) (IsConj IsTested)
+  sound_conj = record { by = conj_sound }
+
+  ors : IsChain (after s.Or) (conj_at inner) (IsOrs IsTested)
+  ors = record {
+    none = λ to. no_or;
+    more = λ ts to l x xs a e m. begins (IsOrs IsTested) s.Or ts l to (x.0 ∷ xs) a (or (conj_sound l x e) m);
+  }
+
+  disj_sound : (ts : List Token) (x : Condition × List Token) → disj_at inner ts ≡ Some x → IsCond IsTested ts x.1 x.0
+  disj_sound ts x e =
+      let f = bind_some (conj_at inner ts) _ x e in
+      let g = bind_some (more_at (after s.Or) (conj_at inner) (f.0.0 ∷ []) f.0.1) _ x f.2 in
+      let m = sound_more (after s.Or) (conj_at inner) (IsOrs IsTested) ors (f.0.0 ∷ []) f.0.1 g.0 g.1 in
+      let here : IsCond IsTested ts g.0.1 (any_of g.0.0) = subst (λ xs. IsCond IsTested ts g.0.1 (any_of xs)) m.2 (cond (conj_sound ts f.0 f.1) m.1) in
+      spells (IsCond IsTested) ts g.0.1 (any_of g.0.0) x here g.2
+
+pub sound_cond : (d : ℕ) → Sound (cond_at d) (IsCond IsTested)
+unfolding cond_at
+sound_cond zero = record { by = λ ts x e. absurd cc }
+sound_cond (suc d) = record { by = λ ts x e. disj_sound (cond_at d) (sound_cond d) ts x e }
+
+pub conj_shrinks : (d : ℕ) → Shrinks (after s.Or) (conj_at (cond_at d))
+conj_shrinks d = shrinks s.Or (conj_at (cond_at d)) (IsConj IsTested) (sound_conj (cond_at d) (sound_cond d)) tame_conj
+
+pub neg_shrinks : (d : ℕ) → Shrinks (after s.And) (neg_at (cond_at d))
+neg_shrinks d = shrinks s.And (neg_at (cond_at d)) (IsNeg IsTested) (sound_neg (cond_at d) (sound_cond d)) tame_neg

@@ -1,0 +1,75 @@
+-- Counting open parentheses.
+use Rattle.std.proofs.Common.{◌≡◌, ℕ, zero, suc, ◌+◌, ◌<◌, ◌≤◌, Bool, true, false, List, [], ◌∷◌, length, get_or, drop, Option, Some, None, refl, sym, ap, subst, ◌∙◌, arith, add-one}
+use Rattle.std.proofs.Math.Seq.{drop-cons}
+use Rattle.std.proofs.lemmas.List.{drop_all}
+use Rattle.ssb_sql.specs.declared.token.Token.{Token}
+use Rattle.ssb_sql.specs.declared.token.Token.TheVariants.{Fixed, Name, Number, Text}
+use Rattle.ssb_sql.specs.declared.token.Sign.TheVariants as s
+use Rattle.ssb_sql.specs.Grammar.{IsWithin}
+use Rattle.ssb_sql.specs.Steps.{is_fixed, is_sign}
+use Rattle.ssb_sql.specs.Room.{room_after}
+use Rattle.ssb_sql.proofs.StepFacts.{some_is}
+
+-- as many as there are tokens are enough
+pub all_within : (ts : List Token) (n : ℕ) → length ts ≤ n → IsWithin n ts
+all_within [] n h = tt
+all_within (Fixed s.Open ∷ ts) zero h = absurd (omega arith)
+all_within (Fixed s.Open ∷ ts) (suc n) h = all_within ts n (omega arith)
+all_within (Fixed s.Close ∷ ts) n h = all_within ts (suc n) (omega arith)
+all_within (t ∷ ts) n h = all_within ts n (omega arith)
+
+-- both ways
+pub record Same (P Q : Type 0) : Type 0 where
+  pub to : P → Q
+  pub from : Q → P
+
+same_at : (n m : ℕ) (ts : List Token) → n ≡ m → Same (IsWithin n ts) (IsWithin m ts)
+same_at n m ts e = record { to = subst (λ k. IsWithin k ts) e; from = subst (λ k. IsWithin k ts) (sym e) }
+
+pub room_goes : (t : Token) (n m : ℕ) (ts : List Token) → room_after n t ≡ Some m → Same (IsWithin n (t ∷ ts)) (IsWithin m ts)
+unfolding room_after is_fixed is_sign
+room_goes (Fixed s.Open) zero m ts e = absurd cc
+room_goes (Fixed s.Open) (suc n) m ts e = same_at n m ts (some_is n m e)
+room_goes (Fixed s.Close) n m ts e = same_at (suc n) m ts (sym (add-one n) ∙ some_is (n + 1) m e)
+room_goes t n m ts e = same_at n m ts (some_is n m e)
+
+room_ends : (t : Token) (n : ℕ) (ts : List Token) → room_after n t ≡ None → IsWithin n (t ∷ ts) → ⊥
+unfolding room_after is_fixed is_sign
+room_ends (Fixed s.Open) zero ts e h = h
+room_ends (Fixed s.Open) (suc n) ts e h = absurd cc
+room_ends t n ts e h = absurd cc
+
+room_rises : (t : Token) (n m : ℕ) → room_after n t ≡ Some m → m ≤ n + 1
+unfolding room_after is_fixed is_sign
+room_rises (Fixed s.Open) zero m e = absurd cc
+room_rises (Fixed s.Open) (suc n) m e = let p = some_is n m e in omega arith
+room_rises (Fixed s.Close) n m e = let p = some_is (n + 1) m e in omega arith
+room_rises t n m e = let p = some_is n m e in omega arith
+
+-- what the loop has found: as many are open as before, and what is left decides
+pub record Left (most : ℕ) (all : List Token) (room i : ℕ) : Type 0 where
+  pub same : Same (IsWithin most all) (IsWithin room (drop i all))
+  pub small : room ≤ most + i
+
+front_is : (all : List Token) (i : ℕ) (t d : Token) → i < length all → t ≡ get_or all i d → drop i all ≡ t ∷ drop (i + 1) all
+front_is all i t d lt e = drop-cons all i d lt ∙ ap (λ u. u ∷ drop (suc i) all) (sym e) ∙ ap (λ j. t ∷ drop j all) (sym (add-one i))
+
+pub left_goes : (most : ℕ) (all : List Token) (room i left : ℕ) (t d : Token) → Left most all room i → i < length all → t ≡ get_or all i d → room_after room t ≡ Some left → Left most all left (i + 1)
+left_goes most all room i left t d h lt e r =
+    let g = room_goes t room left (drop (i + 1) all) r in
+    let f = front_is all i t d lt e in
+    let up = room_rises t room left r in
+    let small = h.small in
+    record {
+      same = record {
+        to = λ w. g.to (subst (IsWithin room) f (h.same.to w));
+        from = λ w. h.same.from (subst (IsWithin room) (sym f) (g.from w));
+      };
+      small = omega arith;
+    }
+
+pub left_ends : (most : ℕ) (all : List Token) (room i : ℕ) (t d : Token) → Left most all room i → i < length all → t ≡ get_or all i d → room_after room t ≡ None → IsWithin most all → ⊥
+left_ends most all room i t d h lt e r w = room_ends t room (drop (i + 1) all) r (subst (IsWithin room) (front_is all i t d lt e) (h.same.to w))
+
+pub left_done : (most : ℕ) (all : List Token) (room i : ℕ) → Left most all room i → length all ≤ i → IsWithin most all
+left_done most all room i h le = h.same.from (subst (IsWithin room) (sym (drop_all i all le)) tt)

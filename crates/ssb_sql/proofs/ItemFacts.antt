@@ -1,0 +1,158 @@
+-- Items of the select list and keys of ORDER BY are read exactly.
+use Rattle.std.proofs.Common.{◌≡◌, ℕ, zero, suc, ◌<◌, ◌≤◌, Bool, true, false, List, [], ◌∷◌, length, Option, Some, None, refl, sym, ap, subst, ◌∙◌, arith, inl, inr}
+use Rattle.ssb_sql.specs.declared.token.Token.{Token}
+use Rattle.ssb_sql.specs.declared.token.Token.TheVariants.{Fixed, Name, Number}
+use Rattle.ssb_sql.specs.declared.token.Sign.TheVariants as s
+use Rattle.ssb_sql.specs.declared.select.Output.{Output}
+use Rattle.ssb_sql.specs.declared.select.Output.TheVariants as u
+use Rattle.ssb_sql.specs.declared.select.Item.{Item}
+use Rattle.ssb_sql.specs.declared.select.Key.{Key}
+use Rattle.ssb_sql.specs.declared.select.Key.TheVariants as k
+use Rattle.ssb_sql.specs.declared.select.Order.{Order}
+use Rattle.ssb_sql.specs.Expressions.{IsExpr}
+use Rattle.ssb_sql.specs.Grammar.{IsOutput, IsItem, IsKey, IsOrder, IsWithin}
+use Rattle.ssb_sql.specs.Grammar.IsOutput.{column, sum, count_rows, count}
+use Rattle.ssb_sql.specs.Grammar.IsItem.{unnamed, named}
+use Rattle.ssb_sql.specs.Grammar.IsKey.{name, position}
+use Rattle.ssb_sql.specs.Grammar.IsOrder.{plain, asc, desc}
+use Rattle.ssb_sql.specs.Steps.{◌>>=◌, Parser, choose, after, name_at, number_at, is_name_next, closed_at, parens_at}
+use Rattle.ssb_sql.specs.ReadParts.{column_at}
+use Rattle.ssb_sql.specs.ReadExpressions.{expr_at}
+use Rattle.ssb_sql.specs.ReadSelects.{count_at, output_at, item_of, item_at, key_at, order_of, order_at}
+use Rattle.ssb_sql.proofs.StepFacts.{some_is, bind_some, choose_some, if_some, after_is}
+use Rattle.ssb_sql.proofs.Loop.{Shrinks}
+use Rattle.ssb_sql.proofs.Shapes.{Sound, Tame, spells, starts, begins, followed, sound_closed, shrinks}
+use Rattle.ssb_sql.proofs.PartFacts.{name_is, number_is, sound_column, tame_column}
+use Rattle.ssb_sql.proofs.ExpressionSound.{sound_expr, tame_expr}
+
+count_sound : (d : ℕ) (ts : List Token) (x : Output × List Token) → count_at d ts ≡ Some x → IsOutput (Fixed s.Count ∷ Fixed s.Open ∷ ts) x.1 x.0
+unfolding count_at
+count_sound d ts x e =
+    elim (choose_some (after s.Times ts) _ _ (Some x) e) as (λ _. IsOutput (Fixed s.Count ∷ Fixed s.Open ∷ ts) x.1 x.0) [
+      | inl g ↦
+          let f = bind_some (after s.Close g.0) _ x g.2 in
+          let m : ts ≡ Fixed s.Times ∷ Fixed s.Close ∷ f.0 = after_is s.Times ts g.0 g.1 ∙ ap (λ z. Fixed s.Times ∷ z) (after_is s.Close g.0 f.0 f.1) in
+          spells IsOutput (Fixed s.Count ∷ Fixed s.Open ∷ ts) f.0 u.CountRows x (subst (λ z. IsOutput (Fixed s.Count ∷ Fixed s.Open ∷ z) f.0 u.CountRows) (sym m) count_rows) f.2
+      | inr b ↦
+          let f = bind_some (closed_at (expr_at d) ts) _ x b.1 in
+          spells IsOutput (Fixed s.Count ∷ Fixed s.Open ∷ ts) f.0.1 (u.Count f.0.0) x (count (sound_closed (expr_at d) IsExpr (sound_expr d) ts f.0 f.1)) f.2
+    ]
+
+output_sound : (d : ℕ) (ts : List Token) (x : Output × List Token) → output_at d ts ≡ Some x → IsOutput ts x.1 x.0
+unfolding output_at parens_at
+output_sound d ts x e =
+    elim (choose_some (after s.Sum ts) _ _ (Some x) e) as (λ _. IsOutput ts x.1 x.0) [
+      | inl g ↦
+          let f = bind_some (parens_at (expr_at d) g.0) _ x g.2 in
+          let q = bind_some (after s.Open g.0) _ f.0 f.1 in
+          let m : ts ≡ Fixed s.Sum ∷ Fixed s.Open ∷ q.0 = after_is s.Sum ts g.0 g.1 ∙ ap (λ z. Fixed s.Sum ∷ z) (after_is s.Open g.0 q.0 q.1) in
+          spells IsOutput ts f.0.1 (u.Sum f.0.0) x (starts IsOutput ts (Fixed s.Sum ∷ Fixed s.Open ∷ q.0) f.0.1 (u.Sum f.0.0) m (sum (sound_closed (expr_at d) IsExpr (sound_expr d) q.0 f.0 q.2))) f.2
+      | inr b ↦
+          elim (choose_some (after s.Count ts) _ _ (Some x) b.1) as (λ _. IsOutput ts x.1 x.0) [
+            | inl g ↦
+                let q = bind_some (after s.Open g.0) _ x g.2 in
+                let m : ts ≡ Fixed s.Count ∷ Fixed s.Open ∷ q.0 = after_is s.Count ts g.0 g.1 ∙ ap (λ z. Fixed s.Count ∷ z) (after_is s.Open g.0 q.0 q.1) in
+                starts IsOutput ts (Fixed s.Count ∷ Fixed s.Open ∷ q.0) x.1 x.0 m (count_sound d q.0 x q.2)
+            | inr g ↦
+                let f = bind_some (column_at ts) _ x g.1 in
+                spells IsOutput ts f.0.1 (u.Column f.0.0) x (column (sound_column.by ts f.0 f.1)) f.2
+          ]
+    ]
+
+item_sound : (d : ℕ) (ts : List Token) (x : Item × List Token) → item_at d ts ≡ Some x → IsItem ts x.1 x.0
+unfolding item_at
+item_sound d ts x e =
+    let f = bind_some (output_at d ts) _ x e in
+    let one = output_sound d ts f.0 f.1 in
+    elim (choose_some (after s.As f.0.1) _ _ (Some x) f.2) as (λ _. IsItem ts x.1 x.0) [
+      | inl g ↦
+          let q = bind_some (name_at g.0) _ x g.2 in
+          let m : f.0.1 ≡ Fixed s.As ∷ Name q.0.0 ∷ q.0.1 = after_is s.As f.0.1 g.0 g.1 ∙ ap (λ z. Fixed s.As ∷ z) (name_is g.0 q.0 q.1) in
+          spells IsItem ts q.0.1 (item_of f.0.0 (Some q.0.0)) x (named (subst (λ z. IsOutput ts z f.0.0) m one)) q.2
+      | inr g ↦ spells IsItem ts f.0.1 (item_of f.0.0 None) x (unnamed one) g.1
+    ]
+
+pub sound_item : (d : ℕ) → Sound (item_at d) IsItem
+sound_item d = record { by = item_sound d }
+
+key_sound : (ts : List Token) (x : Key × List Token) → key_at ts ≡ Some x → IsKey ts x.1 x.0
+unfolding key_at
+key_sound ts x e =
+    elim (if_some (is_name_next ts) _ _ (Some x) e) as (λ _. IsKey ts x.1 x.0) [
+      | inl g ↦
+          let f = bind_some (name_at ts) _ x g.1 in
+          spells IsKey ts f.0.1 (k.Name f.0.0) x (starts IsKey ts (Name f.0.0 ∷ f.0.1) f.0.1 (k.Name f.0.0) (name_is ts f.0 f.1) name) f.2
+      | inr g ↦
+          let f = bind_some (number_at ts) _ x g.1 in
+          spells IsKey ts f.0.1 (k.Position f.0.0) x (starts IsKey ts (Number f.0.0 ∷ f.0.1) f.0.1 (k.Position f.0.0) (number_is ts f.0 f.1) position) f.2
+    ]
+
+order_sound : (ts : List Token) (x : Order × List Token) → order_at ts ≡ Some x → IsOrder ts x.1 x.0
+unfolding order_at
+order_sound ts x e =
+    let f = bind_some (key_at ts) _ x e in
+    let one = key_sound ts f.0 f.1 in
+    elim (choose_some (after s.Asc f.0.1) _ _ (Some x) f.2) as (λ _. IsOrder ts x.1 x.0) [
+      | inl g ↦ spells IsOrder ts g.0 (order_of f.0.0 false) x (asc (followed IsKey s.Asc ts f.0.1 g.0 f.0.0 g.1 one)) g.2
+      | inr b ↦
+          elim (choose_some (after s.Desc f.0.1) _ _ (Some x) b.1) as (λ _. IsOrder ts x.1 x.0) [
+            | inl g ↦ spells IsOrder ts g.0 (order_of f.0.0 true) x (desc (followed IsKey s.Desc ts f.0.1 g.0 f.0.0 g.1 one)) g.2
+            | inr g ↦ spells IsOrder ts f.0.1 (order_of f.0.0 false) x (plain one) g.1
+          ]
+    ]
+
+pub sound_order : Sound order_at IsOrder
+sound_order = record { by = order_sound }
+
+output_shorter : {from to : List Token} {x : Output} → IsOutput from to x → length to < length from
+output_shorter (column a) = tame_column.shorter a
+output_shorter (sum a) = let p = tame_expr.shorter a in omega arith
+output_shorter count_rows = omega arith
+output_shorter (count a) = let p = tame_expr.shorter a in omega arith
+
+output_within : {from to : List Token} {x : Output} → IsOutput from to x → (d : ℕ) → IsWithin d from → IsWithin d to
+output_within (column a) d h = tame_column.within a d h
+output_within (sum a) zero h = absurd h
+output_within (sum a) (suc d) h = tame_expr.within a d h
+output_within count_rows zero h = absurd h
+output_within count_rows (suc d) h = h
+output_within (count a) zero h = absurd h
+output_within (count a) (suc d) h = tame_expr.within a d h
+
+item_shorter : {from to : List Token} {x : Item} → IsItem from to x → length to < length from
+item_shorter (unnamed a) = output_shorter a
+item_shorter (named a) = let p = output_shorter a in omega arith
+
+item_within : {from to : List Token} {x : Item} → IsItem from to x → (d : ℕ) → IsWithin d from → IsWithin d to
+item_within (unnamed a) d h = output_within a d h
+item_within (named a) d h = output_within a d h
+
+pub tame_item : Tame IsItem
+tame_item = record { shorter = λ h. item_shorter h; within = λ h d w. item_within h d w }
+
+key_shorter : {from to : List Token} {x : Key} → IsKey from to x → length to < length from
+key_shorter name = omega arith
+key_shorter position = omega arith
+
+key_within : {from to : List Token} {x : Key} → IsKey from to x → (d : ℕ) → IsWithin d from → IsWithin d to
+key_within name d h = h
+key_within position d h = h
+
+order_shorter : {from to : List Token} {x : Order} → IsOrder from to x → length to < length from
+order_shorter (plain a) = key_shorter a
+order_shorter (asc a) = let p = key_shorter a in omega arith
+order_shorter (desc a) = let p = key_shorter a in omega arith
+
+order_within : {from to : List Token} {x : Order} → IsOrder from to x → (d : ℕ) → IsWithin d from → IsWithin d to
+order_within (plain a) d h = key_within a d h
+order_within (asc a) d h = key_within a d h
+order_within (desc a) d h = key_within a d h
+
+pub tame_order : Tame IsOrder
+tame_order = record { shorter = λ h. order_shorter h; within = λ h d w. order_within h d w }
+
+pub item_shrinks : (d : ℕ) → Shrinks (after s.Comma) (item_at d)
+item_shrinks d = shrinks s.Comma (item_at d) IsItem (sound_item d) tame_item
+
+pub order_shrinks : Shrinks (after s.Comma) order_at
+order_shrinks = shrinks s.Comma order_at IsOrder sound_order tame_order

@@ -1,0 +1,236 @@
+-- Columns, literals and operands are read exactly.
+use Rattle.std.proofs.Common.{◌≡◌, ℕ, zero, suc, ◌<◌, ◌≤◌, Bool, true, false, List, [], ◌∷◌, length, Option, Some, None, refl, sym, ap, subst, ◌∙◌, arith, inl, inr, pos, ℤ}
+use Rattle.std.specs.Prelude.{nat_le, neg_ℤ}
+use Rattle.std.proofs.lemmas.Bool.{leb-true, le-leb}
+use Rattle.ssb_sql.specs.declared.token.Token.{Token}
+use Rattle.ssb_sql.specs.declared.token.Token.TheVariants.{Fixed, Name, Number, Text}
+use Rattle.ssb_sql.specs.declared.token.Sign.{Sign}
+use Rattle.ssb_sql.specs.declared.token.Sign.TheVariants as s
+use Rattle.ssb_sql.specs.declared.expr.ColumnName.{ColumnName}
+use Rattle.ssb_sql.specs.declared.condition.Literal.{Literal}
+use Rattle.ssb_sql.specs.declared.condition.Literal.TheVariants as l
+use Rattle.ssb_sql.specs.declared.condition.Operand.{Operand}
+use Rattle.ssb_sql.specs.declared.condition.Operand.TheVariants as o
+use Rattle.ssb_sql.specs.Forms.{Spelling, IsNamed, IsColumn, IsLiteral, IsOperand}
+use Rattle.ssb_sql.specs.Forms.IsNamed.{name}
+use Rattle.ssb_sql.specs.Forms.IsColumn.{alone, dotted}
+use Rattle.ssb_sql.specs.Forms.IsLiteral.{number, positive, negative, text}
+use Rattle.ssb_sql.specs.Forms.IsOperand.{column, literal}
+use Rattle.ssb_sql.specs.Grammar.{IsWithin}
+use Rattle.ssb_sql.specs.Steps.{◌>>=◌, Parser, choose, after, is_fixed, is_sign, name_at, number_at, text_at, is_name_next, is_text_next}
+use Rattle.ssb_sql.specs.ReadParts.{column_of, column_at, small_at, below_at, plain_literal_at, literal_at, operand_at}
+use Rattle.ssb_sql.proofs.StepFacts.{some_is, bind_some, choose_some, if_some, after_is, Stops, stops, differs, sees}
+use Rattle.ssb_sql.proofs.Loop.{Shrinks}
+use Rattle.ssb_sql.proofs.Shapes.{Sound, Tame, Complete, spells, starts, begins, followed, shrinks}
+
+pub name_is : (ts : List Token) (x : List ℕ × List Token) → name_at ts ≡ Some x → ts ≡ Name x.0 ∷ x.1
+unfolding name_at
+name_is (Name n ∷ ts) x e = ap (λ z. Name z.0 ∷ z.1) (some_is (n, ts) x e)
+name_is _ x e = absurd cc
+
+pub number_is : (ts : List Token) (x : ℕ × List Token) → number_at ts ≡ Some x → ts ≡ Number x.0 ∷ x.1
+unfolding number_at
+number_is (Number n ∷ ts) x e = ap (λ z. Number z.0 ∷ z.1) (some_is (n, ts) x e)
+number_is _ x e = absurd cc
+
+text_is : (ts : List Token) (x : List ℕ × List Token) → text_at ts ≡ Some x → ts ≡ Text x.0 ∷ x.1
+unfolding text_at
+text_is (Text t ∷ ts) x e = ap (λ z. Text z.0 ∷ z.1) (some_is (t, ts) x e)
+text_is _ x e = absurd cc
+
+pub sound_name : Sound name_at IsNamed
+sound_name = record { by = λ ts x e. subst (λ us. IsNamed us x.1 x.0) (sym (name_is ts x e)) name }
+
+column_sound : (ts : List Token) (x : ColumnName × List Token) → column_at ts ≡ Some x → IsColumn ts x.1 x.0
+unfolding column_at
+column_sound ts x e =
+    let f = bind_some (name_at ts) _ x e in
+    elim (choose_some (after s.Dot f.0.1) _ _ (Some x) f.2) as (λ _. IsColumn ts x.1 x.0) [
+      | inl g ↦
+          let q = bind_some (name_at g.0) _ x g.2 in
+          let here = starts IsColumn ts (Name f.0.0 ∷ Fixed s.Dot ∷ Name q.0.0 ∷ q.0.1) q.0.1 (column_of (Some f.0.0) q.0.0)
+          (name_is ts f.0 f.1 ∙ ap (λ z. Name f.0.0 ∷ z) (after_is s.Dot f.0.1 g.0 g.1 ∙ ap (λ z. Fixed s.Dot ∷ z) (name_is g.0 q.0 q.1))) dotted in
+          spells IsColumn ts q.0.1 (column_of (Some f.0.0) q.0.0) x here q.2
+      | inr g ↦ spells IsColumn ts f.0.1 (column_of None f.0.0) x (starts IsColumn ts (Name f.0.0 ∷ f.0.1) f.0.1 (column_of None f.0.0) (name_is ts f.0 f.1) alone) g.1
+    ]
+
+pub sound_column : Sound column_at IsColumn
+sound_column = record { by = column_sound }
+
+le_is : (n m : ℕ) → nat_le n m ≡ true → n ≤ m
+le_is n m e = leb-true n m e
+
+small_is : (ts : List Token) (x : ℤ × List Token) → small_at ts ≡ Some x → (n : ℕ) × (ts ≡ Number n ∷ x.1) × (n ≤ 9223372036854775807) × (pos n ≡ x.0)
+unfolding small_at
+small_is ts x e =
+    let f = bind_some (number_at ts) _ x e in
+    elim (if_some (nat_le f.0.0 9223372036854775807) _ _ (Some x) f.2) as (λ _. (n : ℕ) × (ts ≡ Number n ∷ x.1) × (n ≤ 9223372036854775807) × (pos n ≡ x.0)) [
+      | inl g ↦
+          let same = some_is (pos f.0.0, f.0.1) x g.1 in
+          (f.0.0, number_is ts f.0 f.1 ∙ ap (λ z. Number f.0.0 ∷ z.1) same, le_is f.0.0 9223372036854775807 g.0, ap (λ z. z.0) same)
+      | inr g ↦ absurd cc
+    ]
+
+below_is : (ts : List Token) (x : ℤ × List Token) → below_at ts ≡ Some x → (n : ℕ) × (ts ≡ Number n ∷ x.1) × (n ≤ 9223372036854775807) × (neg_ℤ (pos n) ≡ x.0)
+unfolding below_at
+below_is ts x e =
+    let f = bind_some (number_at ts) _ x e in
+    elim (if_some (nat_le f.0.0 9223372036854775807) _ _ (Some x) f.2) as (λ _. (n : ℕ) × (ts ≡ Number n ∷ x.1) × (n ≤ 9223372036854775807) × (neg_ℤ (pos n) ≡ x.0)) [
+      | inl g ↦
+          let same = some_is (neg_ℤ (pos f.0.0), f.0.1) x g.1 in
+          (f.0.0, number_is ts f.0 f.1 ∙ ap (λ z. Number f.0.0 ∷ z.1) same, le_is f.0.0 9223372036854775807 g.0, ap (λ z. z.0) same)
+      | inr g ↦ absurd cc
+    ]
+
+plain_literal_sound : (ts : List Token) (x : Literal × List Token) → plain_literal_at ts ≡ Some x → IsLiteral ts x.1 x.0
+unfolding plain_literal_at
+plain_literal_sound ts x e =
+    elim (if_some (is_text_next ts) _ _ (Some x) e) as (λ _. IsLiteral ts x.1 x.0) [
+      | inl g ↦
+          let f = bind_some (text_at ts) _ x g.1 in
+          spells IsLiteral ts f.0.1 (l.Text f.0.0) x (starts IsLiteral ts (Text f.0.0 ∷ f.0.1) f.0.1 (l.Text f.0.0) (text_is ts f.0 f.1) text) f.2
+      | inr g ↦
+          let f = bind_some (small_at ts) _ x g.1 in
+          let q = small_is ts f.0 f.1 in
+          spells IsLiteral ts f.0.1 (l.Number f.0.0) x (subst (λ z. IsLiteral ts f.0.1 (l.Number z)) q.3 (starts IsLiteral ts (Number q.0 ∷ f.0.1) f.0.1 (l.Number (pos q.0)) q.1 (number q.2))) f.2
+    ]
+
+literal_sound : (ts : List Token) (x : Literal × List Token) → literal_at ts ≡ Some x → IsLiteral ts x.1 x.0
+unfolding literal_at
+literal_sound ts x e =
+    elim (choose_some (after s.Plus ts) _ _ (Some x) e) as (λ _. IsLiteral ts x.1 x.0) [
+      | inl g ↦
+          let f = bind_some (small_at g.0) _ x g.2 in
+          let q = small_is g.0 f.0 f.1 in
+          spells IsLiteral ts f.0.1 (l.Number f.0.0) x (subst (λ z. IsLiteral ts f.0.1 (l.Number z)) q.3 (starts IsLiteral ts (Fixed s.Plus ∷ Number q.0 ∷ f.0.1) f.0.1 (l.Number (pos q.0)) (after_is s.Plus ts g.0 g.1 ∙ ap (λ z. Fixed s.Plus ∷ z) q.1) (positive q.2))) f.2
+      | inr a ↦
+          elim (choose_some (after s.Minus ts) _ _ (Some x) a.1) as (λ _. IsLiteral ts x.1 x.0) [
+            | inl g ↦
+                let f = bind_some (below_at g.0) _ x g.2 in
+                let q = below_is g.0 f.0 f.1 in
+                spells IsLiteral ts f.0.1 (l.Number f.0.0) x (subst (λ z. IsLiteral ts f.0.1 (l.Number z)) q.3 (starts IsLiteral ts (Fixed s.Minus ∷ Number q.0 ∷ f.0.1) f.0.1 (l.Number (neg_ℤ (pos q.0))) (after_is s.Minus ts g.0 g.1 ∙ ap (λ z. Fixed s.Minus ∷ z) q.1) (negative q.2))) f.2
+            | inr g ↦ plain_literal_sound ts x g.1
+          ]
+    ]
+
+pub sound_literal : Sound literal_at IsLiteral
+sound_literal = record { by = literal_sound }
+
+operand_sound : (ts : List Token) (x : Operand × List Token) → operand_at ts ≡ Some x → IsOperand ts x.1 x.0
+unfolding operand_at
+operand_sound ts x e =
+    elim (if_some (is_name_next ts) _ _ (Some x) e) as (λ _. IsOperand ts x.1 x.0) [
+      | inl g ↦
+          let f = bind_some (column_at ts) _ x g.1 in
+          spells IsOperand ts f.0.1 (o.Column f.0.0) x (column (column_sound ts f.0 f.1)) f.2
+      | inr g ↦
+          let f = bind_some (literal_at ts) _ x g.1 in
+          spells IsOperand ts f.0.1 (o.Literal f.0.0) x (literal (literal_sound ts f.0 f.1)) f.2
+    ]
+
+pub sound_operand : Sound operand_at IsOperand
+sound_operand = record { by = operand_sound }
+
+name_shorter : {from to : List Token} {x : List ℕ} → IsNamed from to x → length to < length from
+name_shorter name = omega arith
+
+name_within : {from to : List Token} {x : List ℕ} → IsNamed from to x → (d : ℕ) → IsWithin d from → IsWithin d to
+name_within name d h = h
+
+pub tame_name : Tame IsNamed
+tame_name = record { shorter = λ h. name_shorter h; within = λ h d w. name_within h d w }
+
+column_shorter : {from to : List Token} {x : ColumnName} → IsColumn from to x → length to < length from
+column_shorter alone = omega arith
+column_shorter dotted = omega arith
+
+column_within : {from to : List Token} {x : ColumnName} → IsColumn from to x → (d : ℕ) → IsWithin d from → IsWithin d to
+column_within alone d h = h
+column_within dotted d h = h
+
+pub tame_column : Tame IsColumn
+tame_column = record { shorter = λ h. column_shorter h; within = λ h d w. column_within h d w }
+
+literal_shorter : {from to : List Token} {x : Literal} → IsLiteral from to x → length to < length from
+literal_shorter (number a) = omega arith
+literal_shorter (positive a) = omega arith
+literal_shorter (negative a) = omega arith
+literal_shorter text = omega arith
+
+literal_within : {from to : List Token} {x : Literal} → IsLiteral from to x → (d : ℕ) → IsWithin d from → IsWithin d to
+literal_within (number a) d h = h
+literal_within (positive a) d h = h
+literal_within (negative a) d h = h
+literal_within text d h = h
+
+pub tame_literal : Tame IsLiteral
+tame_literal = record { shorter = λ h. literal_shorter h; within = λ h d w. literal_within h d w }
+
+operand_shorter : {from to : List Token} {x : Operand} → IsOperand from to x → length to < length from
+operand_shorter (column a) = column_shorter a
+operand_shorter (literal a) = literal_shorter a
+
+operand_within : {from to : List Token} {x : Operand} → IsOperand from to x → (d : ℕ) → IsWithin d from → IsWithin d to
+operand_within (column a) d h = column_within a d h
+operand_within (literal a) d h = literal_within a d h
+
+pub tame_operand : Tame IsOperand
+tame_operand = record { shorter = λ h. operand_shorter h; within = λ h d w. operand_within h d w }
+
+pub name_shrinks : Shrinks (after s.Comma) name_at
+name_shrinks = shrinks s.Comma name_at IsNamed sound_name tame_name
+
+pub column_shrinks : Shrinks (after s.Comma) column_at
+column_shrinks = shrinks s.Comma column_at IsColumn sound_column tame_column
+
+pub literal_shrinks : Shrinks (after s.Comma) literal_at
+literal_shrinks = shrinks s.Comma literal_at IsLiteral sound_literal tame_literal
+
+-- what follows the name, the number or the text that is read
+pub name_read : (n : List ℕ) (to : List Token) → name_at (Name n ∷ to) ≡ Some (n, to)
+unfolding name_at
+name_read n to = refl
+
+pub named_read : {from to : List Token} {x : List ℕ} → IsNamed from to x → name_at from ≡ Some (x, to)
+named_read (name {to = to} {n = n}) = name_read n to
+
+pub number_read : (n : ℕ) (to : List Token) → number_at (Number n ∷ to) ≡ Some (n, to)
+unfolding number_at
+number_read n to = refl
+
+pub column_read : {from to : List Token} {x : ColumnName} → IsColumn from to x → Stops s.Dot to → column_at from ≡ Some (x, to)
+unfolding column_at
+column_read (alone {to = to} {n = n}) h = rw (name_read n to, h) refl
+column_read (dotted {to = to} {t = t} {n = n}) h = rw (name_read t (Fixed s.Dot ∷ Name n ∷ to), sees s.Dot (Name n ∷ to), name_read n to) refl
+
+small_read : (n : ℕ) (to : List Token) → n ≤ 9223372036854775807 → small_at (Number n ∷ to) ≡ Some (pos n, to)
+unfolding small_at
+small_read n to h = rw (number_read n to, le-leb n 9223372036854775807 h) refl
+
+below_read : (n : ℕ) (to : List Token) → n ≤ 9223372036854775807 → below_at (Number n ∷ to) ≡ Some (neg_ℤ (pos n), to)
+unfolding below_at
+below_read n to h = rw (number_read n to, le-leb n 9223372036854775807 h) refl
+
+pub literal_read : {from to : List Token} {x : Literal} → IsLiteral from to x → literal_at from ≡ Some (x, to)
+unfolding literal_at plain_literal_at after is_fixed is_text_next text_at
+literal_read (number {to = to} {n = n} h) = rw (small_read n to h) refl
+literal_read (positive {to = to} {n = n} h) = rw (sees s.Plus (Number n ∷ to), small_read n to h) refl
+literal_read (negative {to = to} {n = n} h) = rw (stops s.Minus s.Plus (Number n ∷ to) (differs s.Minus s.Plus refl), sees s.Minus (Number n ∷ to), below_read n to h) refl
+literal_read text = refl
+
+pub column_next : {from to : List Token} {x : ColumnName} → IsColumn from to x → is_name_next from ≡ true
+unfolding is_name_next
+column_next alone = refl
+column_next dotted = refl
+
+literal_next : {from to : List Token} {x : Literal} → IsLiteral from to x → is_name_next from ≡ false
+unfolding is_name_next
+literal_next (number h) = refl
+literal_next (positive h) = refl
+literal_next (negative h) = refl
+literal_next text = refl
+
+pub operand_read : {from to : List Token} {x : Operand} → IsOperand from to x → Stops s.Dot to → operand_at from ≡ Some (x, to)
+unfolding operand_at
+operand_read (column a) h = rw (column_next a, column_read a h) refl
+operand_read (literal a) h = rw (literal_next a, literal_read a) refl

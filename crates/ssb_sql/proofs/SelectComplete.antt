@@ -1,0 +1,226 @@
+-- Each query of the grammar is read, and tokens spell one query at most.
+use Rattle.std.proofs.Common.{◌≡◌, ℕ, zero, suc, ◌<◌, ◌≤◌, Bool, true, false, List, [], ◌∷◌, length, Option, Some, None, refl, sym, ap, subst, ◌∙◌, arith}
+use Rattle.ssb_sql.specs.declared.token.Token.{Token}
+use Rattle.ssb_sql.specs.declared.token.Token.TheVariants.{Fixed, Name, Number}
+use Rattle.ssb_sql.specs.declared.token.Sign.{Sign}
+use Rattle.ssb_sql.specs.declared.token.Sign.TheVariants as s
+use Rattle.ssb_sql.specs.declared.expr.ColumnName.{ColumnName}
+use Rattle.ssb_sql.specs.declared.expr.Expr.{Expr}
+use Rattle.ssb_sql.specs.declared.condition.Condition.{Condition}
+use Rattle.ssb_sql.specs.declared.select.Output.{Output}
+use Rattle.ssb_sql.specs.declared.select.Output.TheVariants as u
+use Rattle.ssb_sql.specs.declared.select.Item.{Item}
+use Rattle.ssb_sql.specs.declared.select.Key.{Key}
+use Rattle.ssb_sql.specs.declared.select.Key.TheVariants as k
+use Rattle.ssb_sql.specs.declared.select.Order.{Order}
+use Rattle.ssb_sql.specs.declared.select.Select.{Select}
+use Rattle.ssb_sql.specs.Forms.{IsList, IsNamed, IsColumn}
+use Rattle.ssb_sql.specs.Expressions.{IsExpr}
+use Rattle.ssb_sql.specs.Grammar.{IsOutput, IsItem, IsWhere, IsGroups, IsKey, IsOrder, IsOrders, IsEnd, Parses, IsWithin}
+use Rattle.ssb_sql.specs.Grammar.IsOutput.{column, sum, count_rows, count}
+use Rattle.ssb_sql.specs.Grammar.IsItem.{unnamed, named}
+use Rattle.ssb_sql.specs.Grammar.IsKey.{name, position}
+use Rattle.ssb_sql.specs.Grammar.IsOrder.{plain, asc, desc}
+use Rattle.ssb_sql.specs.Grammar.IsWhere.{no_where, where_cond}
+use Rattle.ssb_sql.specs.Grammar.IsGroups.{no_groups, groups}
+use Rattle.ssb_sql.specs.Grammar.IsOrders.{no_orders, orders}
+use Rattle.ssb_sql.specs.Grammar.IsEnd.{end, semicolon}
+use Rattle.ssb_sql.specs.Grammar.Parses.{query}
+use Rattle.ssb_sql.specs.Steps.{◌>>=◌, Parser, choose, after, is_sign, name_at, number_at, is_name_next, list_at, closed_at, parens_at}
+use Rattle.ssb_sql.specs.ReadParts.{column_at}
+use Rattle.ssb_sql.specs.ReadExpressions.{expr_at}
+use Rattle.ssb_sql.specs.ReadConditions.{cond_at}
+use Rattle.ssb_sql.specs.ReadSelects.{count_at, output_at, item_of, item_at, where_at, groups_at, key_at, order_of, order_at, orders_at, is_nil, ends, select_of, rest_at, query_at}
+use Rattle.ssb_sql.proofs.StepFacts.{some_is, Stops, stops, differs, sees}
+use Rattle.ssb_sql.proofs.Shapes.{Complete, GoesOn, closed_read, list_read, tame_list}
+use Rattle.ssb_sql.proofs.PartFacts.{tame_name, tame_column, named_read, name_read, number_read, column_read}
+use Rattle.ssb_sql.proofs.Depth.{all_within}
+use Rattle.ssb_sql.proofs.ExpressionComplete.{column_begins, expr_begins, expr_read, close_ends}
+use Rattle.ssb_sql.proofs.ConditionSound.{tame_cond}
+use Rattle.ssb_sql.proofs.ConditionComplete.{EndsCond, cond_read}
+use Rattle.ssb_sql.proofs.ItemFacts.{tame_item, tame_order}
+use Rattle.ssb_sql.proofs.SelectSound.{query_sound, nil_is}
+
+no : (found sign : Sign) (ts : List Token) → is_sign found sign ≡ false → Stops sign (Fixed found ∷ ts)
+no found sign ts h = stops found sign ts h
+
+-- aggregates
+column_goes : {from to : List Token} {x : ColumnName} → IsColumn from to x → (d : ℕ) → Stops s.Dot to → output_at d from ≡ Some (u.Column x, to)
+unfolding output_at
+column_goes a d n = rw (column_begins a s.Sum, column_begins a s.Count, column_read a n) refl
+
+sum_goes : (d : ℕ) (ts to : List Token) (x : Expr) → expr_at d ts ≡ Some (x, Fixed s.Close ∷ to) → output_at d (Fixed s.Sum ∷ Fixed s.Open ∷ ts) ≡ Some (u.Sum x, to)
+unfolding output_at parens_at
+sum_goes d ts to x e = rw (sees s.Sum (Fixed s.Open ∷ ts), sees s.Open ts, closed_read (expr_at d) ts to x e) refl
+
+rows_goes : (d : ℕ) (to : List Token) → output_at d (Fixed s.Count ∷ Fixed s.Open ∷ Fixed s.Times ∷ Fixed s.Close ∷ to) ≡ Some (u.CountRows, to)
+unfolding output_at count_at
+rows_goes d to =
+    let ts = Fixed s.Times ∷ Fixed s.Close ∷ to in
+    rw (no s.Count s.Sum (Fixed s.Open ∷ ts) (differs s.Count s.Sum refl), sees s.Count (Fixed s.Open ∷ ts), sees s.Open ts, sees s.Times (Fixed s.Close ∷ to), sees s.Close to) refl
+
+count_goes : (d : ℕ) (ts to : List Token) (x : Expr) → Stops s.Times ts → expr_at d ts ≡ Some (x, Fixed s.Close ∷ to) → output_at d (Fixed s.Count ∷ Fixed s.Open ∷ ts) ≡ Some (u.Count x, to)
+unfolding output_at count_at
+count_goes d ts to x h e =
+    rw (no s.Count s.Sum (Fixed s.Open ∷ ts) (differs s.Count s.Sum refl), sees s.Count (Fixed s.Open ∷ ts), sees s.Open ts, h, closed_read (expr_at d) ts to x e) refl
+
+output_read : {from to : List Token} {x : Output} → IsOutput from to x → (d : ℕ) → IsWithin d from → Stops s.Dot to → output_at d from ≡ Some (x, to)
+output_read (column a) d h n = column_goes a d n
+output_read (sum a) zero h n = absurd h
+output_read (sum {from = from} {to = to} {x = x} a) (suc d) h n = sum_goes (suc d) from to x (expr_read a d h (close_ends to))
+output_read (count_rows {to = to}) d h n = rows_goes d to
+output_read (count a) zero h n = absurd h
+output_read (count {from = from} {to = to} {x = x} a) (suc d) h n = count_goes (suc d) from to x (expr_begins a) (expr_read a d h (close_ends to))
+
+-- what may follow an item
+pub record EndsItem (to : List Token) : Type 0 where
+  pub dot : Stops s.Dot to
+  pub alias : Stops s.As to
+
+item_read : {from to : List Token} {x : Item} → IsItem from to x → (d : ℕ) → IsWithin d from → EndsItem to → item_at d from ≡ Some (x, to)
+unfolding item_at
+item_read (unnamed a) d h z = rw (output_read a d h z.dot, z.alias) refl
+item_read (named {to = to} {n = n} a) d h z =
+    rw (output_read a d h (no s.As s.Dot (Name n ∷ to) (differs s.As s.Dot refl)), sees s.As (Name n ∷ to), name_read n to) refl
+
+complete_item : (d : ℕ) → Complete (item_at d) IsItem d EndsItem
+complete_item d = record { by = λ h w z. item_read h d w z }
+
+item_goes_on : GoesOn EndsItem
+item_goes_on = record { comma = λ ts. record { dot = no s.Comma s.Dot ts (differs s.Comma s.Dot refl); alias = no s.Comma s.As ts (differs s.Comma s.As refl) } }
+
+items_read : (d : ℕ) (from to : List Token) (xs : List Item) → IsList IsItem from (Fixed s.From ∷ to) xs → IsWithin d from → list_at (item_at d) from ≡ Some (xs, Fixed s.From ∷ to)
+items_read d from to xs h w =
+    list_read (item_at d) IsItem tame_item d EndsItem item_goes_on (complete_item d) h w
+    (record { dot = no s.From s.Dot to (differs s.From s.Dot refl); alias = no s.From s.As to (differs s.From s.As refl) }) (no s.From s.Comma to (differs s.From s.Comma refl))
+
+-- names, columns and keys
+any_end : GoesOn (λ to. Unit {0})
+any_end = record { comma = λ ts. tt }
+
+names_read : (from to : List Token) (xs : List (List ℕ)) → IsList IsNamed from to xs → Stops s.Comma to → list_at name_at from ≡ Some (xs, to)
+names_read from to xs h n =
+    let d = length from in
+    list_read name_at IsNamed tame_name d (λ to. Unit {0}) any_end (record { by = λ a w f. named_read a }) h (all_within from d (omega arith)) tt n
+
+column_goes_on : GoesOn (Stops s.Dot)
+column_goes_on = record { comma = λ ts. no s.Comma s.Dot ts (differs s.Comma s.Dot refl) }
+
+columns_read : (from to : List Token) (xs : List ColumnName) → IsList IsColumn from to xs → Stops s.Dot to → Stops s.Comma to → list_at column_at from ≡ Some (xs, to)
+columns_read from to xs h m n =
+    let d = length from in
+    list_read column_at IsColumn tame_column d (Stops s.Dot) column_goes_on (record { by = λ a w f. column_read a f }) h (all_within from d (omega arith)) m n
+
+key_read : {from to : List Token} {x : Key} → IsKey from to x → key_at from ≡ Some (x, to)
+unfolding key_at is_name_next
+key_read (name {to = to} {n = n}) = rw (name_read n to) refl
+key_read (position {to = to} {n = n}) = rw (number_read n to) refl
+
+-- what may follow a key
+pub record EndsKey (to : List Token) : Type 0 where
+  pub asc : Stops s.Asc to
+  pub desc : Stops s.Desc to
+
+order_read : {from to : List Token} {x : Order} → IsOrder from to x → EndsKey to → order_at from ≡ Some (x, to)
+unfolding order_at
+order_read (plain a) z = rw (key_read a, z.asc, z.desc) refl
+order_read (asc {to = to} a) z = rw (key_read a, sees s.Asc to) refl
+order_read (desc {to = to} a) z = rw (key_read a, no s.Desc s.Asc to (differs s.Desc s.Asc refl), sees s.Desc to) refl
+
+key_goes_on : GoesOn EndsKey
+key_goes_on = record { comma = λ ts. record { asc = no s.Comma s.Asc ts (differs s.Comma s.Asc refl); desc = no s.Comma s.Desc ts (differs s.Comma s.Desc refl) } }
+
+keys_read : (from to : List Token) (xs : List Order) → IsList IsOrder from to xs → EndsKey to → Stops s.Comma to → list_at order_at from ≡ Some (xs, to)
+keys_read from to xs h z n =
+    let d = length from in
+    list_read order_at IsOrder tame_order d EndsKey key_goes_on (record { by = λ a w f. order_read a f }) h (all_within from d (omega arith)) z n
+
+-- what the parts behind FROM begin with
+nil_stops : (sign : Sign) → Stops sign []
+unfolding after
+nil_stops sign = refl
+
+end_stops : {ts : List Token} → IsEnd ts → (sign : Sign) → is_sign s.Semicolon sign ≡ false → Stops sign ts
+end_stops end sign p = nil_stops sign
+end_stops semicolon sign p = no s.Semicolon sign [] p
+
+orders_stop : {from to : List Token} {xs : List Order} → IsOrders from to xs → (sign : Sign) → is_sign s.Order sign ≡ false → Stops sign to → Stops sign from
+orders_stop no_orders sign p h = h
+orders_stop (orders {from = from} a) sign p h = no s.Order sign (Fixed s.By ∷ from) p
+
+groups_stop : {from to : List Token} {xs : List ColumnName} → IsGroups from to xs → (sign : Sign) → is_sign s.Group sign ≡ false → Stops sign to → Stops sign from
+groups_stop no_groups sign p h = h
+groups_stop (groups {from = from} a) sign p h = no s.Group sign (Fixed s.By ∷ from) p
+
+where_stops : {from to : List Token} {x : Option Condition} → IsWhere from to x → (sign : Sign) → is_sign s.Where sign ≡ false → Stops sign to → Stops sign from
+where_stops no_where sign p h = h
+where_stops (where_cond {from = from} a) sign p h = no s.Where sign from p
+
+-- the parts behind FROM
+where_read : {from to : List Token} {x : Option Condition} → IsWhere from to x → (d : ℕ) → IsWithin d from → Stops s.Where to → EndsCond to → where_at (suc d) from ≡ Some (x, to)
+unfolding where_at
+where_read no_where d h n z = rw n refl
+where_read (where_cond {from = from} a) d h n z = rw (sees s.Where from, cond_read a d h z) refl
+
+groups_read : {from to : List Token} {xs : List ColumnName} → IsGroups from to xs → Stops s.Group to → Stops s.Dot to → Stops s.Comma to → groups_at from ≡ Some (xs, to)
+unfolding groups_at
+groups_read no_groups g m n = rw g refl
+groups_read (groups {from = from} {to = to} {xs = xs} a) g m n = rw (sees s.Group (Fixed s.By ∷ from), sees s.By from) (columns_read from to xs a m n)
+
+orders_read : {from to : List Token} {xs : List Order} → IsOrders from to xs → Stops s.Order to → EndsKey to → Stops s.Comma to → orders_at from ≡ Some (xs, to)
+unfolding orders_at
+orders_read no_orders g z n = rw g refl
+orders_read (orders {from = from} {to = to} {xs = xs} a) g z n = rw (sees s.Order (Fixed s.By ∷ from), sees s.By from) (keys_read from to xs a z n)
+
+ends_read : {ts : List Token} → IsEnd ts → ends ts ≡ true
+unfolding ends
+ends_read end = rw (nil_stops s.Semicolon) refl
+ends_read semicolon = rw (sees s.Semicolon []) refl
+
+rest_goes : (d : ℕ) (items : List Item) (from : List (List ℕ)) (c e f g : List Token) (w : Option Condition) (xs : List ColumnName) (ys : List Order) → where_at (suc d) c ≡ Some (w, e) → groups_at e ≡ Some (xs, f)
+    → orders_at f ≡ Some (ys, g) → rest_at d items from c ≡ Some (select_of items from w xs ys, g)
+unfolding rest_at
+rest_goes d items from c e f g w xs ys p q r = rw (p, q, r) refl
+
+query_goes : (d : ℕ) (a b c g : List Token) (items : List Item) (from : List (List ℕ)) (x : Select) → list_at (item_at d) a ≡ Some (items, Fixed s.From ∷ b) → list_at name_at b ≡ Some (from, c)
+    → rest_at d items from c ≡ Some (x, g) → query_at d (Fixed s.Select ∷ a) ≡ Some (x, g)
+unfolding query_at
+query_goes d a b c g items from x p q r = rw (sees s.Select a, p, sees s.From b, q) r
+
+-- what is read of a query, and that nothing is left but its end
+pub whole_read : {ts : List Token} {x : Select} → Parses ts x → (d : ℕ) → IsWithin d ts → (rest : List Token) × (query_at d ts ≡ Some (x, rest)) × (ends rest ≡ true)
+whole_read (query {a = a} {b = b} {c = c} {d = e} {e = f} {f = g} {items = items} {from = from} {condition = w} {groups = xs} {orders = ys} one two where_is groups_are orders_are last) d h =
+    let within_b : IsWithin d b = (tame_list IsItem tame_item).within one d h in
+    let within_c : IsWithin d c = (tame_list IsNamed tame_name).within two d within_b in
+    let stops_f = λ (sign : Sign) (i : is_sign s.Semicolon sign ≡ false) (j : is_sign s.Order sign ≡ false). orders_stop orders_are sign j (end_stops last sign i) in
+    let stops_e = λ (sign : Sign) (i : is_sign s.Semicolon sign ≡ false) (j : is_sign s.Order sign ≡ false) (k : is_sign s.Group sign ≡ false). groups_stop groups_are sign k (stops_f sign i j) in
+    let ends_cond : EndsCond e = record {
+      dot = stops_e s.Dot (differs s.Semicolon s.Dot refl) (differs s.Order s.Dot refl) (differs s.Group s.Dot refl);
+      and = stops_e s.And (differs s.Semicolon s.And refl) (differs s.Order s.And refl) (differs s.Group s.And refl);
+      or = stops_e s.Or (differs s.Semicolon s.Or refl) (differs s.Order s.Or refl) (differs s.Group s.Or refl);
+    } in
+    let p = where_read where_is d within_c (stops_e s.Where (differs s.Semicolon s.Where refl) (differs s.Order s.Where refl) (differs s.Group s.Where refl)) ends_cond in
+    let q = groups_read groups_are (stops_f s.Group (differs s.Semicolon s.Group refl) (differs s.Order s.Group refl)) (stops_f s.Dot (differs s.Semicolon s.Dot refl) (differs s.Order s.Dot refl))
+    (stops_f s.Comma (differs s.Semicolon s.Comma refl) (differs s.Order s.Comma refl)) in
+    let ends_key : EndsKey g = record { asc = end_stops last s.Asc (differs s.Semicolon s.Asc refl); desc = end_stops last s.Desc (differs s.Semicolon s.Desc refl) } in
+    let r = orders_read orders_are (end_stops last s.Order (differs s.Semicolon s.Order refl)) ends_key (end_stops last s.Comma (differs s.Semicolon s.Comma refl)) in
+    let comma_stops = where_stops where_is s.Comma (differs s.Where s.Comma refl) (stops_e s.Comma (differs s.Semicolon s.Comma refl) (differs s.Order s.Comma refl) (differs s.Group s.Comma refl)) in
+    (g, query_goes d a b c g items from (select_of items from w xs ys) (items_read d a b items one h) (names_read b c from two comma_stops) (rest_goes d items from c e f g w xs ys p q r), ends_read last)
+
+-- tokens spell one query at most
+pub one_meaning : (ts : List Token) (x y : Select) → Parses ts x → Parses ts y → x ≡ y
+one_meaning ts x y a b =
+    let h = all_within ts (length ts) (omega arith) in
+    let p = whole_read a (length ts) h in
+    let q = whole_read b (length ts) h in
+    ap (λ (r : Select × List Token). r.0) (some_is (x, p.0) (y, q.0) (sym p.1 ∙ q.1))
+
+pub spells_none : (ts : List Token) → IsWithin 64 ts → query_at 64 ts ≡ None → (y : Select) → Parses ts y → ⊥
+spells_none ts h e y is = let f = (whole_read is 64 h).1 in absurd cc
+
+pub spells_less : (ts rest : List Token) (x : Select) → IsWithin 64 ts → query_at 64 ts ≡ Some (x, rest) → ends rest ≡ false → (y : Select) → Parses ts y → ⊥
+spells_less ts rest x h e n y is =
+    let f = whole_read is 64 h in
+    let same : rest ≡ f.0 = ap (λ (r : Select × List Token). r.1) (some_is (x, rest) (y, f.0) (sym e ∙ f.1)) in
+    let z : ends rest ≡ true = ap ends same ∙ f.2 in
+    absurd cc

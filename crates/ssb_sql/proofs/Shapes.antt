@@ -1,0 +1,159 @@
+-- What readers and relations share: sound, shorter, and chains.
+use Rattle.std.proofs.Common.{◌≡◌, ℕ, zero, suc, ◌<◌, ◌≤◌, List, [], ◌∷◌, ◌++◌, length, Option, Some, None, refl, sym, ap, subst, ◌∙◌, arith, inl, inr}
+use Rattle.ssb_sql.specs.declared.token.Token.{Token}
+use Rattle.ssb_sql.specs.declared.token.Token.TheVariants.{Fixed}
+use Rattle.ssb_sql.specs.declared.token.Sign.{Sign}
+use Rattle.ssb_sql.specs.declared.token.Sign.TheVariants as s
+use Rattle.ssb_sql.specs.Forms.{Spelling, IsMore, IsList}
+use Rattle.ssb_sql.specs.Forms.IsMore.{no_more, comma}
+use Rattle.ssb_sql.specs.Forms.IsList.{list}
+use Rattle.ssb_sql.specs.Grammar.{IsWithin}
+use Rattle.ssb_sql.specs.Steps.{◌>>=◌, Parser, after, turn_at, chain_at, with_front, more_at, list_at, closed_at}
+use Rattle.ssb_sql.proofs.StepFacts.{some_is, bind_some, after_is, after_shorter, Stops, stops, sees}
+use Rattle.ssb_sql.proofs.Loop.{Shrinks}
+
+-- what p reads is in R
+pub record Sound {A : Type 0} (p : Parser A) (R : Spelling A) : Type 0 where
+  pub by : (ts : List Token) (x : A × List Token) → p ts ≡ Some x → R ts x.1 x.0
+
+-- what R spells is not empty, and leaves the open parentheses as they were
+pub record Tame {A : Type 0} (R : Spelling A) : Type 0 where
+  pub shorter : {from to : List Token} {x : A} → R from to x → length to < length from
+  pub within : {from to : List Token} {x : A} → R from to x → (d : ℕ) → IsWithin d from → IsWithin d to
+
+-- p reads what R spells, where F holds of what follows
+pub record Complete {A : Type 0} (p : Parser A) (R : Spelling A) (d : ℕ) (F : List Token → Type 0) : Type 0 where
+  pub by : {from to : List Token} {x : A} → R from to x → IsWithin d from → F to → p from ≡ Some (x, to)
+
+-- a spelling of one thing is a spelling of the same thing
+pub spells : {A : Type 0} (R : Spelling A) (ts to : List Token) (y : A) (x : A × List Token) → R ts to y → Some (y, to) ≡ Some x → R ts x.1 x.0
+spells R ts to y x h e = subst (λ z. R ts z.1 z.0) (some_is (y, to) x e) h
+
+pub starts : {A : Type 0} (R : Spelling A) (ts us to : List Token) (x : A) → ts ≡ us → R us to x → R ts to x
+starts R ts us to x e h = subst (λ vs. R vs to x) (sym e) h
+
+pub begins : {A : Type 0} (R : Spelling A) (sign : Sign) (ts rest to : List Token) (x : A) → after sign ts ≡ Some rest → R (Fixed sign ∷ rest) to x → R ts to x
+begins R sign ts rest to x a h = subst (λ us. R us to x) (sym (after_is sign ts rest a)) h
+
+pub followed : {A : Type 0} (R : Spelling A) (sign : Sign) (ts mid rest : List Token) (x : A) → after sign mid ≡ Some rest → R ts mid x → R ts (Fixed sign ∷ rest) x
+followed R sign ts mid rest x a h = subst (λ us. R ts us x) (after_is sign mid rest a) h
+
+nil_stops : (sign : Sign) → after sign [] ≡ None
+unfolding after
+nil_stops sign = refl
+
+pub shrinks : {A : Type 0} (sign : Sign) (p : Parser A) (R : Spelling A) → Sound p R → Tame R → Shrinks (after sign) p
+shrinks sign p R h t = record {
+  nil = nil_stops sign;
+  by = λ ts l x a e. let lt = after_shorter sign ts l a in let m = t.shorter (h.by l x e) in omega arith;
+}
+
+-- what stands before a `)`, and what stands in parentheses
+pub sound_closed : {A : Type 0} (p : Parser A) (R : Spelling A) → Sound p R → (ts : List Token) (x : A × List Token) → closed_at p ts ≡ Some x → R ts (Fixed s.Close ∷ x.1) x.0
+unfolding closed_at
+sound_closed p R h ts x e =
+    let f = bind_some (p ts) (λ y. after s.Close y.1 >>= λ to. Some (y.0, to)) x e in
+    let g = bind_some (after s.Close f.0.1) (λ to. Some (f.0.0, to)) x f.2 in
+    subst (λ y. R ts (Fixed s.Close ∷ y.1) y.0) (some_is (f.0.0, g.0) x g.2) (followed R s.Close ts f.0.1 g.0 f.0.0 g.1 (h.by ts f.0 f.1))
+
+pub closed_read : {A : Type 0} (p : Parser A) (ts to : List Token) (x : A) → p ts ≡ Some (x, Fixed s.Close ∷ to) → closed_at p ts ≡ Some (x, to)
+unfolding closed_at
+closed_read p ts to x e = rw (e, sees s.Close to) refl
+
+-- a chain is none or more pieces
+pub record IsChain {A L : Type 0} (link : List Token → Option L) (piece : L → Option (A × List Token)) (S : List Token → List Token → List A → Type 0) : Type 0 where
+  pub none : (to : List Token) → S to to []
+  pub more : (ts to : List Token) (l : L) (x : A × List Token) (xs : List A) → link ts ≡ Some l → piece l ≡ Some x → S x.1 to xs → S ts to (x.0 ∷ xs)
+
+module _ {A L : Type 0} (link : List Token → Option L) (piece : L → Option (A × List Token)) (S : List Token → List Token → List A → Type 0) (chain : IsChain link piece S) where
+  sound_turn : (n : ℕ) (ts : List Token) (xs : List A × List Token) (o : Option L) → link ts ≡ o
+      → ((us : List Token) (ys : List A × List Token) → chain_at link piece n us ≡ Some ys → S us ys.1 ys.0)
+      → turn_at piece (chain_at link piece n) ts o ≡ Some xs → S ts xs.1 xs.0
+  sound_turn n ts xs None a rest e = spells S ts ts [] xs (chain.none ts) e
+  sound_turn n ts xs (Some l) a rest e =
+      let f = bind_some (piece l) (λ x. chain_at link piece n x.1 >>= λ ys. Some (x.0 ∷ ys.0, ys.1)) xs e in
+      let g = bind_some (chain_at link piece n f.0.1) (λ ys. Some (f.0.0 ∷ ys.0, ys.1)) xs f.2 in
+      spells S ts g.0.1 (f.0.0 ∷ g.0.0) xs (chain.more ts g.0.1 l f.0 g.0.0 a f.1 (rest f.0.1 g.0 g.1)) g.2
+
+  sound_chain : (n : ℕ) (ts : List Token) (xs : List A × List Token) → chain_at link piece n ts ≡ Some xs → S ts xs.1 xs.0
+  unfolding chain_at
+  sound_chain zero ts xs e = spells S ts ts [] xs (chain.none ts) e
+  sound_chain (suc n) ts xs e = sound_turn n ts xs (link ts) refl (sound_chain n) e
+
+  pub sound_more : (front : List A) (ts : List Token) (xs : List A × List Token) → more_at link piece front ts ≡ Some xs → (ys : List A) × S ts xs.1 ys × (front ++ ys ≡ xs.0)
+  unfolding more_at
+  sound_more front ts xs e =
+      let f = bind_some (chain_at link piece (length ts) ts) (λ y. Some (front ++ y.0, y.1)) xs e in
+      let same = some_is (front ++ f.0.0, f.0.1) xs f.2 in
+      (f.0.0, subst (λ (to : List Token). S ts to f.0.0) (ap (λ z. z.1) same) (sound_chain (length ts) ts f.0 f.1), ap (λ z. z.0) same)
+
+module _ {A : Type 0} (p : Parser A) (R : Spelling A) (h : Sound p R) where
+  commas : IsChain (after s.Comma) p (IsMore R)
+  commas = record {
+    none = λ to. no_more;
+    more = λ ts to l x xs a e m. begins (IsMore R) s.Comma ts l to (x.0 ∷ xs) a (comma (h.by l x e) m);
+  }
+
+  pub sound_list : Sound (list_at p) (IsList R)
+  unfolding list_at
+  sound_list = record {
+    by = λ ts xs e.
+        let f = bind_some (p ts) (λ x. more_at (after s.Comma) p (x.0 ∷ []) x.1) xs e in
+        let g = sound_more (after s.Comma) p (IsMore R) commas (f.0.0 ∷ []) f.0.1 xs f.2 in
+        subst (λ ys. IsList R ts xs.1 ys) g.2 (list (h.by ts f.0 f.1) g.1);
+  }
+
+module _ {A : Type 0} (R : Spelling A) (t : Tame R) where
+  more_shorter : {from to : List Token} {xs : List A} → IsMore R from to xs → length to ≤ length from
+  more_shorter no_more = omega arith
+  more_shorter (comma a b) = let p = t.shorter a in let q = more_shorter b in omega arith
+
+  more_within : {from to : List Token} {xs : List A} → IsMore R from to xs → (d : ℕ) → IsWithin d from → IsWithin d to
+  more_within no_more d h = h
+  more_within (comma a b) d h = more_within b d (t.within a d h)
+
+  list_shorter : {from to : List Token} {xs : List A} → IsList R from to xs → length to < length from
+  list_shorter (list a b) = let p = t.shorter a in let q = more_shorter b in omega arith
+
+  list_within : {from to : List Token} {xs : List A} → IsList R from to xs → (d : ℕ) → IsWithin d from → IsWithin d to
+  list_within (list a b) d h = more_within b d (t.within a d h)
+
+  pub tame_list : Tame (IsList R)
+  tame_list = record { shorter = λ h. list_shorter h; within = λ h d w. list_within h d w }
+
+-- what a chain reads where its parts are read
+module _ {A L : Type 0} (link : List Token → Option L) (piece : L → Option (A × List Token)) where
+  pub turn_done : (n : ℕ) (to : List Token) → link to ≡ None → chain_at link piece n to ≡ Some ([], to)
+  unfolding chain_at
+  turn_done zero to h = refl
+  turn_done (suc n) to h = ap (turn_at piece (chain_at link piece n) to) h
+
+  pub turn_goes : (n : ℕ) (ts mid to : List Token) (l : L) (x : A) (xs : List A) → link ts ≡ Some l → piece l ≡ Some (x, mid) → chain_at link piece n mid ≡ Some (xs, to) → chain_at link piece (suc n) ts ≡ Some (x ∷ xs, to)
+  unfolding chain_at
+  turn_goes n ts mid to l x xs a e f =
+      ap (turn_at piece (chain_at link piece n) ts) a ∙ ap (λ o. o >>= λ y. chain_at link piece n y.1 >>= λ ys. Some (y.0 ∷ ys.0, ys.1)) e ∙ ap (λ o. o >>= λ ys. Some (x ∷ ys.0, ys.1)) f
+
+  pub more_goes : (front xs : List A) (ts to : List Token) → chain_at link piece (length ts) ts ≡ Some (xs, to) → more_at link piece front ts ≡ Some (front ++ xs, to)
+  unfolding more_at
+  more_goes front xs ts to e = ap (with_front front) e
+
+-- what may follow each member of a list
+pub record GoesOn (F : List Token → Type 0) : Type 0 where
+  pub comma : (ts : List Token) → F (Fixed s.Comma ∷ ts)
+
+module _ {A : Type 0} (p : Parser A) (R : Spelling A) (t : Tame R) (d : ℕ) (F : List Token → Type 0) (g : GoesOn F) (h : Complete p R d F) where
+  more_ends : {from to : List Token} {xs : List A} → IsMore R from to xs → F to → F from
+  more_ends no_more f = f
+  more_ends (comma {from = from} a b) f = g.comma from
+
+  more_read : {from to : List Token} {xs : List A} → IsMore R from to xs → (k : ℕ) → IsWithin d from → length from ≤ k → F to → Stops s.Comma to → chain_at (after s.Comma) p k from ≡ Some (xs, to)
+  more_read (no_more {to = to}) k w l f n = turn_done (after s.Comma) p k to n
+  more_read (comma a b) zero w l f n = absurd (omega arith)
+  more_read (comma {from = from} {mid = mid} {to = to} {x = x} {xs = xs} a b) (suc k) w l f n =
+      let lt = t.shorter a in
+      turn_goes (after s.Comma) p k (Fixed s.Comma ∷ from) mid to from x xs (sees s.Comma from) (h.by a w (more_ends b f)) (more_read b k (t.within a d w) (omega arith) f n)
+
+  pub list_read : {from to : List Token} {xs : List A} → IsList R from to xs → IsWithin d from → F to → Stops s.Comma to → list_at p from ≡ Some (xs, to)
+  unfolding list_at
+  list_read (list {from = from} {mid = mid} {to = to} {x = x} {xs = xs} a b) w f n =
+      ap (λ o. o >>= λ y. more_at (after s.Comma) p (y.0 ∷ []) y.1) (h.by a w (more_ends b f)) ∙ more_goes (after s.Comma) p (x ∷ []) xs mid to (more_read b (length mid) (t.within a d w) (omega arith) f n)

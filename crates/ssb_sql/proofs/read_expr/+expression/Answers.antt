@@ -1,0 +1,38 @@
+use Rattle.std.proofs.Common.{◌≡◌, sym, refl}
+use Rattle.std.proofs.lemmas.Result.{err_from_is_err_and}
+use Rattle.ssb_sql.specs.declared.token.Sign.TheVariants as s
+use Rattle.ssb_sql.specs.Steps.{after, more_at}
+use Rattle.ssb_sql.specs.ReadExpressions.{factor_at, adding_at, step_at, expr_at}
+use Rattle.ssb_sql.proofs.Loop.{goes_on, is_done, turn_fails, shorter_by}
+use Rattle.ssb_sql.proofs.ExpressionSound.{factor_shrinks, step_shrinks}
+use Rattle.ssb_sql.proofs.read_expr.+expression.Goals as goal
+
+pub more_factors-returns-in_err-found : goal.more_factors-returns-in_err-found
+more_factors-returns-in_err-found t c =
+    let q = err_from_is_err_and c.from_residual.result c.from_residual.ensures.1 in
+    rw (q.1, q.2) (turn_fails (after s.Times) (factor_at (expr_at c.args.depth)) (factor_shrinks c.args.depth) c.in_err-found.field-0.0 c.loop-start.all c.loop-start.rest.now c.in-Some.start.now (more_at (after s.Times) (factor_at (expr_at c.args.depth)) c.args.front c.args.tokens.now) (sym c.in-Some.ensures) c.in_err-found.ensures c.loop-start.invariant)
+
+pub more_factors-loop-start-smaller : goal.more_factors-loop-start-smaller
+more_factors-loop-start-smaller t c = shorter_by (after s.Times) (factor_at (expr_at c.args.depth)) (factor_shrinks c.args.depth) c.loop-start.rest.now c.in_ok-found.end.now c.in-Some.start.now c.in_ok-found.found (sym c.in-Some.ensures) c.in_ok-found.ensures
+
+pub more_factors-loop-start-preserved : goal.more_factors-loop-start-preserved
+more_factors-loop-start-preserved t c =
+    rw c.in_ok-push.ensures.ok (goes_on (after s.Times) (factor_at (expr_at c.args.depth)) (factor_shrinks c.args.depth) c.loop-start.all c.loop-start.rest.now c.in_ok-found.end.now c.in-Some.start.now c.in_ok-found.found (more_at (after s.Times) (factor_at (expr_at c.args.depth)) c.args.front c.args.tokens.now) (sym c.in-Some.ensures) c.in_ok-found.ensures c.loop-start.invariant)
+
+pub more_factors-returns : goal.more_factors-returns
+more_factors-returns t c = is_done (after s.Times) (factor_at (expr_at c.args.depth)) (factor_shrinks c.args.depth) c.loop-start.all c.loop-start.rest.now (more_at (after s.Times) (factor_at (expr_at c.args.depth)) c.args.front c.args.tokens.now) (sym c.in_default.ensures) c.loop-start.invariant
+
+pub more_terms-returns-in_err-found : goal.more_terms-returns-in_err-found
+more_terms-returns-in_err-found t c =
+    let q = err_from_is_err_and c.from_residual.result c.from_residual.ensures.1 in
+    rw (q.1, q.2) (turn_fails adding_at (step_at (expr_at c.args.depth)) (step_shrinks c.args.depth) c.in_err-found.field-0.0 c.loop-adding.all c.loop-adding.rest.now (c.in-Some.adding, c.in-Some.start.now) (more_at adding_at (step_at (expr_at c.args.depth)) c.args.front c.args.tokens.now) (sym c.in-Some.ensures) c.in_err-found.ensures c.loop-adding.invariant)
+
+pub more_terms-loop-adding-smaller : goal.more_terms-loop-adding-smaller
+more_terms-loop-adding-smaller t c = shorter_by adding_at (step_at (expr_at c.args.depth)) (step_shrinks c.args.depth) c.loop-adding.rest.now c.in_ok-found.end.now (c.in-Some.adding, c.in-Some.start.now) c.in_ok-found.found (sym c.in-Some.ensures) c.in_ok-found.ensures
+
+pub more_terms-loop-adding-preserved : goal.more_terms-loop-adding-preserved
+more_terms-loop-adding-preserved t c =
+    rw c.in_ok-push.ensures.ok (goes_on adding_at (step_at (expr_at c.args.depth)) (step_shrinks c.args.depth) c.loop-adding.all c.loop-adding.rest.now c.in_ok-found.end.now (c.in-Some.adding, c.in-Some.start.now) c.in_ok-found.found (more_at adding_at (step_at (expr_at c.args.depth)) c.args.front c.args.tokens.now) (sym c.in-Some.ensures) c.in_ok-found.ensures c.loop-adding.invariant)
+
+pub more_terms-returns : goal.more_terms-returns
+more_terms-returns t c = is_done adding_at (step_at (expr_at c.args.depth)) (step_shrinks c.args.depth) c.loop-adding.all c.loop-adding.rest.now (more_at adding_at (step_at (expr_at c.args.depth)) c.args.front c.args.tokens.now) (sym c.in_default.ensures) c.loop-adding.invariant

@@ -1,0 +1,82 @@
+-- Which tokens spell which condition.
+-- Source: SQL-92, 8.2 <comparison predicate>, 8.3 <between predicate>, 8.4 <in predicate>, 8.6 <null predicate>
+-- and 8.12 <search condition>, cut down.
+-- The families take what spells an operand, or a test with no parentheses, as a parameter.
+use Rattle.std.specs.Prelude.{List, [], ◌∷◌}
+use Rattle.ssb_cells.specs.declared.value.Op.{Op}
+use Rattle.ssb_cells.specs.declared.value.Op.TheVariants as op
+use Rattle.ssb_sql.specs.declared.token.Token.{Token}
+use Rattle.ssb_sql.specs.declared.token.Token.TheVariants.{Fixed}
+use Rattle.ssb_sql.specs.declared.token.Sign.{Sign}
+use Rattle.ssb_sql.specs.declared.token.Sign.TheVariants as s
+use Rattle.ssb_sql.specs.declared.expr.ColumnName.{ColumnName}
+use Rattle.ssb_sql.specs.declared.condition.Literal.{Literal}
+use Rattle.ssb_sql.specs.declared.condition.Operand.{Operand}
+use Rattle.ssb_sql.specs.declared.condition.Condition.{Condition}
+use Rattle.ssb_sql.specs.declared.condition.Condition.TheVariants as c
+use Rattle.ssb_sql.specs.Forms.{Spelling, IsList, IsColumn, IsLiteral, IsOperand}
+
+-- op = "=" | "<>" | "<" | "<=" | ">" | ">="
+abbrev pub mark_of : Op → Sign
+mark_of op.Eq = s.Equal
+mark_of op.Ne = s.NotEqual
+mark_of op.Lt = s.Less
+mark_of op.Le = s.LessEqual
+mark_of op.Gt = s.Greater
+mark_of op.Ge = s.GreaterEqual
+
+-- a test with no parentheses round it, over operands that O spells
+pub data IsBare (O : Spelling Operand) : List Token → List Token → Condition → Type 0 where
+  -- operand op operand
+  compare : {from mid to : List Token} {op : Op} {x y : Operand} → O from (Fixed (mark_of op) ∷ mid) x → O mid to y → IsBare O from to (c.Compare op x y)
+  -- operand [NOT] BETWEEN operand AND operand
+  between : {from low high to : List Token} {x y z : Operand} → O from (Fixed s.Between ∷ low) x → O low (Fixed s.And ∷ high) y → O high to z → IsBare O from to (c.Between x y z)
+  not_between : {from low high to : List Token} {x y z : Operand} → O from (Fixed s.Not ∷ Fixed s.Between ∷ low) x → O low (Fixed s.And ∷ high) y → O high to z → IsBare O from to (c.NotBetween x y z)
+  -- operand [NOT] IN "(" literal {"," literal} ")"
+  among : {from mid to : List Token} {x : Operand} {ys : List Literal} → O from (Fixed s.In ∷ Fixed s.Open ∷ mid) x → IsList IsLiteral mid (Fixed s.Close ∷ to) ys → IsBare O from to (c.In x ys)
+  not_among : {from mid to : List Token} {x : Operand} {ys : List Literal} → O from (Fixed s.Not ∷ Fixed s.In ∷ Fixed s.Open ∷ mid) x → IsList IsLiteral mid (Fixed s.Close ∷ to) ys → IsBare O from to (c.NotIn x ys)
+  -- column IS [NOT] NULL
+  null : {from to : List Token} {x : ColumnName} → IsColumn from (Fixed s.Is ∷ Fixed s.Null ∷ to) x → IsBare O from to (c.IsNull x)
+  not_null : {from to : List Token} {x : ColumnName} → IsColumn from (Fixed s.Is ∷ Fixed s.Not ∷ Fixed s.Null ∷ to) x → IsBare O from to (c.IsNotNull x)
+
+-- a chain of one thing is that thing
+unfoldable pub any_of : List Condition → Condition
+any_of [] = c.Any []
+any_of (x ∷ []) = x
+any_of (x ∷ y ∷ ys) = c.Any (x ∷ y ∷ ys)
+
+unfoldable pub all_of : List Condition → Condition
+all_of [] = c.All []
+all_of (x ∷ []) = x
+all_of (x ∷ y ∷ ys) = c.All (x ∷ y ∷ ys)
+
+mutual
+  -- cond = conj {OR conj}
+  pub data IsCond (T : Spelling Condition) : List Token → List Token → Condition → Type 0 where
+    cond : {from mid to : List Token} {x : Condition} {xs : List Condition} → IsConj T from mid x → IsOrs T mid to xs → IsCond T from to (any_of (x ∷ xs))
+
+  pub data IsOrs (T : Spelling Condition) : List Token → List Token → List Condition → Type 0 where
+    no_or : {to : List Token} → IsOrs T to to []
+    or : {from mid to : List Token} {x : Condition} {xs : List Condition} → IsConj T from mid x → IsOrs T mid to xs → IsOrs T (Fixed s.Or ∷ from) to (x ∷ xs)
+
+  -- conj = neg {AND neg}
+  pub data IsConj (T : Spelling Condition) : List Token → List Token → Condition → Type 0 where
+    conj : {from mid to : List Token} {x : Condition} {xs : List Condition} → IsNeg T from mid x → IsAnds T mid to xs → IsConj T from to (all_of (x ∷ xs))
+
+  pub data IsAnds (T : Spelling Condition) : List Token → List Token → List Condition → Type 0 where
+    no_and : {to : List Token} → IsAnds T to to []
+    and : {from mid to : List Token} {x : Condition} {xs : List Condition} → IsNeg T from mid x → IsAnds T mid to xs → IsAnds T (Fixed s.And ∷ from) to (x ∷ xs)
+
+  -- neg = [NOT] test
+  pub data IsNeg (T : Spelling Condition) : List Token → List Token → Condition → Type 0 where
+    plain : {from to : List Token} {x : Condition} → IsTest T from to x → IsNeg T from to x
+    not : {from to : List Token} {x : Condition} → IsTest T from to x → IsNeg T (Fixed s.Not ∷ from) to (c.Not x)
+
+  -- test = "(" cond ")" | a test with no parentheses
+  pub data IsTest (T : Spelling Condition) : List Token → List Token → Condition → Type 0 where
+    parens : {from to : List Token} {x : Condition} → IsCond T from (Fixed s.Close ∷ to) x → IsTest T (Fixed s.Open ∷ from) to x
+    bare : {from to : List Token} {x : Condition} → T from to x → IsTest T from to x
+
+-- a condition of WHERE
+abbrev pub IsWhereCond : Spelling Condition
+IsWhereCond = IsCond (IsBare IsOperand)

@@ -1,0 +1,16 @@
+pub mod Class
+pub mod Conditions
+pub mod Exact
+pub mod Expressions
+pub mod Forms
+pub mod Grammar
+pub mod Lexes
+pub mod ReadConditions
+pub mod ReadExpressions
+pub mod ReadParts
+pub mod ReadSelects
+pub mod Room
+pub mod Scanning
+pub mod Spells
+pub mod Steps
+pub mod Tokens

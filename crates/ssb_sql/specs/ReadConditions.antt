@@ -1,0 +1,86 @@
+-- Reading conditions.
+use Rattle.std.specs.Prelude.{ℕ, zero, suc, Bool, true, false, if◌then◌else◌, List, [], ◌∷◌, Option, Some, None}
+use Rattle.ssb_cells.specs.declared.value.Op.{Op}
+use Rattle.ssb_cells.specs.declared.value.Op.TheVariants as op
+use Rattle.ssb_sql.specs.declared.token.Token.{Token}
+use Rattle.ssb_sql.specs.declared.token.Sign.TheVariants as s
+use Rattle.ssb_sql.specs.declared.condition.Literal.{Literal}
+use Rattle.ssb_sql.specs.declared.condition.Operand.{Operand}
+use Rattle.ssb_sql.specs.declared.condition.Operand.TheVariants as o
+use Rattle.ssb_sql.specs.declared.condition.Condition.{Condition}
+use Rattle.ssb_sql.specs.declared.condition.Condition.TheVariants as c
+use Rattle.ssb_sql.specs.Steps.{Parser, ◌>>=◌, choose, after, more_at, list_at, closed_at, parens_at}
+use Rattle.ssb_sql.specs.ReadParts.{literal_at, operand_at}
+use Rattle.ssb_sql.specs.Conditions.{any_of, all_of}
+
+-- an operator, and what follows
+unfoldable pub op_at : List Token → Option (Op × List Token)
+op_at ts =
+    choose (after s.Equal ts) (λ rest. Some (op.Eq, rest))
+    (choose (after s.NotEqual ts) (λ rest. Some (op.Ne, rest))
+    (choose (after s.Less ts) (λ rest. Some (op.Lt, rest))
+    (choose (after s.LessEqual ts) (λ rest. Some (op.Le, rest))
+    (choose (after s.Greater ts) (λ rest. Some (op.Gt, rest))
+    (choose (after s.GreaterEqual ts) (λ rest. Some (op.Ge, rest)) None)))))
+
+-- operand AND operand
+unfoldable pub limits_at : Parser (Operand × Operand)
+limits_at ts = operand_at ts >>= λ x. after s.And x.1 >>= λ rest. operand_at rest >>= λ y. Some ((x.0, y.0), y.1)
+
+-- "(" literal {"," literal} ")"
+abbrev pub members_at : Parser (List Literal)
+members_at = parens_at (list_at literal_at)
+
+abbrev pub between_of : Bool → Operand → Operand × Operand → Condition
+between_of true x l = c.NotBetween x l.0 l.1
+between_of false x l = c.Between x l.0 l.1
+
+abbrev pub in_of : Bool → Operand → List Literal → Condition
+in_of true x ys = c.NotIn x ys
+in_of false x ys = c.In x ys
+
+-- BETWEEN or IN, after the operand and a NOT if there is one
+unfoldable pub range_at : Bool → Operand → Parser Condition
+range_at negated x ts =
+    choose (after s.Between ts) (λ rest. limits_at rest >>= λ l. Some (between_of negated x l.0, l.1))
+    (after s.In ts >>= λ rest. members_at rest >>= λ ys. Some (in_of negated x ys.0, ys.1))
+
+-- [NOT] NULL, after the operand and IS
+unfoldable pub null_at : Operand → Parser Condition
+null_at (o.Literal x) ts = None
+null_at (o.Column x) ts =
+    choose (after s.Not ts) (λ rest. after s.Null rest >>= λ to. Some (c.IsNotNull x, to))
+    (after s.Null ts >>= λ to. Some (c.IsNull x, to))
+
+-- an operator and an operand, or BETWEEN or IN
+unfoldable pub compared_at : Operand → Parser Condition
+compared_at x ts =
+    choose (op_at ts) (λ l. operand_at l.1 >>= λ y. Some (c.Compare l.0 x y.0, y.1))
+    (range_at false x ts)
+
+-- what follows an operand
+unfoldable pub tail_at : Operand → Parser Condition
+tail_at x ts =
+    choose (after s.Not ts) (range_at true x)
+    (choose (after s.Is ts) (null_at x)
+    (compared_at x ts))
+
+unfoldable pub bare_at : Parser Condition
+bare_at ts = operand_at ts >>= λ x. tail_at x.0 x.1
+
+unfoldable pub test_at : Parser Condition → Parser Condition
+test_at inner ts = choose (after s.Open ts) (closed_at inner) (bare_at ts)
+
+unfoldable pub neg_at : Parser Condition → Parser Condition
+neg_at inner ts = choose (after s.Not ts) (λ rest. test_at inner rest >>= λ x. Some (c.Not x.0, x.1)) (test_at inner ts)
+
+unfoldable pub conj_at : Parser Condition → Parser Condition
+conj_at inner ts = neg_at inner ts >>= λ x. more_at (after s.And) (neg_at inner) (x.0 ∷ []) x.1 >>= λ xs. Some (all_of xs.0, xs.1)
+
+abbrev pub disj_at : Parser Condition → Parser Condition
+disj_at inner ts = conj_at inner ts >>= λ x. more_at (after s.Or) (conj_at inner) (x.0 ∷ []) x.1 >>= λ xs. Some (any_of xs.0, xs.1)
+
+-- a condition with fewer than this many open parentheses
+unfoldable pub cond_at : ℕ → Parser Condition
+cond_at zero ts = None
+cond_at (suc d) ts = disj_at (cond_at d) ts

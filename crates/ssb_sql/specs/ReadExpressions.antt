@@ -1,0 +1,45 @@
+-- Reading expressions.
+use Rattle.std.specs.Prelude.{ℕ, zero, suc, Bool, true, false, if◌then◌else◌, List, [], ◌∷◌, Option, Some, None}
+use Rattle.ssb_sql.specs.declared.token.Token.{Token}
+use Rattle.ssb_sql.specs.declared.token.Sign.TheVariants as s
+use Rattle.ssb_sql.specs.declared.expr.Adding.{Adding}
+use Rattle.ssb_sql.specs.declared.expr.Adding.TheVariants as a
+use Rattle.ssb_sql.specs.declared.expr.Step.{Step}
+use Rattle.ssb_sql.specs.declared.expr.Expr.{Expr}
+use Rattle.ssb_sql.specs.declared.expr.Expr.TheVariants as e
+use Rattle.ssb_sql.specs.Steps.{Parser, ◌>>=◌, choose, after, number_at, is_name_next, more_at, closed_at}
+use Rattle.ssb_sql.specs.ReadParts.{column_at}
+use Rattle.ssb_sql.specs.Expressions.{sum_of, times_of}
+
+unfoldable pub bare_primary_at : Parser Expr
+bare_primary_at ts =
+    if is_name_next ts then (column_at ts >>= λ x. Some (e.Column x.0, x.1))
+    else (number_at ts >>= λ x. Some (e.Number x.0, x.1))
+
+unfoldable pub primary_at : Parser Expr → Parser Expr
+primary_at inner ts = choose (after s.Open ts) (closed_at inner) (bare_primary_at ts)
+
+unfoldable pub factor_at : Parser Expr → Parser Expr
+factor_at inner ts =
+    choose (after s.Plus ts) (λ rest. primary_at inner rest >>= λ x. Some (e.Positive x.0, x.1))
+    (choose (after s.Minus ts) (λ rest. primary_at inner rest >>= λ x. Some (e.Negative x.0, x.1))
+    (primary_at inner ts))
+
+unfoldable pub term_at : Parser Expr → Parser Expr
+term_at inner ts = factor_at inner ts >>= λ x. more_at (after s.Times) (factor_at inner) (x.0 ∷ []) x.1 >>= λ xs. Some (times_of xs.0, xs.1)
+
+-- `+` or `-`, and what follows
+unfoldable pub adding_at : List Token → Option (Adding × List Token)
+adding_at ts = choose (after s.Plus ts) (λ rest. Some (a.Plus, rest)) (choose (after s.Minus ts) (λ rest. Some (a.Minus, rest)) None)
+
+-- a term behind its sign
+unfoldable pub step_at : Parser Expr → Adding × List Token → Option (Step × List Token)
+step_at inner l = term_at inner l.1 >>= λ x. Some (record { adding = l.0; term = x.0 }, x.1)
+
+abbrev pub sum_at : Parser Expr → Parser Expr
+sum_at inner ts = term_at inner ts >>= λ x. more_at adding_at (step_at inner) [] x.1 >>= λ xs. Some (sum_of x.0 xs.0, xs.1)
+
+-- an expression with fewer than this many open parentheses
+unfoldable pub expr_at : ℕ → Parser Expr
+expr_at zero ts = None
+expr_at (suc d) ts = sum_at (expr_at d) ts

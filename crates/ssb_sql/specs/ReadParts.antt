@@ -1,0 +1,39 @@
+-- Reading columns, literals and operands.
+use Rattle.std.specs.Prelude.{ℕ, ◌≤◌, nat_le, Bool, true, false, if◌then◌else◌, List, [], ◌∷◌, Option, Some, None, ℤ, pos, neg_ℤ}
+use Rattle.ssb_sql.specs.declared.token.Token.{Token}
+use Rattle.ssb_sql.specs.declared.token.Sign.TheVariants as s
+use Rattle.ssb_sql.specs.declared.expr.ColumnName.{ColumnName}
+use Rattle.ssb_sql.specs.declared.condition.Literal.{Literal}
+use Rattle.ssb_sql.specs.declared.condition.Literal.TheVariants as l
+use Rattle.ssb_sql.specs.declared.condition.Operand.{Operand}
+use Rattle.ssb_sql.specs.declared.condition.Operand.TheVariants as o
+use Rattle.ssb_sql.specs.Steps.{Parser, ◌>>=◌, choose, after, name_at, number_at, text_at, is_name_next, is_text_next}
+
+abbrev pub column_of : Option (List ℕ) → List ℕ → ColumnName
+column_of t n = record { table = t; column = n }
+
+unfoldable pub column_at : Parser ColumnName
+column_at ts = name_at ts >>= λ x. choose (after s.Dot x.1) (λ rest. name_at rest >>= λ y. Some (column_of (Some x.0) y.0, y.1)) (Some (column_of None x.0, x.1))
+
+-- a number that fits, and the same below 0
+unfoldable pub small_at : Parser ℤ
+small_at ts = number_at ts >>= λ x. if nat_le x.0 9223372036854775807 then Some (pos x.0, x.1) else None
+
+unfoldable pub below_at : Parser ℤ
+below_at ts = number_at ts >>= λ x. if nat_le x.0 9223372036854775807 then Some (neg_ℤ (pos x.0), x.1) else None
+
+unfoldable pub plain_literal_at : Parser Literal
+plain_literal_at ts =
+    if is_text_next ts then (text_at ts >>= λ x. Some (l.Text x.0, x.1))
+    else (small_at ts >>= λ x. Some (l.Number x.0, x.1))
+
+unfoldable pub literal_at : Parser Literal
+literal_at ts =
+    choose (after s.Plus ts) (λ rest. small_at rest >>= λ x. Some (l.Number x.0, x.1))
+    (choose (after s.Minus ts) (λ rest. below_at rest >>= λ x. Some (l.Number x.0, x.1))
+    (plain_literal_at ts))
+
+unfoldable pub operand_at : Parser Operand
+operand_at ts =
+    if is_name_next ts then (column_at ts >>= λ x. Some (o.Column x.0, x.1))
+    else (literal_at ts >>= λ x. Some (o.Literal x.0, x.1))

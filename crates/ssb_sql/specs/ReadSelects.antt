@@ -1,0 +1,79 @@
+-- Reading queries.
+use Rattle.std.specs.Prelude.{ℕ, suc, Bool, true, false, if◌then◌else◌, List, [], ◌∷◌, Option, Some, None}
+use Rattle.ssb_sql.specs.declared.token.Token.{Token}
+use Rattle.ssb_sql.specs.declared.token.Sign.TheVariants as s
+use Rattle.ssb_sql.specs.declared.expr.ColumnName.{ColumnName}
+use Rattle.ssb_sql.specs.declared.condition.Condition.{Condition}
+use Rattle.ssb_sql.specs.declared.select.Output.{Output}
+use Rattle.ssb_sql.specs.declared.select.Output.TheVariants as u
+use Rattle.ssb_sql.specs.declared.select.Item.{Item}
+use Rattle.ssb_sql.specs.declared.select.Key.{Key}
+use Rattle.ssb_sql.specs.declared.select.Key.TheVariants as k
+use Rattle.ssb_sql.specs.declared.select.Order.{Order}
+use Rattle.ssb_sql.specs.declared.select.Select.{Select}
+use Rattle.ssb_sql.specs.Steps.{Parser, ◌>>=◌, choose, after, name_at, number_at, is_name_next, list_at, closed_at, parens_at}
+use Rattle.ssb_sql.specs.ReadParts.{column_at}
+use Rattle.ssb_sql.specs.ReadExpressions.{expr_at}
+use Rattle.ssb_sql.specs.ReadConditions.{cond_at}
+
+-- what follows COUNT and its `(`
+unfoldable pub count_at : ℕ → Parser Output
+count_at d ts =
+    choose (after s.Times ts) (λ rest. after s.Close rest >>= λ to. Some (u.CountRows, to))
+    (closed_at (expr_at d) ts >>= λ x. Some (u.Count x.0, x.1))
+
+unfoldable pub output_at : ℕ → Parser Output
+output_at d ts =
+    choose (after s.Sum ts) (λ rest. parens_at (expr_at d) rest >>= λ x. Some (u.Sum x.0, x.1))
+    (choose (after s.Count ts) (λ rest. after s.Open rest >>= λ inside. count_at d inside)
+    (column_at ts >>= λ x. Some (u.Column x.0, x.1)))
+
+abbrev pub item_of : Output → Option (List ℕ) → Item
+item_of x n = record { output = x; alias = n }
+
+unfoldable pub item_at : ℕ → Parser Item
+item_at d ts =
+    output_at d ts >>= λ x. choose (after s.As x.1) (λ rest. name_at rest >>= λ n. Some (item_of x.0 (Some n.0), n.1)) (Some (item_of x.0 None, x.1))
+
+unfoldable pub where_at : ℕ → Parser (Option Condition)
+where_at d ts = choose (after s.Where ts) (λ rest. cond_at d rest >>= λ x. Some (Some x.0, x.1)) (Some (None, ts))
+
+unfoldable pub groups_at : Parser (List ColumnName)
+groups_at ts = choose (after s.Group ts) (λ rest. after s.By rest >>= λ start. list_at column_at start) (Some ([], ts))
+
+unfoldable pub key_at : Parser Key
+key_at ts =
+    if is_name_next ts then (name_at ts >>= λ x. Some (k.Name x.0, x.1))
+    else (number_at ts >>= λ x. Some (k.Position x.0, x.1))
+
+abbrev pub order_of : Key → Bool → Order
+order_of x descending = record { key = x; descending = descending }
+
+unfoldable pub order_at : Parser Order
+order_at ts =
+    key_at ts >>= λ x. choose (after s.Asc x.1) (λ rest. Some (order_of x.0 false, rest))
+    (choose (after s.Desc x.1) (λ rest. Some (order_of x.0 true, rest)) (Some (order_of x.0 false, x.1)))
+
+unfoldable pub orders_at : Parser (List Order)
+orders_at ts = choose (after s.Order ts) (λ rest. after s.By rest >>= λ start. list_at order_at start) (Some ([], ts))
+
+abbrev pub is_nil : List Token → Bool
+is_nil [] = true
+is_nil (t ∷ ts) = false
+
+-- the end, or a `;` and the end
+unfoldable pub ends : List Token → Bool
+ends ts = choose (after s.Semicolon ts) is_nil (is_nil ts)
+
+abbrev pub select_of : List Item → List (List ℕ) → Option Condition → List ColumnName → List Order → Select
+select_of items from condition groups orders = record { items = items; from = from; condition = condition; groups = groups; orders = orders }
+
+-- what follows the names of FROM
+unfoldable pub rest_at : ℕ → List Item → List (List ℕ) → Parser Select
+rest_at d items from ts =
+    where_at (suc d) ts >>= λ w. groups_at w.1 >>= λ g. orders_at g.1 >>= λ o. Some (select_of items from w.0 g.0 o.0, o.1)
+
+-- a query with no `;`, with at most this many open parentheses
+unfoldable pub query_at : ℕ → Parser Select
+query_at d ts =
+    after s.Select ts >>= λ start. list_at (item_at d) start >>= λ items. after s.From items.1 >>= λ tables. list_at name_at tables >>= λ from. rest_at d items.0 from.0 from.1

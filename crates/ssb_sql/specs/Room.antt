@@ -1,0 +1,14 @@
+-- How many more `(` there may be.
+use Rattle.std.specs.Prelude.{ℕ, zero, suc, ◌+◌, Option, Some, None, if◌then◌else◌}
+use Rattle.ssb_sql.specs.declared.token.Token.{Token}
+use Rattle.ssb_sql.specs.declared.token.Token.TheVariants.{Fixed}
+use Rattle.ssb_sql.specs.declared.token.Sign.TheVariants as s
+use Rattle.ssb_sql.specs.Steps.{is_fixed}
+
+abbrev pub one_less : ℕ → Option ℕ
+one_less zero = None
+one_less (suc n) = Some n
+
+-- after one token
+unfoldable pub room_after : ℕ → Token → Option ℕ
+room_after n t = if is_fixed s.Open t then one_less n else Some (if is_fixed s.Close t then n + 1 else n)

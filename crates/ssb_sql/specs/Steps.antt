@@ -1,0 +1,141 @@
+-- Reading from left to right: what every reader is made of.
+use Rattle.std.specs.Prelude.{◌≡◌, ℕ, zero, suc, Bool, true, false, if◌then◌else◌, ◌==◌, List, [], ◌∷◌, ◌++◌, length, Option, Some, None, Result, Ok, Err}
+use Rattle.std.specs.Borrow.{Bor}
+use Rattle.ssb_sql.specs.declared.token.Token.{Token}
+use Rattle.ssb_sql.specs.declared.token.Token.TheVariants.{Fixed, Name, Number, Text}
+use Rattle.ssb_sql.specs.declared.token.Sign.{Sign}
+use Rattle.ssb_sql.specs.declared.token.Sign.TheVariants as s
+use Rattle.ssb_sql.specs.declared.steps.Stop.{Stop}
+use Rattle.ssb_sql.specs.declared.steps.Stop.TheVariants as stop
+
+-- what was read, and what follows it
+abbrev pub Parser : Type 0 → Type 0
+Parser A = List Token → Option (A × List Token)
+
+infixl 10 ◌>>=◌
+abbrev pub ◌>>=◌ : {A B : Type 0} → Option A → (A → Option B) → Option B
+None >>= f = None
+(Some x) >>= f = f x
+
+-- f where there is something, else g
+abbrev pub choose : {A B : Type 0} → Option A → (A → B) → B → B
+choose None f g = g
+choose (Some x) f g = f x
+
+-- what a function returned is what reading gives, unless memory ran out
+abbrev pub Fails : {Y : Type 0} → Stop → Option Y → Type 0
+Fails stop.Memory read = Unit {0}
+Fails stop.Syntax read = read ≡ None
+
+abbrev pub Gives : {X Y : Type 0} → (X → Y) → Result X Stop → Option Y → Type 0
+Gives view (Ok x) read = read ≡ Some (view x)
+Gives view (Err e) read = Fails e read
+
+abbrev pub seen : {A : Type 0} → A × Bor (List Token) → A × List Token
+seen x = (x.0, x.1.now)
+
+abbrev pub seen_if : {A : Type 0} → Option (A × Bor (List Token)) → Option (A × List Token)
+seen_if None = None
+seen_if (Some x) = Some (seen x)
+
+abbrev pub code : Sign → ℕ
+code s.Select = 0
+code s.From = 1
+code s.Where = 2
+code s.Group = 3
+code s.By = 4
+code s.Order = 5
+code s.And = 6
+code s.Or = 7
+code s.Not = 8
+code s.Between = 9
+code s.In = 10
+code s.Is = 11
+code s.Null = 12
+code s.As = 13
+code s.Asc = 14
+code s.Desc = 15
+code s.Sum = 16
+code s.Count = 17
+code s.Min = 18
+code s.Max = 19
+code s.Having = 20
+code s.Open = 21
+code s.Close = 22
+code s.Comma = 23
+code s.Dot = 24
+code s.Semicolon = 25
+code s.Plus = 26
+code s.Minus = 27
+code s.Times = 28
+code s.Equal = 29
+code s.NotEqual = 30
+code s.Less = 31
+code s.LessEqual = 32
+code s.Greater = 33
+code s.GreaterEqual = 34
+
+unfoldable pub is_sign : Sign → Sign → Bool
+is_sign a b = code a == code b
+
+unfoldable pub is_fixed : Sign → Token → Bool
+is_fixed sign (Fixed found) = is_sign found sign
+is_fixed sign (Name n) = false
+is_fixed sign (Number n) = false
+is_fixed sign (Text t) = false
+
+-- what follows the sign, where it comes next
+unfoldable pub after : Sign → List Token → Option (List Token)
+after sign [] = None
+after sign (t ∷ ts) = if is_fixed sign t then Some ts else None
+
+-- a name, a number or a text, where it comes next
+unfoldable pub name_at : Parser (List ℕ)
+name_at (Name n ∷ ts) = Some (n, ts)
+name_at _ = None
+
+unfoldable pub number_at : Parser ℕ
+number_at (Number n ∷ ts) = Some (n, ts)
+number_at _ = None
+
+unfoldable pub text_at : Parser (List ℕ)
+text_at (Text t ∷ ts) = Some (t, ts)
+text_at _ = None
+
+unfoldable pub is_name_next : List Token → Bool
+is_name_next (Name n ∷ ts) = true
+is_name_next _ = false
+
+unfoldable pub is_text_next : List Token → Bool
+is_text_next (Text t ∷ ts) = true
+is_text_next _ = false
+
+-- what a chain does where it goes on, and where it does not
+abbrev pub turn_at : {A L : Type 0} → (L → Option (A × List Token)) → Parser (List A) → List Token → Option L → Option (List A × List Token)
+turn_at piece more ts None = Some ([], ts)
+turn_at piece more ts (Some l) = piece l >>= λ x. more x.1 >>= λ xs. Some (x.0 ∷ xs.0, xs.1)
+
+-- at most n pieces, as long as the link says that there is one more
+unfoldable pub chain_at : {A L : Type 0} → (List Token → Option L) → (L → Option (A × List Token)) → ℕ → List Token → Option (List A × List Token)
+chain_at link piece zero ts = Some ([], ts)
+chain_at link piece (suc n) ts = turn_at piece (chain_at link piece n) ts (link ts)
+
+-- what was read before, and what is still read
+abbrev pub with_front : {A : Type 0} → List A → Option (List A × List Token) → Option (List A × List Token)
+with_front front read = read >>= λ x. Some (front ++ x.0, x.1)
+
+-- the pieces in front, and all that follow
+unfoldable pub more_at : {A L : Type 0} → (List Token → Option L) → (L → Option (A × List Token)) → List A → Parser (List A)
+more_at link piece front ts = with_front front (chain_at link piece (length ts) ts)
+
+-- p {"," p}
+unfoldable pub list_at : {A : Type 0} → Parser A → Parser (List A)
+list_at p ts = p ts >>= λ x. more_at (after s.Comma) p (x.0 ∷ []) x.1
+
+-- p ")"
+unfoldable pub closed_at : {A : Type 0} → Parser A → Parser A
+closed_at p ts = p ts >>= λ x. after s.Close x.1 >>= λ to. Some (x.0, to)
+
+-- "(" p ")"
+unfoldable pub parens_at : {A : Type 0} → Parser A → Parser A
+parens_at p ts = after s.Open ts >>= λ inside. closed_at p inside

@@ -1,0 +1,35 @@
+//! The query language: from a text to the one query that it spells.
+//!
+//! [`read`] accepts exactly the texts of the grammar. `specs/Tokens.antt` says which texts are lists
+//! of tokens, `specs/Grammar.antt` which tokens are queries; neither knows how the text is read.
+#![tactic(auto)]
+
+mod class;
+pub mod condition;
+pub mod expr;
+pub mod fault;
+pub mod lex;
+mod parse;
+mod read_condition;
+mod read_expr;
+mod read_item;
+mod read_parts;
+mod read_select;
+mod read_test;
+mod read_text;
+mod reserved;
+mod scan;
+pub mod select;
+mod steps;
+pub mod text;
+pub mod token;
+
+pub use condition::{Condition, Literal, Operand};
+pub use expr::{Adding, ColumnName, Expr, Step};
+pub use fault::SqlFault;
+pub use lex::one_list_of_tokens;
+pub use parse::one_meaning;
+pub use read_text::{one_select, read};
+pub use select::{Item, Key, Order, Output, Select};
+pub use text::Text;
+pub use token::{Sign, Token};

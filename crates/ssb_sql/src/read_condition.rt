@@ -1,0 +1,141 @@
+// Reading conditions. Only parentheses nest.
+
+ghost use Rattle.std.specs.Prelude.{◌≡◌, [], ◌∷◌};
+ghost use Rattle.ssb_sql.specs.Conditions.{any_of, all_of};
+ghost use Rattle.ssb_sql.specs.Steps.{Gives, seen, after, more_at, closed_at};
+ghost use Rattle.ssb_sql.specs.ReadConditions.{neg_at, conj_at, cond_at, test_at};
+ghost use Rattle.ssb_sql.specs.declared.token.Sign.TheVariants as s;
+
+use crate::condition::Condition;
+use crate::read_test::bare;
+use crate::steps::{Stop, after, expect};
+use crate::token::{Sign, Token};
+use sqlite_items::{Boxed, Items};
+use std::alloc::Global;
+
+#[tactic(auto, using(crate::proofs::Chains::any_one, crate::proofs::Chains::any_many))]
+fn any_of(mut all: Items<Condition>) -> Condition
+    ensures { result ≡ any_of all }
+{
+    if all.len() == 1 {
+        all.remove(0)
+    } else {
+        Condition::Any(all)
+    }
+}
+
+#[tactic(auto, using(crate::proofs::Chains::all_one, crate::proofs::Chains::all_many))]
+fn all_of(mut all: Items<Condition>) -> Condition
+    ensures { result ≡ all_of all }
+{
+    if all.len() == 1 {
+        all.remove(0)
+    } else {
+        Condition::All(all)
+    }
+}
+
+#[cycle(condition)]
+#[tactic(auto, unfolding(crate::specs::Steps::closed_at))]
+fn closed(alloc: Global, depth: usize, tokens: &[Token]) -> Result<(Condition, &[Token]), Stop>
+    ensures { Gives seen result (closed_at (cond_at depth) tokens.now) }
+{
+    let (found, rest) = condition(alloc, depth, tokens)?;
+    let rest = expect(rest, Sign::Close)?;
+    Ok((found, rest))
+}
+
+#[cycle(condition)]
+#[tactic(auto, unfolding(crate::specs::ReadConditions::test_at))]
+fn test(alloc: Global, depth: usize, tokens: &[Token]) -> Result<(Condition, &[Token]), Stop>
+    ensures { Gives seen result (test_at (cond_at depth) tokens.now) }
+{
+    match after(tokens, Sign::Open) {
+        Some(inside) => closed(alloc, depth, inside),
+        None => bare(alloc, tokens),
+    }
+}
+
+#[cycle(condition)]
+#[tactic(auto, unfolding(crate::specs::ReadConditions::neg_at))]
+fn negation(alloc: Global, depth: usize, tokens: &[Token]) -> Result<(Condition, &[Token]), Stop>
+    ensures { Gives seen result (neg_at (cond_at depth) tokens.now) }
+{
+    match after(tokens, Sign::Not) {
+        Some(rest) => {
+            let (found, rest) = test(alloc, depth, rest)?;
+            Ok((Condition::Not(Boxed::new(alloc, found)?), rest))
+        }
+        None => test(alloc, depth, tokens),
+    }
+}
+
+#[cycle(condition)]
+fn more_negations(
+    alloc: Global,
+    depth: usize,
+    front: Items<Condition>,
+    tokens: &[Token],
+) -> Result<(Items<Condition>, &[Token]), Stop>
+    ensures { Gives seen result (more_at (after s.And) (neg_at (cond_at depth)) front tokens.now) }
+{
+    let mut all = front;
+    let mut rest = tokens;
+    while let Some(start) = after(rest, Sign::And) {
+        let (found, end) = negation(alloc, depth, start)?;
+        all.push(found)?;
+        rest = end;
+    }
+    Ok((all, rest))
+}
+
+#[cycle(condition)]
+#[tactic(auto, unfolding(crate::specs::ReadConditions::conj_at))]
+fn conjunction(alloc: Global, depth: usize, tokens: &[Token]) -> Result<(Condition, &[Token]), Stop>
+    ensures { Gives seen result (conj_at (cond_at depth) tokens.now) }
+{
+    let (found, rest) = negation(alloc, depth, tokens)?;
+    let mut front = Items::new(alloc);
+    front.push(found)?;
+    let (all, rest) = more_negations(alloc, depth, front, rest)?;
+    Ok((all_of(all), rest))
+}
+
+#[cycle(condition)]
+fn more_conjunctions(
+    alloc: Global,
+    depth: usize,
+    front: Items<Condition>,
+    tokens: &[Token],
+) -> Result<(Items<Condition>, &[Token]), Stop>
+    ensures { Gives seen result (more_at (after s.Or) (conj_at (cond_at depth)) front tokens.now) }
+{
+    let mut all = front;
+    let mut rest = tokens;
+    while let Some(start) = after(rest, Sign::Or) {
+        let (found, end) = conjunction(alloc, depth, start)?;
+        all.push(found)?;
+        rest = end;
+    }
+    Ok((all, rest))
+}
+
+/// Reads a condition inside fewer than `depth` parentheses.
+#[cycle(condition)]
+#[tactic(auto, unfolding(crate::specs::ReadConditions::cond_at))]
+pub(crate) fn condition(
+    alloc: Global,
+    depth: usize,
+    tokens: &[Token],
+) -> Result<(Condition, &[Token]), Stop>
+    ensures { Gives seen result (cond_at depth tokens.now) }
+{
+    if depth == 0 {
+        return Err(Stop::Syntax);
+    }
+    let (found, rest) = conjunction(alloc, depth - 1, tokens)?;
+    let mut front = Items::new(alloc);
+    front.push(found)?;
+    let (all, rest) = more_conjunctions(alloc, depth - 1, front, rest)?;
+    Ok((any_of(all), rest))
+}

@@ -1,0 +1,182 @@
+// Reading expressions. Only parentheses nest.
+
+ghost use Rattle.std.specs.Prelude.{◌≡◌, [], ◌∷◌, IfOk};
+ghost use Rattle.ssb_sql.specs.Expressions.{sum_of, times_of};
+ghost use Rattle.ssb_sql.specs.Steps.{Gives, seen, seen_if, after, more_at, closed_at};
+ghost use Rattle.ssb_sql.specs.ReadExpressions.{bare_primary_at, primary_at, factor_at, term_at, adding_at, step_at, expr_at};
+ghost use Rattle.ssb_sql.specs.declared.token.Sign.TheVariants as s;
+
+use crate::expr::{Adding, Expr, Step};
+use crate::read_parts::column;
+use crate::steps::{Stop, after, expect, is_name_next, number};
+use crate::token::{Sign, Token};
+use sqlite_items::{Boxed, Items};
+use std::alloc::{AllocError, Global};
+
+#[tactic(auto, using(crate::proofs::Chains::sum_one, crate::proofs::Chains::sum_many))]
+fn sum_of(alloc: Global, first: Expr, steps: Items<Step>) -> Result<Expr, AllocError>
+    ensures { IfOk result (λ x. x ≡ sum_of first steps) }
+{
+    if steps.len() == 0 {
+        Ok(first)
+    } else {
+        Ok(Expr::Chain(Boxed::new(alloc, first)?, steps))
+    }
+}
+
+#[tactic(auto, using(crate::proofs::Chains::times_one, crate::proofs::Chains::times_many))]
+fn times_of(mut all: Items<Expr>) -> Expr
+    ensures { result ≡ times_of all }
+{
+    if all.len() == 1 {
+        all.remove(0)
+    } else {
+        Expr::Times(all)
+    }
+}
+
+#[tactic(auto, unfolding(crate::specs::ReadExpressions::bare_primary_at))]
+fn bare_primary(alloc: Global, tokens: &[Token]) -> Result<(Expr, &[Token]), Stop>
+    ensures { Gives seen result (bare_primary_at tokens.now) }
+{
+    if is_name_next(tokens) {
+        let (column, rest) = column(alloc, tokens)?;
+        Ok((Expr::Column(column), rest))
+    } else {
+        let (number, rest) = number(tokens)?;
+        Ok((Expr::Number(number), rest))
+    }
+}
+
+// Whether one more term follows, and how it is joined.
+#[tactic(auto, unfolding(crate::specs::ReadExpressions::adding_at))]
+fn adding(tokens: &[Token]) -> Option<(Adding, &[Token])>
+    ensures { seen_if result ≡ adding_at tokens.now }
+{
+    match after(tokens, Sign::Plus) {
+        Some(rest) => Some((Adding::Plus, rest)),
+        None => match after(tokens, Sign::Minus) {
+            Some(rest) => Some((Adding::Minus, rest)),
+            None => None,
+        },
+    }
+}
+
+#[cycle(expression)]
+#[tactic(auto, unfolding(crate::specs::Steps::closed_at))]
+fn closed(alloc: Global, depth: usize, tokens: &[Token]) -> Result<(Expr, &[Token]), Stop>
+    ensures { Gives seen result (closed_at (expr_at depth) tokens.now) }
+{
+    let (found, rest) = expression(alloc, depth, tokens)?;
+    let rest = expect(rest, Sign::Close)?;
+    Ok((found, rest))
+}
+
+#[cycle(expression)]
+#[tactic(auto, unfolding(crate::specs::ReadExpressions::primary_at))]
+fn primary(alloc: Global, depth: usize, tokens: &[Token]) -> Result<(Expr, &[Token]), Stop>
+    ensures { Gives seen result (primary_at (expr_at depth) tokens.now) }
+{
+    match after(tokens, Sign::Open) {
+        Some(inside) => closed(alloc, depth, inside),
+        None => bare_primary(alloc, tokens),
+    }
+}
+
+#[cycle(expression)]
+#[tactic(auto, unfolding(crate::specs::ReadExpressions::factor_at))]
+fn factor(alloc: Global, depth: usize, tokens: &[Token]) -> Result<(Expr, &[Token]), Stop>
+    ensures { Gives seen result (factor_at (expr_at depth) tokens.now) }
+{
+    if let Some(rest) = after(tokens, Sign::Plus) {
+        let (found, rest) = primary(alloc, depth, rest)?;
+        return Ok((Expr::Positive(Boxed::new(alloc, found)?), rest));
+    }
+    if let Some(rest) = after(tokens, Sign::Minus) {
+        let (found, rest) = primary(alloc, depth, rest)?;
+        return Ok((Expr::Negative(Boxed::new(alloc, found)?), rest));
+    }
+    primary(alloc, depth, tokens)
+}
+
+#[cycle(expression)]
+fn more_factors(
+    alloc: Global,
+    depth: usize,
+    front: Items<Expr>,
+    tokens: &[Token],
+) -> Result<(Items<Expr>, &[Token]), Stop>
+    ensures { Gives seen result (more_at (after s.Times) (factor_at (expr_at depth)) front tokens.now) }
+{
+    let mut all = front;
+    let mut rest = tokens;
+    while let Some(start) = after(rest, Sign::Times) {
+        let (found, end) = factor(alloc, depth, start)?;
+        all.push(found)?;
+        rest = end;
+    }
+    Ok((all, rest))
+}
+
+#[cycle(expression)]
+#[tactic(auto, unfolding(crate::specs::ReadExpressions::term_at))]
+fn term(alloc: Global, depth: usize, tokens: &[Token]) -> Result<(Expr, &[Token]), Stop>
+    ensures { Gives seen result (term_at (expr_at depth) tokens.now) }
+{
+    let (found, rest) = factor(alloc, depth, tokens)?;
+    let mut front = Items::new(alloc);
+    front.push(found)?;
+    let (all, rest) = more_factors(alloc, depth, front, rest)?;
+    Ok((times_of(all), rest))
+}
+
+#[cycle(expression)]
+#[tactic(auto, unfolding(crate::specs::ReadExpressions::step_at))]
+fn step(
+    alloc: Global,
+    depth: usize,
+    adding: Adding,
+    tokens: &[Token],
+) -> Result<(Step, &[Token]), Stop>
+    ensures { Gives seen result (step_at (expr_at depth) (adding, tokens.now)) }
+{
+    let (term, rest) = term(alloc, depth, tokens)?;
+    Ok((Step { adding, term }, rest))
+}
+
+#[cycle(expression)]
+fn more_terms(
+    alloc: Global,
+    depth: usize,
+    front: Items<Step>,
+    tokens: &[Token],
+) -> Result<(Items<Step>, &[Token]), Stop>
+    ensures { Gives seen result (more_at adding_at (step_at (expr_at depth)) front tokens.now) }
+{
+    let mut all = front;
+    let mut rest = tokens;
+    while let Some((adding, start)) = adding(rest) {
+        let (found, end) = step(alloc, depth, adding, start)?;
+        all.push(found)?;
+        rest = end;
+    }
+    Ok((all, rest))
+}
+
+/// Reads an expression inside fewer than `depth` parentheses.
+#[cycle(expression)]
+#[tactic(auto, unfolding(crate::specs::ReadExpressions::expr_at))]
+pub(crate) fn expression(
+    alloc: Global,
+    depth: usize,
+    tokens: &[Token],
+) -> Result<(Expr, &[Token]), Stop>
+    ensures { Gives seen result (expr_at depth tokens.now) }
+{
+    if depth == 0 {
+        return Err(Stop::Syntax);
+    }
+    let (first, rest) = term(alloc, depth - 1, tokens)?;
+    let (steps, rest) = more_terms(alloc, depth - 1, Items::new(alloc), rest)?;
+    Ok((sum_of(alloc, first, steps)?, rest))
+}

@@ -1,0 +1,136 @@
+// Reading items of the select list and keys of ORDER BY.
+
+ghost use Rattle.std.specs.Prelude.{◌≡◌, [], ◌∷◌};
+ghost use Rattle.ssb_sql.specs.Steps.{Gives, seen, after, more_at, list_at, closed_at, parens_at};
+ghost use Rattle.ssb_sql.specs.ReadExpressions.{expr_at};
+ghost use Rattle.ssb_sql.specs.ReadSelects.{count_at, output_at, item_at, key_at, order_at};
+ghost use Rattle.ssb_sql.specs.declared.token.Sign.TheVariants as s;
+
+use crate::expr::Expr;
+use crate::read_expr::expression;
+use crate::read_parts::column;
+use crate::select::{Item, Key, Order, Output};
+use crate::steps::{Stop, after, expect, is_name_next, name, number};
+use crate::token::{Sign, Token};
+use std::alloc::Global;
+
+#[tactic(auto, unfolding(crate::specs::Steps::closed_at))]
+fn closed(alloc: Global, depth: usize, tokens: &[Token]) -> Result<(Expr, &[Token]), Stop>
+    ensures { Gives seen result (closed_at (expr_at depth) tokens.now) }
+{
+    let (found, rest) = expression(alloc, depth, tokens)?;
+    let rest = expect(rest, Sign::Close)?;
+    Ok((found, rest))
+}
+
+#[tactic(auto, unfolding(crate::specs::Steps::parens_at))]
+fn in_parens(alloc: Global, depth: usize, tokens: &[Token]) -> Result<(Expr, &[Token]), Stop>
+    ensures { Gives seen result (parens_at (expr_at depth) tokens.now) }
+{
+    let inside = expect(tokens, Sign::Open)?;
+    closed(alloc, depth, inside)
+}
+
+// What follows COUNT and its `(`.
+#[tactic(auto, unfolding(crate::specs::ReadSelects::count_at))]
+fn count(alloc: Global, depth: usize, tokens: &[Token]) -> Result<(Output, &[Token]), Stop>
+    ensures { Gives seen result (count_at depth tokens.now) }
+{
+    match after(tokens, Sign::Times) {
+        Some(rest) => {
+            let rest = expect(rest, Sign::Close)?;
+            Ok((Output::CountRows, rest))
+        }
+        None => {
+            let (found, rest) = closed(alloc, depth, tokens)?;
+            Ok((Output::Count(found), rest))
+        }
+    }
+}
+
+#[tactic(auto, unfolding(crate::specs::ReadSelects::output_at))]
+fn output(alloc: Global, depth: usize, tokens: &[Token]) -> Result<(Output, &[Token]), Stop>
+    ensures { Gives seen result (output_at depth tokens.now) }
+{
+    if let Some(rest) = after(tokens, Sign::Sum) {
+        let (found, rest) = in_parens(alloc, depth, rest)?;
+        return Ok((Output::Sum(found), rest));
+    }
+    if let Some(rest) = after(tokens, Sign::Count) {
+        let inside = expect(rest, Sign::Open)?;
+        return count(alloc, depth, inside);
+    }
+    let (found, rest) = column(alloc, tokens)?;
+    Ok((Output::Column(found), rest))
+}
+
+#[tactic(auto, unfolding(crate::specs::ReadSelects::item_at))]
+pub(crate) fn item(alloc: Global, depth: usize, tokens: &[Token]) -> Result<(Item, &[Token]), Stop>
+    ensures { Gives seen result (item_at depth tokens.now) }
+{
+    let (output, rest) = output(alloc, depth, tokens)?;
+    match after(rest, Sign::As) {
+        Some(rest) => {
+            let (alias, rest) = name(alloc, rest)?;
+            Ok((
+                Item {
+                    output,
+                    alias: Some(alias),
+                },
+                rest,
+            ))
+        }
+        None => Ok((
+            Item {
+                output,
+                alias: None,
+            },
+            rest,
+        )),
+    }
+}
+
+#[tactic(auto, unfolding(crate::specs::ReadSelects::key_at))]
+fn key(alloc: Global, tokens: &[Token]) -> Result<(Key, &[Token]), Stop>
+    ensures { Gives seen result (key_at tokens.now) }
+{
+    if is_name_next(tokens) {
+        let (name, rest) = name(alloc, tokens)?;
+        Ok((Key::Name(name), rest))
+    } else {
+        let (number, rest) = number(tokens)?;
+        Ok((Key::Position(number), rest))
+    }
+}
+
+#[tactic(auto, unfolding(crate::specs::ReadSelects::order_at))]
+pub(crate) fn order(alloc: Global, tokens: &[Token]) -> Result<(Order, &[Token]), Stop>
+    ensures { Gives seen result (order_at tokens.now) }
+{
+    let (key, rest) = key(alloc, tokens)?;
+    if let Some(rest) = after(rest, Sign::Asc) {
+        return Ok((
+            Order {
+                key,
+                descending: false,
+            },
+            rest,
+        ));
+    }
+    match after(rest, Sign::Desc) {
+        Some(rest) => Ok((
+            Order {
+                key,
+                descending: true,
+            },
+            rest,
+        )),
+        None => Ok((
+            Order {
+                key,
+                descending: false,
+            },
+            rest,
+        )),
+    }
+}

@@ -1,0 +1,106 @@
+// Reading columns, literals and operands.
+
+ghost use Rattle.std.specs.Prelude.{◌≡◌, ◌∷◌, [], length, ◌<◌};
+ghost use Rattle.ssb_sql.specs.Steps.{Gives, seen, after, list_at, more_at};
+ghost use Rattle.ssb_sql.specs.ReadParts.{column_at, small_at, below_at, plain_literal_at, literal_at, operand_at};
+ghost use Rattle.ssb_sql.specs.declared.token.Sign.TheVariants as s;
+
+use crate::condition::{Literal, Operand};
+use crate::expr::ColumnName;
+use crate::steps::{Stop, after, is_name_next, is_text_next, name, number, text};
+use crate::token::{Sign, Token};
+use sqlite_items::Items;
+use std::alloc::Global;
+
+#[tactic(auto, unfolding(crate::specs::ReadParts::column_at))]
+pub(crate) fn column(alloc: Global, tokens: &[Token]) -> Result<(ColumnName, &[Token]), Stop>
+    ensures { Gives seen result (column_at tokens.now) }
+{
+    let (found, rest) = name(alloc, tokens)?;
+    match after(rest, Sign::Dot) {
+        Some(rest) => {
+            let (column, rest) = name(alloc, rest)?;
+            Ok((
+                ColumnName {
+                    table: Some(found),
+                    column,
+                },
+                rest,
+            ))
+        }
+        None => Ok((
+            ColumnName {
+                table: None,
+                column: found,
+            },
+            rest,
+        )),
+    }
+}
+
+// A number that fits in 64 bits with a sign.
+#[tactic(auto, unfolding(crate::specs::ReadParts::small_at))]
+fn small(tokens: &[Token]) -> Result<(i64, &[Token]), Stop>
+    ensures { Gives seen result (small_at tokens.now) }
+{
+    let (found, rest) = number(tokens)?;
+    if found <= 9223372036854775807 {
+        Ok((found as i64, rest))
+    } else {
+        Err(Stop::Syntax)
+    }
+}
+
+// Such a number, below 0.
+#[tactic(auto, unfolding(crate::specs::ReadParts::below_at))]
+fn below(tokens: &[Token]) -> Result<(i64, &[Token]), Stop>
+    ensures { Gives seen result (below_at tokens.now) }
+{
+    let (found, rest) = number(tokens)?;
+    if found <= 9223372036854775807 {
+        Ok((-(found as i64), rest))
+    } else {
+        Err(Stop::Syntax)
+    }
+}
+
+#[tactic(auto, unfolding(crate::specs::ReadParts::plain_literal_at))]
+fn plain_literal(alloc: Global, tokens: &[Token]) -> Result<(Literal, &[Token]), Stop>
+    ensures { Gives seen result (plain_literal_at tokens.now) }
+{
+    if is_text_next(tokens) {
+        let (text, rest) = text(alloc, tokens)?;
+        Ok((Literal::Text(text), rest))
+    } else {
+        let (number, rest) = small(tokens)?;
+        Ok((Literal::Number(number), rest))
+    }
+}
+
+#[tactic(auto, unfolding(crate::specs::ReadParts::literal_at))]
+pub(crate) fn literal(alloc: Global, tokens: &[Token]) -> Result<(Literal, &[Token]), Stop>
+    ensures { Gives seen result (literal_at tokens.now) }
+{
+    if let Some(rest) = after(tokens, Sign::Plus) {
+        let (number, rest) = small(rest)?;
+        return Ok((Literal::Number(number), rest));
+    }
+    if let Some(rest) = after(tokens, Sign::Minus) {
+        let (number, rest) = below(rest)?;
+        return Ok((Literal::Number(number), rest));
+    }
+    plain_literal(alloc, tokens)
+}
+
+#[tactic(auto, unfolding(crate::specs::ReadParts::operand_at))]
+pub(crate) fn operand(alloc: Global, tokens: &[Token]) -> Result<(Operand, &[Token]), Stop>
+    ensures { Gives seen result (operand_at tokens.now) }
+{
+    if is_name_next(tokens) {
+        let (column, rest) = column(alloc, tokens)?;
+        Ok((Operand::Column(column), rest))
+    } else {
+        let (literal, rest) = literal(alloc, tokens)?;
+        Ok((Operand::Literal(literal), rest))
+    }
+}

@@ -1,0 +1,235 @@
+// Reading whole queries.
+
+ghost use Rattle.std.specs.Prelude.{◌≡◌, [], ◌∷◌, ◌+◌, ◌<◌, ◌^◌};
+ghost use Rattle.ssb_sql.specs.Steps.{Gives, seen, after, more_at, list_at, name_at};
+ghost use Rattle.ssb_sql.specs.ReadParts.{column_at};
+ghost use Rattle.ssb_sql.specs.ReadSelects.{item_at, where_at, groups_at, order_at, orders_at, is_nil, ends, rest_at, query_at};
+ghost use Rattle.ssb_sql.specs.declared.token.Sign.TheVariants as s;
+
+use crate::condition::Condition;
+use crate::expr::ColumnName;
+use crate::read_condition::condition;
+use crate::read_item::{item, order};
+use crate::read_parts::column;
+use crate::select::{Item, Order, Select};
+use crate::steps::{Stop, after, expect, name};
+use crate::token::{Sign, Token};
+use sqlite_items::Items;
+use ssb_cells::Name;
+use std::alloc::Global;
+
+fn more_items(
+    alloc: Global,
+    depth: usize,
+    front: Items<Item>,
+    tokens: &[Token],
+) -> Result<(Items<Item>, &[Token]), Stop>
+    ensures { Gives seen result (more_at (after s.Comma) (item_at depth) front tokens.now) }
+{
+    let mut all = front;
+    let mut rest = tokens;
+    while let Some(start) = after(rest, Sign::Comma) {
+        let (found, end) = item(alloc, depth, start)?;
+        all.push(found)?;
+        rest = end;
+    }
+    Ok((all, rest))
+}
+
+#[tactic(auto, unfolding(crate::specs::Steps::list_at))]
+fn items(alloc: Global, depth: usize, tokens: &[Token]) -> Result<(Items<Item>, &[Token]), Stop>
+    ensures { Gives seen result (list_at (item_at depth) tokens.now) }
+{
+    let (found, rest) = item(alloc, depth, tokens)?;
+    let mut front = Items::new(alloc);
+    front.push(found)?;
+    more_items(alloc, depth, front, rest)
+}
+
+fn more_names(
+    alloc: Global,
+    front: Items<Name>,
+    tokens: &[Token],
+) -> Result<(Items<Name>, &[Token]), Stop>
+    ensures { Gives seen result (more_at (after s.Comma) name_at front tokens.now) }
+{
+    let mut all = front;
+    let mut rest = tokens;
+    while let Some(start) = after(rest, Sign::Comma) {
+        let (found, end) = name(alloc, start)?;
+        all.push(found)?;
+        rest = end;
+    }
+    Ok((all, rest))
+}
+
+#[tactic(auto, unfolding(crate::specs::Steps::list_at))]
+fn names(alloc: Global, tokens: &[Token]) -> Result<(Items<Name>, &[Token]), Stop>
+    ensures { Gives seen result (list_at name_at tokens.now) }
+{
+    let (found, rest) = name(alloc, tokens)?;
+    let mut front = Items::new(alloc);
+    front.push(found)?;
+    more_names(alloc, front, rest)
+}
+
+fn more_columns(
+    alloc: Global,
+    front: Items<ColumnName>,
+    tokens: &[Token],
+) -> Result<(Items<ColumnName>, &[Token]), Stop>
+    ensures { Gives seen result (more_at (after s.Comma) column_at front tokens.now) }
+{
+    let mut all = front;
+    let mut rest = tokens;
+    while let Some(start) = after(rest, Sign::Comma) {
+        let (found, end) = column(alloc, start)?;
+        all.push(found)?;
+        rest = end;
+    }
+    Ok((all, rest))
+}
+
+#[tactic(auto, unfolding(crate::specs::Steps::list_at))]
+fn columns(alloc: Global, tokens: &[Token]) -> Result<(Items<ColumnName>, &[Token]), Stop>
+    ensures { Gives seen result (list_at column_at tokens.now) }
+{
+    let (found, rest) = column(alloc, tokens)?;
+    let mut front = Items::new(alloc);
+    front.push(found)?;
+    more_columns(alloc, front, rest)
+}
+
+fn more_keys(
+    alloc: Global,
+    front: Items<Order>,
+    tokens: &[Token],
+) -> Result<(Items<Order>, &[Token]), Stop>
+    ensures { Gives seen result (more_at (after s.Comma) order_at front tokens.now) }
+{
+    let mut all = front;
+    let mut rest = tokens;
+    while let Some(start) = after(rest, Sign::Comma) {
+        let (found, end) = order(alloc, start)?;
+        all.push(found)?;
+        rest = end;
+    }
+    Ok((all, rest))
+}
+
+#[tactic(auto, unfolding(crate::specs::Steps::list_at))]
+fn keys(alloc: Global, tokens: &[Token]) -> Result<(Items<Order>, &[Token]), Stop>
+    ensures { Gives seen result (list_at order_at tokens.now) }
+{
+    let (found, rest) = order(alloc, tokens)?;
+    let mut front = Items::new(alloc);
+    front.push(found)?;
+    more_keys(alloc, front, rest)
+}
+
+#[tactic(auto, unfolding(crate::specs::ReadSelects::where_at))]
+fn condition_if(
+    alloc: Global,
+    depth: usize,
+    tokens: &[Token],
+) -> Result<(Option<Condition>, &[Token]), Stop>
+    ensures { Gives seen result (where_at depth tokens.now) }
+{
+    match after(tokens, Sign::Where) {
+        Some(rest) => {
+            let (found, rest) = condition(alloc, depth, rest)?;
+            Ok((Some(found), rest))
+        }
+        None => Ok((None, tokens)),
+    }
+}
+
+#[tactic(auto, unfolding(crate::specs::ReadSelects::groups_at))]
+fn groups(alloc: Global, tokens: &[Token]) -> Result<(Items<ColumnName>, &[Token]), Stop>
+    ensures { Gives seen result (groups_at tokens.now) }
+{
+    match after(tokens, Sign::Group) {
+        Some(rest) => {
+            let start = expect(rest, Sign::By)?;
+            columns(alloc, start)
+        }
+        None => Ok((Items::new(alloc), tokens)),
+    }
+}
+
+#[tactic(auto, unfolding(crate::specs::ReadSelects::orders_at))]
+fn orders(alloc: Global, tokens: &[Token]) -> Result<(Items<Order>, &[Token]), Stop>
+    ensures { Gives seen result (orders_at tokens.now) }
+{
+    match after(tokens, Sign::Order) {
+        Some(rest) => {
+            let start = expect(rest, Sign::By)?;
+            keys(alloc, start)
+        }
+        None => Ok((Items::new(alloc), tokens)),
+    }
+}
+
+// What follows the names of FROM.
+#[tactic(auto, unfolding(crate::specs::ReadSelects::rest_at))]
+fn rest_of(
+    alloc: Global,
+    depth: usize,
+    items: Items<Item>,
+    from: Items<Name>,
+    tokens: &[Token],
+) -> Result<(Select, &[Token]), Stop>
+    requires { depth < 2 ^ 32 }
+    ensures { Gives seen result (rest_at depth items from tokens.now) }
+{
+    let (condition, rest) = condition_if(alloc, depth + 1, tokens)?;
+    let (groups, rest) = groups(alloc, rest)?;
+    let (orders, rest) = orders(alloc, rest)?;
+    Ok((
+        Select {
+            items,
+            from,
+            condition,
+            groups,
+            orders,
+        },
+        rest,
+    ))
+}
+
+/// Reads a query without its `;`, with at most `depth` open parentheses.
+#[tactic(auto, unfolding(crate::specs::ReadSelects::query_at))]
+pub(crate) fn query(
+    alloc: Global,
+    depth: usize,
+    tokens: &[Token],
+) -> Result<(Select, &[Token]), Stop>
+    requires { depth < 2 ^ 32 }
+    ensures { Gives seen result (query_at depth tokens.now) }
+{
+    let start = expect(tokens, Sign::Select)?;
+    let (items, rest) = items(alloc, depth, start)?;
+    let tables = expect(rest, Sign::From)?;
+    let (from, rest) = names(alloc, tables)?;
+    rest_of(alloc, depth, items, from, rest)
+}
+
+fn is_nil(tokens: &[Token]) -> bool
+    ensures { result ≡ is_nil tokens.now }
+{
+    match tokens {
+        [] => true,
+        [_, ..] => false,
+    }
+}
+
+/// Whether nothing follows, or a `;` and nothing more.
+#[tactic(auto, unfolding(crate::specs::ReadSelects::ends))]
+pub(crate) fn ends(tokens: &[Token]) -> bool
+    ensures { result ≡ ends tokens.now }
+{
+    match after(tokens, Sign::Semicolon) {
+        Some(rest) => is_nil(rest),
+        None => is_nil(tokens),
+    }
+}

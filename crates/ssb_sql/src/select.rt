@@ -1,0 +1,61 @@
+// What a query asks for, as it is written.
+
+use crate::condition::Condition;
+use crate::expr::{ColumnName, Expr};
+use sqlite_items::Items;
+use ssb_cells::Name;
+
+/// What an item of the select list gives.
+#[derive(Debug, Drop)]
+pub enum Output {
+    /// A column's value.
+    Column(ColumnName),
+    /// The sum of an expression's values.
+    Sum(Expr),
+    /// How many rows there are.
+    CountRows,
+    /// In how many rows the expression has a value.
+    Count(Expr),
+}
+
+/// An item of the select list.
+#[derive(Debug, Drop)]
+pub struct Item {
+    /// What it gives.
+    pub output: Output,
+    /// The name that AS gives it.
+    pub alias: Option<Name>,
+}
+
+/// What the answer is ordered by.
+#[derive(Debug, Drop)]
+pub enum Key {
+    /// The item of this name.
+    Name(Name),
+    /// The item at this place of the select list, counted from 1.
+    Position(u64),
+}
+
+/// A key of ORDER BY.
+#[derive(Debug, Drop)]
+pub struct Order {
+    /// What is compared.
+    pub key: Key,
+    /// Whether the greatest come first.
+    pub descending: bool,
+}
+
+/// A query, as it is written. Names are in lower case.
+#[derive(Debug, Drop)]
+pub struct Select {
+    /// The select list.
+    pub items: Items<Item>,
+    /// The tables of FROM.
+    pub from: Items<Name>,
+    /// The condition of WHERE.
+    pub condition: Option<Condition>,
+    /// The columns of GROUP BY; none where it is not there.
+    pub groups: Items<ColumnName>,
+    /// The keys of ORDER BY; none where it is not there.
+    pub orders: Items<Order>,
+}

@@ -1,0 +1,117 @@
+// What every reader of tokens is made of.
+
+ghost use Rattle.std.specs.Prelude.{◌≡◌};
+ghost use Rattle.std.specs.Option.{option_copied};
+ghost use Rattle.ssb_sql.specs.Steps.{Gives, seen, is_sign, is_fixed, after, name_at, number_at, text_at, is_name_next, is_text_next};
+
+use crate::text::Text;
+use crate::token::{Sign, Token};
+use ssb_cells::Name;
+use std::alloc::{AllocError, Global};
+
+/// Why nothing was read.
+#[derive(Clone, Copy, PartialEq, Eq, Debug)]
+pub(crate) enum Stop {
+    Memory,
+    Syntax,
+}
+
+impl From<AllocError> for Stop {
+    ghost use Rattle.ssb_sql.specs.declared.steps.Stop.TheVariants.{Memory};
+
+    ghost from_gives = { λ _ e. e ≡ Memory };
+
+    fn from(_error: AllocError) -> Stop {
+        Stop::Memory
+    }
+}
+
+#[tactic(auto, unfolding(crate::specs::Steps::is_sign))]
+fn is_sign(found: Sign, sign: Sign) -> bool
+    ensures { result ≡ is_sign found sign }
+{
+    found as u8 == sign as u8
+}
+
+#[tactic(auto, unfolding(crate::specs::Steps::is_fixed))]
+pub(crate) fn is_fixed(token: &Token, sign: Sign) -> bool
+    ensures { result ≡ is_fixed sign token.now }
+{
+    match token {
+        Token::Fixed(found) => is_sign(*found, sign),
+        _ => false,
+    }
+}
+
+// What follows the sign, where it comes next.
+#[tactic(auto, unfolding(crate::specs::Steps::after))]
+pub(crate) fn after(tokens: &[Token], sign: Sign) -> Option<&[Token]>
+    ensures { option_copied result ≡ after sign tokens.now }
+{
+    let (token, rest) = tokens.split_first()?;
+    if is_fixed(token, sign) {
+        Some(rest)
+    } else {
+        None
+    }
+}
+
+// What follows the sign, which has to come next.
+pub(crate) fn expect(tokens: &[Token], sign: Sign) -> Result<&[Token], Stop>
+    ensures { Gives (λ rest. rest.now) result (after sign tokens.now) }
+{
+    match after(tokens, sign) {
+        Some(rest) => Ok(rest),
+        None => Err(Stop::Syntax),
+    }
+}
+
+#[tactic(auto, unfolding(crate::specs::Steps::is_name_next))]
+pub(crate) fn is_name_next(tokens: &[Token]) -> bool
+    ensures { result ≡ is_name_next tokens.now }
+{
+    match tokens {
+        [Token::Name(_), ..] => true,
+        _ => false,
+    }
+}
+
+#[tactic(auto, unfolding(crate::specs::Steps::is_text_next))]
+pub(crate) fn is_text_next(tokens: &[Token]) -> bool
+    ensures { result ≡ is_text_next tokens.now }
+{
+    match tokens {
+        [Token::Text(_), ..] => true,
+        _ => false,
+    }
+}
+
+#[tactic(auto, unfolding(crate::specs::Steps::name_at))]
+pub(crate) fn name(alloc: Global, tokens: &[Token]) -> Result<(Name, &[Token]), Stop>
+    ensures { Gives seen result (name_at tokens.now) }
+{
+    match tokens {
+        [Token::Name(name), rest @ ..] => Ok((name.copy(alloc)?, rest)),
+        _ => Err(Stop::Syntax),
+    }
+}
+
+#[tactic(auto, unfolding(crate::specs::Steps::number_at))]
+pub(crate) fn number(tokens: &[Token]) -> Result<(u64, &[Token]), Stop>
+    ensures { Gives seen result (number_at tokens.now) }
+{
+    match tokens {
+        [Token::Number(number), rest @ ..] => Ok((*number, rest)),
+        _ => Err(Stop::Syntax),
+    }
+}
+
+#[tactic(auto, unfolding(crate::specs::Steps::text_at))]
+pub(crate) fn text(alloc: Global, tokens: &[Token]) -> Result<(Text, &[Token]), Stop>
+    ensures { Gives seen result (text_at tokens.now) }
+{
+    match tokens {
+        [Token::Text(text), rest @ ..] => Ok((text.copy(alloc)?, rest)),
+        _ => Err(Stop::Syntax),
+    }
+}

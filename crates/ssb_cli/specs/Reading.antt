@@ -2,7 +2,7 @@
 use Rattle.std.specs.Prelude.{◌≡◌, true, Result, Ok, Err, ⊤}
 use Rattle.std.specs.Str.{str_to_ascii_lowercase}
 use Rattle.ssb_cells.specs.Names.{is_name}
-use Rattle.ssb_cli.specs.declared.fault.sql.SqlFault.{SqlFault}
+use Rattle.ssb_sql.specs.declared.fault.SqlFault.{SqlFault}
 use Rattle.ssb_cli.specs.declared.fault.run.RunFault.{RunFault}
 use Rattle.ssb_cli.specs.declared.fault.run.RunFault.TheVariants as run
 use Rattle.ssb_cli.specs.declared.sum_text.SumText.{SumText}

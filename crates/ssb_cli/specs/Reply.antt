@@ -10,7 +10,7 @@ use Rattle.ssb_cli.specs.SumAnswer.{answer_of, line_of}
 use Rattle.ssb_cli.specs.Taking.{IsBeginning}
 use Rattle.ssb_cli.specs.declared.sum_query.SumQuery.{SumQuery}
 use Rattle.ssb_cli.specs.declared.sum_text.SumText.{SumText}
-use Rattle.ssb_cli.specs.declared.fault.sql.SqlFault.{SqlFault}
+use Rattle.ssb_sql.specs.declared.fault.SqlFault.{SqlFault}
 use Rattle.ssb_cli.specs.declared.fault.bind.BindFault.{BindFault}
 use Rattle.ssb_cli.specs.declared.fault.answer.AnswerFault.{AnswerFault}
 use Rattle.ssb_cli.specs.declared.fault.answer.AnswerFault.TheVariants as answer

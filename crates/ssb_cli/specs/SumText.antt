@@ -4,8 +4,8 @@ use Rattle.std.specs.Prelude.{◌∷◌, ◌&&◌, ◌||◌, ◌==◌, ℕ, Bool
 use Rattle.std.specs.Str.{bytes_eq, str_eq_ignore_ascii_case, str_to_ascii_lowercase}
 use Rattle.ssb_cells.specs.Names.{is_name, is_word_byte}
 use Rattle.ssb_cli.specs.declared.sum_text.SumText.{SumText}
-use Rattle.ssb_cli.specs.declared.fault.sql.SqlFault.{SqlFault}
-use Rattle.ssb_cli.specs.declared.fault.sql.SqlFault.TheVariants as sql
+use Rattle.ssb_sql.specs.declared.fault.SqlFault.{SqlFault}
+use Rattle.ssb_sql.specs.declared.fault.SqlFault.TheVariants as sql
 
 -- space, tab, LF and CR part words
 abbrev pub is_blank : ℕ → Bool

@@ -4,10 +4,9 @@ pub mod answer;
 pub mod bind;
 pub mod program;
 pub mod run;
-pub mod sql;
 
 pub use answer::AnswerFault;
 pub use bind::{BindFault, TooMany};
 pub use program::ProgramFault;
 pub use run::RunFault;
-pub use sql::SqlFault;
+pub use ssb_sql::SqlFault;

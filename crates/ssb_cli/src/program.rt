@@ -9,6 +9,7 @@ use crate::report::{MEMORY_LINE, OUT_OF_MEMORY, program_line, program_status_of}
 use crate::run::run_sum;
 use crate::words::{Task, WordsFault, task_of};
 use crate::writer::Out;
+use ssb_sql::read;
 use std::alloc::{AllocError, Global};
 use std::io::{BufWriter, Write};
 use std::rt::{Env, Files};
@@ -22,11 +23,16 @@ fn write_fault(alloc: Global) -> ProgramFault {
 }
 
 // The answer goes through one buffer, which is flushed after it is complete.
-fn run<R: Files + Print + AllocGlobal>(rt: &R, task: Task<'_>) -> Result<(), ProgramFault> {
-    let catalog = read_catalog(rt, task.catalog)?;
-    let text = read_query(rt, task.query)?;
+fn run<R: Files + Print + AllocGlobal>(
+    rt: &R,
+    data: &str,
+    query: &str,
+    catalog: &str,
+) -> Result<(), ProgramFault> {
+    let catalog = read_catalog(rt, catalog)?;
+    let text = read_query(rt, query)?;
     let names = names_of(rt.alloc(), &catalog)?;
-    let readers = open_all(rt, task.data, &catalog)?;
+    let readers = open_all(rt, data, &catalog)?;
     let Ok(writer) = BufWriter::new(rt.alloc(), io::writer(rt)) else {
         return Err(ProgramFault::Memory);
     };
@@ -35,6 +41,21 @@ fn run<R: Files + Print + AllocGlobal>(rt: &R, task: Task<'_>) -> Result<(), Pro
         return Err(ProgramFault::Run { names, fault });
     }
     match out.into_writer().flush() {
+        Ok(()) => Ok(()),
+        Err(_) => Err(write_fault(rt.alloc())),
+    }
+}
+
+// Says `ok` of a file's text that is a query.
+fn check<R: Files + Print + AllocGlobal>(rt: &R, query: &str) -> Result<(), ProgramFault> {
+    let text = read_query(rt, query)?;
+    if let Err(fault) = read(rt.alloc(), text.as_str()) {
+        return Err(ProgramFault::Run {
+            names: Vec::new(rt.alloc()),
+            fault: RunFault::Sql(fault),
+        });
+    }
+    match rt.print("ok\n") {
         Ok(()) => Ok(()),
         Err(_) => Err(write_fault(rt.alloc())),
     }
@@ -58,7 +79,14 @@ fn words<R: Env + AllocGlobal>(rt: &R) -> Result<Vec<String>, ProgramFault> {
 fn act<R: Files + Print + Eprint + Env + AllocGlobal>(rt: &R) -> Result<(), ProgramFault> {
     let given = words(rt)?;
     match task_of(rt.alloc(), given.as_slice()) {
-        Ok(task) => run(rt, task),
+        Ok(
+            Task::Run {
+                data,
+                query,
+                catalog,
+            },
+        ) => run(rt, data, query, catalog),
+        Ok(Task::Check { query }) => check(rt, query),
         Err(WordsFault::Help(text)) => match text.print(rt) {
             Ok(()) => Ok(()),
             Err(_) => Err(write_fault(rt.alloc())),

@@ -4,16 +4,23 @@ use clap::error::ErrorKind;
 use clap::{Arg, ArgAction, ArgMatches, Command, Error};
 use std::alloc::Global;
 
-/// What is asked: to answer a query of one file over the tables of a folder, whose catalog is
-/// another file.
+/// What is asked.
 #[derive(Clone, Copy)]
-pub struct Task<'a> {
-    /// The folder.
-    pub data: &'a str,
-    /// The query's file.
-    pub query: &'a str,
-    /// The catalog's file.
-    pub catalog: &'a str,
+pub enum Task<'a> {
+    /// To answer a query over the tables of a folder.
+    Run {
+        /// The folder.
+        data: &'a str,
+        /// The query's file.
+        query: &'a str,
+        /// The catalog's file.
+        catalog: &'a str,
+    },
+    /// To read a query alone.
+    Check {
+        /// The query's file.
+        query: &'a str,
+    },
 }
 
 /// Why nothing is asked.
@@ -54,13 +61,27 @@ fn run_command<'a>(alloc: Global) -> Result<Command<'a>, Error> {
     Ok(run)
 }
 
+fn check_command<'a>(alloc: Global) -> Result<Command<'a>, Error> {
+    let query = Arg::new(alloc, "query")
+        .long("query")
+        .required(true)
+        .action(ArgAction::Set)
+        .value_name("FILE")
+        .help("The query");
+    let check = Command::new(alloc, "check")
+        .about("Reads a query, and says `ok` or why it is none")
+        .arg(query)?;
+    Ok(check)
+}
+
 fn command<'a>(alloc: Global) -> Result<Command<'a>, Error> {
     let program = Command::new(alloc, "ssb")
         .bin_name("ssb")?
         .about("Answers queries of the Star Schema Benchmark")
         .disable_help_subcommand(true)
         .subcommand_required(true)
-        .subcommand(run_command(alloc)?)?;
+        .subcommand(run_command(alloc)?)?
+        .subcommand(check_command(alloc)?)?;
     Ok(program)
 }
 
@@ -69,11 +90,16 @@ fn parse<'a>(alloc: Global, given: &'a [String]) -> Result<ArgMatches<'a>, Error
 }
 
 fn run_task<'a>(found: &ArgMatches<'a>) -> Option<Task<'a>> {
-    Some(Task {
+    Some(Task::Run {
         data: found.get_str("data")?,
         query: found.get_str("query")?,
         catalog: found.get_str("catalog")?,
     })
+}
+
+fn check_task<'a>(found: &ArgMatches<'a>) -> Option<Task<'a>> {
+    let query = found.get_str("query")?;
+    Some(Task::Check { query })
 }
 
 fn fault_of(error: Error) -> WordsFault {
@@ -92,6 +118,7 @@ pub fn task_of<'a>(alloc: Global, given: &'a [String]) -> Result<Task<'a>, Words
     };
     let task = match matches.subcommand() {
         Some(("run", found)) => run_task(found),
+        Some(("check", found)) => check_task(found),
         _ => None,
     };
     match task {

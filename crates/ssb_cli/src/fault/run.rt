@@ -2,8 +2,8 @@
 
 use crate::fault::answer::AnswerFault;
 use crate::fault::bind::BindFault;
-use crate::fault::sql::SqlFault;
 use ssb_load::LoadFault;
+use ssb_sql::SqlFault;
 use thiserror::Error;
 
 /// The first fault of a run, in the order of its work.

@@ -1,9 +1,9 @@
 -- Each condition of the grammar is read.
-use Rattle.std.proofs.Common.{◌≡◌, ℕ, zero, suc, ◌<◌, ◌≤◌, Bool, true, false, List, [], ◌∷◌, length, Option, Some, None, refl, sym, ap, subst, ◌∙◌, arith}
+use Rattle.std.proofs.Common.{◌≡◌, ℕ, zero, suc, ◌≤◌, Bool, true, false, List, [], ◌∷◌, length, Option, Some, None, refl, arith}
 use Rattle.ssb_cells.specs.declared.value.Op.{Op}
 use Rattle.ssb_cells.specs.declared.value.Op.TheVariants as op
 use Rattle.ssb_sql.specs.declared.token.Token.{Token}
-use Rattle.ssb_sql.specs.declared.token.Token.TheVariants.{Fixed, Number, Text}
+use Rattle.ssb_sql.specs.declared.token.Token.TheVariants.{Fixed, Number}
 use Rattle.ssb_sql.specs.declared.token.Sign.{Sign}
 use Rattle.ssb_sql.specs.declared.token.Sign.TheVariants as s
 use Rattle.ssb_sql.specs.declared.expr.ColumnName.{ColumnName}
@@ -12,10 +12,10 @@ use Rattle.ssb_sql.specs.declared.condition.Operand.{Operand}
 use Rattle.ssb_sql.specs.declared.condition.Operand.TheVariants as o
 use Rattle.ssb_sql.specs.declared.condition.Condition.{Condition}
 use Rattle.ssb_sql.specs.declared.condition.Condition.TheVariants as c
-use Rattle.ssb_sql.specs.Forms.{IsList, IsColumn, IsLiteral, IsOperand}
+use Rattle.ssb_sql.specs.Forms.{IsList, IsLiteral, IsOperand}
 use Rattle.ssb_sql.specs.Forms.IsLiteral.{number, positive, negative, text}
 use Rattle.ssb_sql.specs.Forms.IsOperand.{column, literal}
-use Rattle.ssb_sql.specs.Conditions.{mark_of, IsBare, IsCond, IsOrs, IsConj, IsAnds, IsNeg, IsTest, any_of, all_of}
+use Rattle.ssb_sql.specs.Conditions.{mark_of, IsCond, IsOrs, IsConj, IsAnds, IsNeg, IsTest, any_of, all_of}
 use Rattle.ssb_sql.specs.Conditions.IsBare.{compare, between, not_between, among, not_among, null, not_null}
 use Rattle.ssb_sql.specs.Conditions.IsCond.{cond}
 use Rattle.ssb_sql.specs.Conditions.IsOrs.{no_or, or}
@@ -24,9 +24,9 @@ use Rattle.ssb_sql.specs.Conditions.IsAnds.{no_and, and}
 use Rattle.ssb_sql.specs.Conditions.IsNeg.{plain, not}
 use Rattle.ssb_sql.specs.Conditions.IsTest.{parens, bare}
 use Rattle.ssb_sql.specs.Grammar.{IsWithin}
-use Rattle.ssb_sql.specs.Steps.{◌>>=◌, Parser, choose, after, is_fixed, is_sign, chain_at, more_at, list_at, closed_at, parens_at}
+use Rattle.ssb_sql.specs.Steps.{Parser, after, is_fixed, is_sign, chain_at, more_at, list_at, parens_at}
 use Rattle.ssb_sql.specs.ReadParts.{literal_at, operand_at}
-use Rattle.ssb_sql.specs.ReadConditions.{op_at, limits_at, members_at, between_of, in_of, range_at, null_at, compared_at, tail_at, bare_at, test_at, neg_at, conj_at, disj_at, cond_at}
+use Rattle.ssb_sql.specs.ReadConditions.{op_at, limits_at, members_at, between_of, in_of, range_at, null_at, compared_at, tail_at, bare_at, test_at, neg_at, conj_at, cond_at}
 use Rattle.ssb_sql.proofs.StepFacts.{Stops, stops, differs, sees}
 use Rattle.ssb_sql.proofs.Shapes.{Complete, GoesOn, turn_done, turn_goes, more_goes, closed_read, list_read}
 use Rattle.ssb_sql.proofs.PartFacts.{tame_literal, literal_read, operand_read}

@@ -1,12 +1,10 @@
 -- What is read as a condition is one.
-use Rattle.std.proofs.Common.{◌≡◌, ℕ, zero, suc, ◌<◌, ◌≤◌, List, [], ◌∷◌, length, Option, Some, None, refl, sym, ap, subst, ◌∙◌, arith, inl, inr}
+use Rattle.std.proofs.Common.{◌≡◌, ℕ, zero, suc, ◌<◌, ◌≤◌, List, [], ◌∷◌, length, Some, subst, arith, inl, inr}
 use Rattle.ssb_sql.specs.declared.token.Token.{Token}
-use Rattle.ssb_sql.specs.declared.token.Token.TheVariants.{Fixed}
 use Rattle.ssb_sql.specs.declared.token.Sign.TheVariants as s
 use Rattle.ssb_sql.specs.declared.condition.Condition.{Condition}
 use Rattle.ssb_sql.specs.declared.condition.Condition.TheVariants as c
-use Rattle.ssb_sql.specs.Forms.{Spelling, IsOperand}
-use Rattle.ssb_sql.specs.Conditions.{IsBare, IsCond, IsOrs, IsConj, IsAnds, IsNeg, IsTest, IsWhereCond, any_of, all_of}
+use Rattle.ssb_sql.specs.Conditions.{IsCond, IsOrs, IsConj, IsAnds, IsNeg, IsTest, any_of, all_of}
 use Rattle.ssb_sql.specs.Conditions.IsCond.{cond}
 use Rattle.ssb_sql.specs.Conditions.IsOrs.{no_or, or}
 use Rattle.ssb_sql.specs.Conditions.IsConj.{conj}
@@ -14,9 +12,9 @@ use Rattle.ssb_sql.specs.Conditions.IsAnds.{no_and, and}
 use Rattle.ssb_sql.specs.Conditions.IsNeg.{plain, not}
 use Rattle.ssb_sql.specs.Conditions.IsTest.{parens, bare}
 use Rattle.ssb_sql.specs.Grammar.{IsWithin}
-use Rattle.ssb_sql.specs.Steps.{◌>>=◌, Parser, choose, after, more_at, closed_at}
-use Rattle.ssb_sql.specs.ReadConditions.{bare_at, test_at, neg_at, conj_at, disj_at, cond_at}
-use Rattle.ssb_sql.proofs.StepFacts.{some_is, bind_some, choose_some}
+use Rattle.ssb_sql.specs.Steps.{Parser, after, more_at}
+use Rattle.ssb_sql.specs.ReadConditions.{test_at, neg_at, conj_at, disj_at, cond_at}
+use Rattle.ssb_sql.proofs.StepFacts.{bind_some, choose_some}
 use Rattle.ssb_sql.proofs.Loop.{Shrinks}
 use Rattle.ssb_sql.proofs.Shapes.{Sound, Tame, IsChain, spells, begins, sound_closed, sound_more, shrinks}
 use Rattle.ssb_sql.proofs.TestSound.{IsTested, sound_bare, tame_bare}

@@ -1,5 +1,5 @@
 -- Each expression of the grammar is read.
-use Rattle.std.proofs.Common.{◌≡◌, ℕ, zero, suc, ◌<◌, ◌≤◌, Bool, true, false, List, [], ◌∷◌, length, Option, Some, None, refl, sym, ap, subst, ◌∙◌, arith}
+use Rattle.std.proofs.Common.{◌≡◌, ℕ, zero, suc, ◌≤◌, false, List, [], ◌∷◌, length, Some, None, refl, arith}
 use Rattle.ssb_sql.specs.declared.token.Token.{Token}
 use Rattle.ssb_sql.specs.declared.token.Token.TheVariants.{Fixed, Number}
 use Rattle.ssb_sql.specs.declared.token.Sign.{Sign}
@@ -20,12 +20,12 @@ use Rattle.ssb_sql.specs.Expressions.IsFactors.{no_factor, times}
 use Rattle.ssb_sql.specs.Expressions.IsFactor.{plain, positive, negative}
 use Rattle.ssb_sql.specs.Expressions.IsPrimary.{column, number, parens}
 use Rattle.ssb_sql.specs.Grammar.{IsWithin}
-use Rattle.ssb_sql.specs.Steps.{◌>>=◌, Parser, choose, after, is_fixed, is_sign, number_at, is_name_next, chain_at, more_at, closed_at}
-use Rattle.ssb_sql.specs.ReadExpressions.{bare_primary_at, primary_at, factor_at, term_at, adding_at, step_at, sum_at, expr_at}
+use Rattle.ssb_sql.specs.Steps.{Parser, after, is_fixed, is_sign, is_name_next, chain_at, more_at}
+use Rattle.ssb_sql.specs.ReadExpressions.{bare_primary_at, primary_at, factor_at, term_at, adding_at, step_at, expr_at}
 use Rattle.ssb_sql.proofs.StepFacts.{Stops, stops, differs, sees}
 use Rattle.ssb_sql.proofs.Shapes.{turn_done, turn_goes, more_goes, closed_read}
 use Rattle.ssb_sql.proofs.PartFacts.{column_next, column_read, number_read}
-use Rattle.ssb_sql.proofs.ExpressionSound.{expr_shorter, steps_shorter, term_shorter, factor_shorter, term_within, factor_within}
+use Rattle.ssb_sql.proofs.ExpressionSound.{term_shorter, factor_shorter, term_within, factor_within}
 
 -- what may follow an expression
 pub record EndsExpr (to : List Token) : Type 0 where

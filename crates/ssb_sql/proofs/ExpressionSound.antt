@@ -1,7 +1,7 @@
 -- What is read as an expression is one.
-use Rattle.std.proofs.Common.{◌≡◌, ℕ, zero, suc, ◌<◌, ◌≤◌, List, [], ◌∷◌, length, Option, Some, None, refl, sym, ap, subst, ◌∙◌, arith, inl, inr}
+use Rattle.std.proofs.Common.{◌≡◌, ℕ, zero, suc, ◌<◌, ◌≤◌, List, [], ◌∷◌, length, Some, None, refl, ap, subst, arith, inl, inr}
 use Rattle.ssb_sql.specs.declared.token.Token.{Token}
-use Rattle.ssb_sql.specs.declared.token.Token.TheVariants.{Fixed, Number}
+use Rattle.ssb_sql.specs.declared.token.Token.TheVariants.{Number}
 use Rattle.ssb_sql.specs.declared.token.Sign.TheVariants as s
 use Rattle.ssb_sql.specs.declared.expr.Adding.{Adding}
 use Rattle.ssb_sql.specs.declared.expr.Adding.TheVariants as a
@@ -16,10 +16,10 @@ use Rattle.ssb_sql.specs.Expressions.IsFactors.{no_factor, times}
 use Rattle.ssb_sql.specs.Expressions.IsFactor.{plain, positive, negative}
 use Rattle.ssb_sql.specs.Expressions.IsPrimary.{column, number, parens}
 use Rattle.ssb_sql.specs.Grammar.{IsWithin}
-use Rattle.ssb_sql.specs.Steps.{◌>>=◌, Parser, choose, after, number_at, is_name_next, more_at, closed_at}
+use Rattle.ssb_sql.specs.Steps.{Parser, after, number_at, is_name_next, more_at}
 use Rattle.ssb_sql.specs.ReadParts.{column_at}
 use Rattle.ssb_sql.specs.ReadExpressions.{bare_primary_at, primary_at, factor_at, term_at, adding_at, step_at, sum_at, expr_at}
-use Rattle.ssb_sql.proofs.StepFacts.{some_is, bind_some, choose_some, if_some, after_is, after_shorter}
+use Rattle.ssb_sql.proofs.StepFacts.{some_is, bind_some, choose_some, if_some, after_shorter}
 use Rattle.ssb_sql.proofs.Loop.{Shrinks}
 use Rattle.ssb_sql.proofs.Shapes.{Sound, Tame, IsChain, spells, starts, begins, sound_closed, sound_more, shrinks}
 use Rattle.ssb_sql.proofs.PartFacts.{number_is, sound_column, tame_column}

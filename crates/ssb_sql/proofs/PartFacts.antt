@@ -1,27 +1,26 @@
 -- Columns, literals and operands are read exactly.
-use Rattle.std.proofs.Common.{◌≡◌, ℕ, zero, suc, ◌<◌, ◌≤◌, Bool, true, false, List, [], ◌∷◌, length, Option, Some, None, refl, sym, ap, subst, ◌∙◌, arith, inl, inr, pos, ℤ}
+use Rattle.std.proofs.Common.{◌≡◌, ℕ, ◌<◌, ◌≤◌, true, false, List, ◌∷◌, length, Some, None, refl, sym, ap, subst, ◌∙◌, arith, inl, inr, pos, ℤ}
 use Rattle.std.specs.Prelude.{nat_le, neg_ℤ}
 use Rattle.std.proofs.lemmas.Bool.{leb-true, le-leb}
 use Rattle.ssb_sql.specs.declared.token.Token.{Token}
 use Rattle.ssb_sql.specs.declared.token.Token.TheVariants.{Fixed, Name, Number, Text}
-use Rattle.ssb_sql.specs.declared.token.Sign.{Sign}
 use Rattle.ssb_sql.specs.declared.token.Sign.TheVariants as s
 use Rattle.ssb_sql.specs.declared.expr.ColumnName.{ColumnName}
 use Rattle.ssb_sql.specs.declared.condition.Literal.{Literal}
 use Rattle.ssb_sql.specs.declared.condition.Literal.TheVariants as l
 use Rattle.ssb_sql.specs.declared.condition.Operand.{Operand}
 use Rattle.ssb_sql.specs.declared.condition.Operand.TheVariants as o
-use Rattle.ssb_sql.specs.Forms.{Spelling, IsNamed, IsColumn, IsLiteral, IsOperand}
+use Rattle.ssb_sql.specs.Forms.{IsNamed, IsColumn, IsLiteral, IsOperand}
 use Rattle.ssb_sql.specs.Forms.IsNamed.{name}
 use Rattle.ssb_sql.specs.Forms.IsColumn.{alone, dotted}
 use Rattle.ssb_sql.specs.Forms.IsLiteral.{number, positive, negative, text}
 use Rattle.ssb_sql.specs.Forms.IsOperand.{column, literal}
 use Rattle.ssb_sql.specs.Grammar.{IsWithin}
-use Rattle.ssb_sql.specs.Steps.{◌>>=◌, Parser, choose, after, is_fixed, is_sign, name_at, number_at, text_at, is_name_next, is_text_next}
+use Rattle.ssb_sql.specs.Steps.{after, is_fixed, name_at, number_at, text_at, is_name_next, is_text_next}
 use Rattle.ssb_sql.specs.ReadParts.{column_of, column_at, small_at, below_at, plain_literal_at, literal_at, operand_at}
 use Rattle.ssb_sql.proofs.StepFacts.{some_is, bind_some, choose_some, if_some, after_is, Stops, stops, differs, sees}
 use Rattle.ssb_sql.proofs.Loop.{Shrinks}
-use Rattle.ssb_sql.proofs.Shapes.{Sound, Tame, Complete, spells, starts, begins, followed, shrinks}
+use Rattle.ssb_sql.proofs.Shapes.{Sound, Tame, spells, starts, shrinks}
 
 pub name_is : (ts : List Token) (x : List ℕ × List Token) → name_at ts ≡ Some x → ts ≡ Name x.0 ∷ x.1
 unfolding name_at

@@ -1,7 +1,7 @@
 -- Each query of the grammar is read, and tokens spell one query at most.
-use Rattle.std.proofs.Common.{◌≡◌, ℕ, zero, suc, ◌<◌, ◌≤◌, Bool, true, false, List, [], ◌∷◌, length, Option, Some, None, refl, sym, ap, subst, ◌∙◌, arith}
+use Rattle.std.proofs.Common.{◌≡◌, ℕ, zero, suc, true, false, List, [], ◌∷◌, length, Option, Some, None, refl, sym, ap, ◌∙◌, arith}
 use Rattle.ssb_sql.specs.declared.token.Token.{Token}
-use Rattle.ssb_sql.specs.declared.token.Token.TheVariants.{Fixed, Name, Number}
+use Rattle.ssb_sql.specs.declared.token.Token.TheVariants.{Fixed, Name}
 use Rattle.ssb_sql.specs.declared.token.Sign.{Sign}
 use Rattle.ssb_sql.specs.declared.token.Sign.TheVariants as s
 use Rattle.ssb_sql.specs.declared.expr.ColumnName.{ColumnName}
@@ -11,11 +11,9 @@ use Rattle.ssb_sql.specs.declared.select.Output.{Output}
 use Rattle.ssb_sql.specs.declared.select.Output.TheVariants as u
 use Rattle.ssb_sql.specs.declared.select.Item.{Item}
 use Rattle.ssb_sql.specs.declared.select.Key.{Key}
-use Rattle.ssb_sql.specs.declared.select.Key.TheVariants as k
 use Rattle.ssb_sql.specs.declared.select.Order.{Order}
 use Rattle.ssb_sql.specs.declared.select.Select.{Select}
 use Rattle.ssb_sql.specs.Forms.{IsList, IsNamed, IsColumn}
-use Rattle.ssb_sql.specs.Expressions.{IsExpr}
 use Rattle.ssb_sql.specs.Grammar.{IsOutput, IsItem, IsWhere, IsGroups, IsKey, IsOrder, IsOrders, IsEnd, Parses, IsWithin}
 use Rattle.ssb_sql.specs.Grammar.IsOutput.{column, sum, count_rows, count}
 use Rattle.ssb_sql.specs.Grammar.IsItem.{unnamed, named}
@@ -26,20 +24,17 @@ use Rattle.ssb_sql.specs.Grammar.IsGroups.{no_groups, groups}
 use Rattle.ssb_sql.specs.Grammar.IsOrders.{no_orders, orders}
 use Rattle.ssb_sql.specs.Grammar.IsEnd.{end, semicolon}
 use Rattle.ssb_sql.specs.Grammar.Parses.{query}
-use Rattle.ssb_sql.specs.Steps.{◌>>=◌, Parser, choose, after, is_sign, name_at, number_at, is_name_next, list_at, closed_at, parens_at}
+use Rattle.ssb_sql.specs.Steps.{after, is_sign, name_at, is_name_next, list_at, parens_at}
 use Rattle.ssb_sql.specs.ReadParts.{column_at}
 use Rattle.ssb_sql.specs.ReadExpressions.{expr_at}
-use Rattle.ssb_sql.specs.ReadConditions.{cond_at}
-use Rattle.ssb_sql.specs.ReadSelects.{count_at, output_at, item_of, item_at, where_at, groups_at, key_at, order_of, order_at, orders_at, is_nil, ends, select_of, rest_at, query_at}
+use Rattle.ssb_sql.specs.ReadSelects.{count_at, output_at, item_at, where_at, groups_at, key_at, order_at, orders_at, ends, select_of, rest_at, query_at}
 use Rattle.ssb_sql.proofs.StepFacts.{some_is, Stops, stops, differs, sees}
 use Rattle.ssb_sql.proofs.Shapes.{Complete, GoesOn, closed_read, list_read, tame_list}
 use Rattle.ssb_sql.proofs.PartFacts.{tame_name, tame_column, named_read, name_read, number_read, column_read}
 use Rattle.ssb_sql.proofs.Depth.{all_within}
 use Rattle.ssb_sql.proofs.ExpressionComplete.{column_begins, expr_begins, expr_read, close_ends}
-use Rattle.ssb_sql.proofs.ConditionSound.{tame_cond}
 use Rattle.ssb_sql.proofs.ConditionComplete.{EndsCond, cond_read}
 use Rattle.ssb_sql.proofs.ItemFacts.{tame_item, tame_order}
-use Rattle.ssb_sql.proofs.SelectSound.{query_sound, nil_is}
 
 no : (found sign : Sign) (ts : List Token) → is_sign found sign ≡ false → Stops sign (Fixed found ∷ ts)
 no found sign ts h = stops found sign ts h

@@ -1,5 +1,5 @@
 -- What is read as a query is one.
-use Rattle.std.proofs.Common.{◌≡◌, ℕ, zero, suc, ◌<◌, ◌≤◌, Bool, true, false, List, [], ◌∷◌, length, Option, Some, None, refl, sym, ap, subst, ◌∙◌, arith, inl, inr}
+use Rattle.std.proofs.Common.{◌≡◌, ℕ, suc, true, List, [], ◌∷◌, Option, Some, None, refl, sym, ap, subst, ◌∙◌, inl, inr}
 use Rattle.ssb_sql.specs.declared.token.Token.{Token}
 use Rattle.ssb_sql.specs.declared.token.Token.TheVariants.{Fixed}
 use Rattle.ssb_sql.specs.declared.token.Sign.TheVariants as s
@@ -8,20 +8,19 @@ use Rattle.ssb_sql.specs.declared.condition.Condition.{Condition}
 use Rattle.ssb_sql.specs.declared.select.Item.{Item}
 use Rattle.ssb_sql.specs.declared.select.Order.{Order}
 use Rattle.ssb_sql.specs.declared.select.Select.{Select}
-use Rattle.ssb_sql.specs.Forms.{IsList, IsNamed, IsColumn, IsOperand}
-use Rattle.ssb_sql.specs.Conditions.{IsWhereCond}
+use Rattle.ssb_sql.specs.Forms.{IsList, IsNamed, IsColumn}
 use Rattle.ssb_sql.specs.Grammar.{IsItem, IsWhere, IsGroups, IsOrder, IsOrders, IsEnd, Parses}
 use Rattle.ssb_sql.specs.Grammar.IsWhere.{no_where, where_cond}
 use Rattle.ssb_sql.specs.Grammar.IsGroups.{no_groups, groups}
 use Rattle.ssb_sql.specs.Grammar.IsOrders.{no_orders, orders}
 use Rattle.ssb_sql.specs.Grammar.IsEnd.{end, semicolon}
 use Rattle.ssb_sql.specs.Grammar.Parses.{query}
-use Rattle.ssb_sql.specs.Steps.{◌>>=◌, Parser, choose, after, name_at, list_at}
+use Rattle.ssb_sql.specs.Steps.{after, name_at, list_at}
 use Rattle.ssb_sql.specs.ReadParts.{column_at}
 use Rattle.ssb_sql.specs.ReadConditions.{cond_at}
 use Rattle.ssb_sql.specs.ReadSelects.{item_at, where_at, groups_at, order_at, orders_at, is_nil, ends, select_of, rest_at, query_at}
 use Rattle.ssb_sql.proofs.StepFacts.{some_is, bind_some, choose_some, after_is}
-use Rattle.ssb_sql.proofs.Shapes.{Sound, spells, starts, begins, followed, sound_list}
+use Rattle.ssb_sql.proofs.Shapes.{spells, starts, begins, followed, sound_list}
 use Rattle.ssb_sql.proofs.PartFacts.{sound_name, sound_column}
 use Rattle.ssb_sql.proofs.ConditionSound.{sound_cond}
 use Rattle.ssb_sql.proofs.ItemFacts.{sound_item, sound_order}

@@ -1,5 +1,5 @@
 -- What readers and relations share: sound, shorter, and chains.
-use Rattle.std.proofs.Common.{◌≡◌, ℕ, zero, suc, ◌<◌, ◌≤◌, List, [], ◌∷◌, ◌++◌, length, Option, Some, None, refl, sym, ap, subst, ◌∙◌, arith, inl, inr}
+use Rattle.std.proofs.Common.{◌≡◌, ℕ, zero, suc, ◌<◌, ◌≤◌, List, [], ◌∷◌, ◌++◌, length, Option, Some, None, refl, sym, ap, subst, ◌∙◌, arith}
 use Rattle.ssb_sql.specs.declared.token.Token.{Token}
 use Rattle.ssb_sql.specs.declared.token.Token.TheVariants.{Fixed}
 use Rattle.ssb_sql.specs.declared.token.Sign.{Sign}
@@ -9,7 +9,7 @@ use Rattle.ssb_sql.specs.Forms.IsMore.{no_more, comma}
 use Rattle.ssb_sql.specs.Forms.IsList.{list}
 use Rattle.ssb_sql.specs.Grammar.{IsWithin}
 use Rattle.ssb_sql.specs.Steps.{◌>>=◌, Parser, after, turn_at, chain_at, with_front, more_at, list_at, closed_at}
-use Rattle.ssb_sql.proofs.StepFacts.{some_is, bind_some, after_is, after_shorter, Stops, stops, sees}
+use Rattle.ssb_sql.proofs.StepFacts.{some_is, bind_some, after_is, after_shorter, Stops, sees}
 use Rattle.ssb_sql.proofs.Loop.{Shrinks}
 
 -- what p reads is in R

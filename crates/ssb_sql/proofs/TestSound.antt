@@ -1,10 +1,9 @@
 -- What is read as a test with no parentheses is one.
-use Rattle.std.proofs.Common.{◌≡◌, ℕ, zero, suc, ◌<◌, ◌≤◌, Bool, true, false, List, [], ◌∷◌, length, Option, Some, None, refl, sym, ap, subst, ◌∙◌, arith, inl, inr}
+use Rattle.std.proofs.Common.{◌≡◌, ℕ, zero, suc, ◌<◌, true, false, List, ◌∷◌, length, Some, refl, ap, subst, ◌∙◌, arith, inl, inr}
 use Rattle.ssb_cells.specs.declared.value.Op.{Op}
 use Rattle.ssb_cells.specs.declared.value.Op.TheVariants as op
 use Rattle.ssb_sql.specs.declared.token.Token.{Token}
 use Rattle.ssb_sql.specs.declared.token.Token.TheVariants.{Fixed}
-use Rattle.ssb_sql.specs.declared.token.Sign.{Sign}
 use Rattle.ssb_sql.specs.declared.token.Sign.TheVariants as s
 use Rattle.ssb_sql.specs.declared.expr.ColumnName.{ColumnName}
 use Rattle.ssb_sql.specs.declared.condition.Literal.{Literal}
@@ -17,11 +16,11 @@ use Rattle.ssb_sql.specs.Forms.IsOperand.{column, literal}
 use Rattle.ssb_sql.specs.Conditions.{mark_of, IsBare}
 use Rattle.ssb_sql.specs.Conditions.IsBare.{compare, between, not_between, among, not_among, null, not_null}
 use Rattle.ssb_sql.specs.Grammar.{IsWithin}
-use Rattle.ssb_sql.specs.Steps.{◌>>=◌, Parser, choose, after, list_at, closed_at, parens_at}
+use Rattle.ssb_sql.specs.Steps.{after, list_at, parens_at}
 use Rattle.ssb_sql.specs.ReadParts.{literal_at, operand_at}
-use Rattle.ssb_sql.specs.ReadConditions.{op_at, limits_at, members_at, between_of, in_of, range_at, null_at, compared_at, tail_at, bare_at}
-use Rattle.ssb_sql.proofs.StepFacts.{some_is, bind_some, choose_some, if_some, after_is}
-use Rattle.ssb_sql.proofs.Shapes.{Sound, Tame, spells, starts, begins, followed, sound_closed, sound_list, tame_list}
+use Rattle.ssb_sql.specs.ReadConditions.{op_at, limits_at, members_at, range_at, null_at, compared_at, tail_at, bare_at}
+use Rattle.ssb_sql.proofs.StepFacts.{some_is, bind_some, choose_some, after_is}
+use Rattle.ssb_sql.proofs.Shapes.{Sound, Tame, spells, followed, sound_closed, sound_list, tame_list}
 use Rattle.ssb_sql.proofs.PartFacts.{sound_operand, tame_operand, sound_literal, tame_literal, tame_column}
 
 -- a test over operands

@@ -1,7 +1,7 @@
 -- What the lines of the grammar share: lists, columns, literals and operands.
 -- Source: SQL-92, 6.4 <column reference>, 5.3 <literal> and 7.1 <row value constructor>, cut down.
 -- `R from to x`: the tokens `from` begin with an R that spells x, and then come the tokens `to`.
-use Rattle.std.specs.Prelude.{ℕ, ◌≤◌, List, [], ◌∷◌, Option, Some, None, pos, neg_ℤ}
+use Rattle.std.specs.Prelude.{ℕ, ◌≤◌, List, [], ◌∷◌, Some, None, pos, neg_ℤ}
 use Rattle.ssb_sql.specs.declared.token.Token.{Token}
 use Rattle.ssb_sql.specs.declared.token.Token.TheVariants.{Fixed, Name, Number, Text}
 use Rattle.ssb_sql.specs.declared.token.Sign.TheVariants as s

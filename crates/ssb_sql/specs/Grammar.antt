@@ -1,6 +1,6 @@
 -- Which tokens spell which query.
 -- Source: SQL-92, 7.9 <query specification>, 6.5 <set function specification>, 7.4 to 7.7 and 13.1 <order by clause>, cut down.
-use Rattle.std.specs.Prelude.{ℕ, zero, suc, Bool, true, false, List, [], ◌∷◌, Option, Some, None}
+use Rattle.std.specs.Prelude.{ℕ, zero, suc, true, false, List, [], ◌∷◌, Option, Some, None}
 use Rattle.ssb_sql.specs.declared.token.Token.{Token}
 use Rattle.ssb_sql.specs.declared.token.Token.TheVariants.{Fixed, Name, Number}
 use Rattle.ssb_sql.specs.declared.token.Sign.TheVariants as s

@@ -1,5 +1,5 @@
 -- Reading conditions.
-use Rattle.std.specs.Prelude.{ℕ, zero, suc, Bool, true, false, if◌then◌else◌, List, [], ◌∷◌, Option, Some, None}
+use Rattle.std.specs.Prelude.{ℕ, zero, suc, Bool, true, false, List, [], ◌∷◌, Option, Some, None}
 use Rattle.ssb_cells.specs.declared.value.Op.{Op}
 use Rattle.ssb_cells.specs.declared.value.Op.TheVariants as op
 use Rattle.ssb_sql.specs.declared.token.Token.{Token}

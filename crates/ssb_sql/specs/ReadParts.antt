@@ -1,6 +1,5 @@
 -- Reading columns, literals and operands.
-use Rattle.std.specs.Prelude.{ℕ, ◌≤◌, nat_le, Bool, true, false, if◌then◌else◌, List, [], ◌∷◌, Option, Some, None, ℤ, pos, neg_ℤ}
-use Rattle.ssb_sql.specs.declared.token.Token.{Token}
+use Rattle.std.specs.Prelude.{ℕ, nat_le, if◌then◌else◌, List, Option, Some, None, ℤ, pos, neg_ℤ}
 use Rattle.ssb_sql.specs.declared.token.Sign.TheVariants as s
 use Rattle.ssb_sql.specs.declared.expr.ColumnName.{ColumnName}
 use Rattle.ssb_sql.specs.declared.condition.Literal.{Literal}

@@ -21,6 +21,8 @@ mod reserved;
 mod scan;
 pub mod select;
 mod steps;
+#[cfg(test)]
+mod tests;
 pub mod text;
 pub mod token;
 

@@ -1,4 +1,4 @@
-use Rattle.std.proofs.Common.{◌≡◌, sym}
+use Rattle.std.proofs.Common.{sym}
 use Rattle.ssb_sql.proofs.Depth.{left_goes, left_ends}
 use Rattle.ssb_sql.proofs.parse.is_within.Goals as goal
 

@@ -1,4 +1,4 @@
-use Rattle.std.proofs.Common.{◌≡◌, sym, ap, ◌∙◌, refl, arith}
+use Rattle.std.proofs.Common.{sym}
 use Rattle.ssb_sql.proofs.SelectSound.{query_sound}
 use Rattle.ssb_sql.proofs.SelectComplete.{spells_none, spells_less}
 use Rattle.ssb_sql.proofs.parse.parse.Goals as goal

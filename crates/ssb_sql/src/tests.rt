@@ -1,98 +1,11 @@
-// Queries from words that are parted by spaces.
+// The queries of three texts, where precedence, the AND of BETWEEN and a sign show.
 
 use crate::condition::{Condition, Literal, Operand};
 use crate::expr::{Adding, ColumnName, Expr};
 use crate::fault::SqlFault;
-use crate::parse::parse;
+use crate::read_text::read;
 use crate::select::{Key, Output, Select};
-use crate::text::Text;
-use crate::token::{Sign, Token};
-use ssb_cells::{Name, Op, is_name};
-use std::alloc::{AllocError, Global};
-
-fn sign(word: &str) -> Option<Sign> {
-    for (spelled, sign) in [
-        ("select", Sign::Select),
-        ("from", Sign::From),
-        ("where", Sign::Where),
-        ("group", Sign::Group),
-        ("by", Sign::By),
-        ("order", Sign::Order),
-        ("and", Sign::And),
-        ("or", Sign::Or),
-        ("not", Sign::Not),
-        ("between", Sign::Between),
-        ("in", Sign::In),
-        ("is", Sign::Is),
-        ("null", Sign::Null),
-        ("as", Sign::As),
-        ("desc", Sign::Desc),
-        ("sum", Sign::Sum),
-        ("count", Sign::Count),
-        ("(", Sign::Open),
-        (")", Sign::Close),
-        (",", Sign::Comma),
-        (".", Sign::Dot),
-        (";", Sign::Semicolon),
-        ("+", Sign::Plus),
-        ("-", Sign::Minus),
-        ("*", Sign::Times),
-        ("=", Sign::Equal),
-        ("<=", Sign::LessEqual),
-    ] {
-        if spelled == word {
-            return Some(sign);
-        }
-    }
-    None
-}
-
-fn token(alloc: Global, word: &str) -> Result<Token, AllocError> {
-    if let Some(sign) = sign(word) {
-        return Ok(Token::Fixed(sign));
-    }
-    if let Ok(number) = word.parse::<u64>() {
-        return Ok(Token::Number(number));
-    }
-    if is_name(word.as_bytes()) {
-        return Ok(Token::Name(Name::new(alloc, word.as_bytes())?));
-    }
-    Ok(Token::Text(Text::new(String::from_str(alloc, word)?)))
-}
-
-fn add(alloc: Global, tokens: &mut Vec<Token>, words: &str) -> Result<(), AllocError> {
-    for word in words.split(' ') {
-        tokens.push(token(alloc, word)?)?;
-    }
-    Ok(())
-}
-
-// One text, another so many times, and a last one.
-fn repeated(
-    alloc: Global,
-    first: &str,
-    again: &str,
-    times: u32,
-    last: &str,
-) -> Result<Select, SqlFault> {
-    let mut tokens = Vec::new(alloc);
-    if add(alloc, &mut tokens, first).is_err() {
-        return Err(SqlFault::Memory);
-    }
-    for _ in 0..times {
-        if add(alloc, &mut tokens, again).is_err() {
-            return Err(SqlFault::Memory);
-        }
-    }
-    if add(alloc, &mut tokens, last).is_err() {
-        return Err(SqlFault::Memory);
-    }
-    parse(alloc, tokens.as_slice())
-}
-
-fn read(alloc: Global, words: &str) -> Result<Select, SqlFault> {
-    repeated(alloc, words, "", 0, ";")
-}
+use ssb_cells::Op;
 
 fn is_column(column: &ColumnName, name: &str) -> bool {
     column.table.is_none() && column.column.as_str() == name
@@ -134,7 +47,7 @@ fn is_product_in_sum(expr: &Expr) -> bool {
 
 #[test]
 fn product_before_sum(rt: HostRuntime) {
-    match read(rt.alloc(), "select sum ( a + b * - 2 ) from t") {
+    match read(rt.alloc(), "select sum(a + b * -2) from t") {
         Ok(select) => {
             let shown = match select.items.as_slice() {
                 [item] => match &item.output {
@@ -176,14 +89,14 @@ fn is_range_in_chain(condition: &Condition) -> bool {
         && names(y, "y")
         && is_number(two, 2)
         && names(z, "z")
-        && k.as_str() == "'k'"
+        && k.as_str() == "k"
 }
 
 #[test]
 fn and_of_between(rt: HostRuntime) {
     match read(
         rt.alloc(),
-        "select count ( * ) from t where x between 1 and - 3 and y <= 2 or not ( z in ( 'k' ) )",
+        "SELECT count(*) FROM t WHERE x BETWEEN 1 AND -3 AND y <= 2 OR NOT (z IN ('k'));",
     ) {
         Ok(select) => {
             let shown = match &select.condition {
@@ -223,7 +136,7 @@ fn is_grouped(select: &Select) -> bool {
 fn groups_and_keys(rt: HostRuntime) {
     match read(
         rt.alloc(),
-        "select a as n , count ( a ) from t , u group by t . a order by n desc , 2",
+        "select a as n, count(a) from T, u group by t.a order by N desc, 2",
     ) {
         Ok(select) => {
             let shown = is_grouped(&select);
@@ -231,60 +144,4 @@ fn groups_and_keys(rt: HostRuntime) {
         }
         Err(fault) => assert_eq!(rt; fault, SqlFault::Memory),
     }
-}
-
-#[test]
-fn no_queries(rt: HostRuntime) {
-    for words in [
-        "select a from t where a = b = c",
-        "select a from t where not not a = 1",
-        "select a from t where ( a ) = 1",
-        "select a from t where 1 is null",
-        "select a from t where a between 1",
-        "select a from t where a in ( )",
-        "select sum ( * ) from t",
-        "select a from t ; select",
-    ] {
-        match read(rt.alloc(), words) {
-            Ok(_) => assert!(rt; false, "{words}"),
-            Err(fault) => assert!(rt;
-                fault == SqlFault::Syntax || fault == SqlFault::Memory,
-                "{words}"
-            ),
-        }
-    }
-}
-
-fn answer(alloc: Global, first: &str, again: &str, times: u32, last: &str) -> Option<SqlFault> {
-    match repeated(alloc, first, again, times, last) {
-        Ok(_) => None,
-        Err(fault) => Some(fault),
-    }
-}
-
-#[test]
-fn long_and_deep(rt: HostRuntime) {
-    let alloc = rt.alloc();
-    for (first, again, times, wanted) in [
-        ("select a from t where a = 1", "and a = 1", 4000, None),
-        (
-            "select a from t where a in ( 1",
-            ", 1",
-            10000,
-            Some(SqlFault::Syntax),
-        ),
-        ("select sum ( a", "- a * a", 4000, Some(SqlFault::Syntax)),
-        ("select a from t where", "(", 64, Some(SqlFault::Syntax)),
-        ("select a from t where", "(", 65, Some(SqlFault::TooDeep)),
-    ] {
-        let found = answer(alloc, first, again, times, ";");
-        assert!(rt;
-            found == wanted || found == Some(SqlFault::Memory),
-            "{first}"
-        );
-    }
-    let found = answer(alloc, "select a from t where a in ( 1", ", 1", 10000, ") ;");
-    assert!(rt; found.is_none() || found == Some(SqlFault::Memory));
-    let found = answer(alloc, "select sum ( a", "- a * a", 4000, ") from t ;");
-    assert!(rt; found.is_none() || found == Some(SqlFault::Memory));
 }

@@ -5,7 +5,7 @@ use std::alloc::Global;
 use std::io::Read;
 
 /// How many records a file has, each read into the same row.
-pub fn count_records<R: Read + Drop>(alloc: Global, source: R) -> Result<u64, Error> {
+pub(crate) fn count_records<R: Read + Drop>(alloc: Global, source: R) -> Result<u64, Error> {
     let mut reader = ReaderBuilder::new()
         .delimiter(b'|')
         .has_headers(false)

@@ -1,4 +1,5 @@
 -- Texts in one buffer, each from the end of the one before it.
+-- For the contracts inside this crate.
 use Rattle.std.specs.Prelude.{◌≡◌, ℕ, List, length}
 use Rattle.csv.specs.Records.{cut_from, last_end, Rising, AllText}
 use Rattle.ssb_cells.specs.declared.texts.Texts.TheInside.{Inside}

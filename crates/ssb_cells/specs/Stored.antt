@@ -1,4 +1,5 @@
 -- How a column keeps its values.
+-- For the contracts inside this crate.
 use Rattle.std.specs.Prelude.{◌≡◌, Bool, List, [], ◌∷◌, length, if◌then◌else◌, vec_len, ◌≤◌}
 use Rattle.ssb_cells.specs.Cell.{Cell, Filled, null, number, text}
 use Rattle.ssb_cells.specs.declared.value.ColType.{ColType}

@@ -1,4 +1,5 @@
 -- What a contract sees of a table: its columns, all of one length.
+-- Source: own.
 use Rattle.std.specs.Prelude.{◌≡◌, ℕ, List, [], ◌∷◌, length, Option, Some, None, slice_get, ⊤}
 use Rattle.ssb_cells.specs.Cell.{Cell, Filled}
 

@@ -1,4 +1,5 @@
 -- What a contract sees of a value that is handed over.
+-- Source: own.
 use Rattle.std.specs.Prelude.{⊤, ℕ, ℤ, pos, Bool, true, false, List, []}
 use Rattle.ssb_cells.specs.Cell.{Cell, null, number, text}
 use Rattle.ssb_cells.specs.declared.value.ColType.{ColType}

@@ -1,4 +1,5 @@
 -- With which status the program ends after a fault.
+-- Source: own.
 use Rattle.std.specs.Prelude.{◌≡◌, ℕ, ⊤}
 use Rattle.ssb_load.specs.declared.fault.LoadFault.{LoadFault}
 use Rattle.ssb_load.specs.declared.fault.LoadFault.TheVariants as load

@@ -1,4 +1,5 @@
 -- What a run replies to a query over the files of a catalog's tables: it loads, reads, binds and answers, and the first fault ends it.
+-- Source: own; the order is that of the work.
 use Rattle.std.specs.Prelude.{◌≡◌, ◌++◌, List, Result, Ok, Err, ⊤}
 use Rattle.ssb_cells.specs.Cell.{Cell}
 use Rattle.ssb_load.specs.Shapes.{TableShape}

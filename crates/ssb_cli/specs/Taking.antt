@@ -1,4 +1,5 @@
 -- What a write did.
+-- Source: own, in the terms of std's `Write`.
 use Rattle.std.specs.Prelude.{◌≡◌, ◌++◌, [], ℕ, List, length, take, Result, Ok, Err, ◌==◌, ◌&&◌, nat_lt, if◌then◌else◌}
 
 -- the bytes that it took

@@ -1,4 +1,5 @@
 -- What `load` answers.
+-- Source: own.
 use Rattle.std.specs.Prelude.{◌≡◌, ◌+◌, ◌++◌, ℕ, List, [], length, slice_get, Result, Ok, Err, Option, None, Some, ⊤}
 use Rattle.ssb_cells.specs.Cell.{Filled}
 use Rattle.ssb_load.specs.Records.{Fields}

@@ -1,4 +1,5 @@
 -- The number that a field spells: `-` or nothing, then one digit or more, in the range of 64 bits.
+-- Source: own; the range is that of `int`.
 use Rattle.std.specs.Prelude.{ℕ, ℤ, pos, neg_ℤ, ◌^◌, Bool, ◌&&◌, List, length, drop, Option, Some, None, nat_lt, ◌+◌, if◌then◌else◌}
 use Rattle.std.specs.Str.{all_ascii_digits}
 use Rattle.std.specs.Str.Parse.{digits_value, starts_with_minus}

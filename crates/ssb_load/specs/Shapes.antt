@@ -1,4 +1,5 @@
 -- What a contract sees of a catalog: for each table its name, and for each of its columns name, type and role.
+-- Source: own.
 use Rattle.std.specs.Prelude.{ℕ, List, map}
 use Rattle.ssb_load.specs.declared.catalog.ColumnDef.{ColumnDef}
 use Rattle.ssb_load.specs.declared.rule.Rule.{Rule}

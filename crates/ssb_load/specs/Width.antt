@@ -1,4 +1,5 @@
 -- How many fields a record has.
+-- Source: the benchmark's generator closes each line with a bar.
 use Rattle.std.specs.Prelude.{◌+◌, ◌==◌, ◌&&◌, ◌||◌, ℕ, Bool, length}
 use Rattle.ssb_load.specs.Records.{Fields, field}
 use Rattle.ssb_load.specs.Rules.{is_empty}

@@ -1,4 +1,5 @@
 -- What the first byte of a token says.
+-- For the contracts inside this crate.
 use Rattle.std.specs.Prelude.{ℕ, ◌==◌, if◌then◌else◌}
 use Rattle.std.specs.Char.{is_ascii_alphabetic, is_ascii_digit}
 use Rattle.ssb_sql.specs.declared.class.Class.{Class}

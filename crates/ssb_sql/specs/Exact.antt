@@ -1,4 +1,5 @@
 -- What the reader of tokens answers.
+-- For the contracts inside this crate.
 use Rattle.std.specs.Prelude.{List, Result, Ok, Err, ⊤}
 use Rattle.ssb_sql.specs.declared.token.Token.{Token}
 use Rattle.ssb_sql.specs.declared.select.Select.{Select}

@@ -1,4 +1,5 @@
 -- What the list of tokens of a text is, or why it has none.
+-- Source: own; `OneListOfTokens` is a law of the tokens.
 use Rattle.std.specs.Prelude.{◌≡◌, ℕ, List, Result, Ok, Err}
 use Rattle.ssb_sql.specs.declared.fault.SqlFault.{SqlFault}
 use Rattle.ssb_sql.specs.declared.fault.SqlFault.TheVariants as fault

@@ -1,4 +1,5 @@
 -- Reading columns, literals and operands.
+-- For the contracts inside this crate.
 use Rattle.std.specs.Prelude.{ℕ, nat_le, if◌then◌else◌, List, Option, Some, None, ℤ, pos, neg_ℤ}
 use Rattle.ssb_sql.specs.declared.token.Sign.TheVariants as s
 use Rattle.ssb_sql.specs.declared.expr.ColumnName.{ColumnName}

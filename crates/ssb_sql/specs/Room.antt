@@ -1,4 +1,5 @@
 -- How many more `(` there may be.
+-- For the contracts inside this crate.
 use Rattle.std.specs.Prelude.{ℕ, zero, suc, ◌+◌, Option, Some, None, if◌then◌else◌}
 use Rattle.ssb_sql.specs.declared.token.Token.{Token}
 use Rattle.ssb_sql.specs.declared.token.Sign.TheVariants as s

@@ -1,4 +1,5 @@
 -- Reading from left to right: what every reader is made of.
+-- For the contracts inside this crate.
 use Rattle.std.specs.Prelude.{◌≡◌, ℕ, zero, suc, Bool, true, false, if◌then◌else◌, ◌==◌, List, [], ◌∷◌, ◌++◌, length, Option, Some, None, Result, Ok, Err}
 use Rattle.std.specs.Borrow.{Bor}
 use Rattle.ssb_sql.specs.declared.token.Token.{Token}

@@ -1,4 +1,5 @@
 pub mod ColumnFacts
 pub mod NameFacts
+pub mod OrderLaws
 pub mod PackedFacts
 pub mod TableFacts

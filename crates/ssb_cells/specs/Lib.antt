@@ -1,6 +1,9 @@
 pub mod Cell
+pub mod Compare
 pub mod Names
+pub mod Order
 pub mod Packed
 pub mod Stored
 pub mod Tables
+pub mod Truth
 pub mod Values

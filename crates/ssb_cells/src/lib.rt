@@ -1,20 +1,28 @@
 //! Values, columns and tables: what every other layer computes with.
 //!
 //! A column is its type and the list of its values; a table is its columns, all of one length. Both
-//! keep numbers and texts packed, and both are seen in contracts as those lists alone. What a name
-//! of a table or column looks like, and which words are reserved, stands here too, once for the
-//! catalog and the query language.
+//! keep numbers and texts packed, and both are seen in contracts as those lists alone.
+//!
+//! What a comparison says of two values, True, False or Unknown, and which of two comes first, stands
+//! here once for all conditions and orders. So does what a name of a table or column looks like, and
+//! which words are reserved, for the catalog and the query language.
 #![tactic(auto)]
 
 pub mod column;
 pub mod name;
+pub mod order;
 pub mod table;
+#[cfg(test)]
+mod tests;
 mod texts;
+pub mod truth;
 pub mod value;
 
 pub use column::Column;
 pub use name::{Name, is_name, is_reserved, is_word_byte};
+pub use order::{compare, sort_cmp};
 pub use table::Table;
+pub use truth::Truth;
 pub use value::{ColType, Op, Value};
 
 /// A growth was refused: the only fault of a call that needs nothing but memory.

@@ -1,0 +1,5 @@
+pub mod Counting
+pub mod ExprFacts
+pub mod Finding
+pub mod Least
+pub mod Meaning

@@ -1,0 +1,7 @@
+use Rattle.std.proofs.Common.{◌≡◌, drop, map}
+use Rattle.std.specs.List.{list_any}
+use Rattle.ssb_bind.specs.Types.{is_mixed}
+use Rattle.ssb_bind.proofs.types.+condition.Given as goal
+
+abbrev pub invariant-has_mixed-loop-part : goal.invariant-has_mixed-loop-part
+invariant-has_mixed-loop-part l = list_any (λ part. part) (map (is_mixed l.tables l.from) (drop l.part-index l.parts)) ≡ list_any (λ part. part) (map (is_mixed l.tables l.from) l.parts)

@@ -1,0 +1,162 @@
+-- The query of a select whose names each stand for one column: the same tree, with a column in the place of each name.
+-- Source: SQL-92, 7.9 <query specification>, cut down to the language.
+use Rattle.std.specs.Prelude.{ℕ, ◌+◌, nat_eq, Bool, true, false, ◌&&◌, if◌then◌else◌, List, [], ◌∷◌, map, Option, Some, None, unwrap_or}
+use Rattle.std.specs.List.{filter_map, position}
+use Rattle.ssb_cells.specs.declared.value.ColType.{ColType}
+use Rattle.ssb_cells.specs.declared.value.ColType.TheVariants as kinds
+use Rattle.ssb_load.specs.Shapes.{TableShape}
+use Rattle.ssb_sql.specs.declared.condition.Condition.{Condition}
+use Rattle.ssb_sql.specs.declared.condition.Condition.TheOpen.{Condition-F}
+use Rattle.ssb_sql.specs.declared.condition.Condition.TheFolds.{fold-Condition}
+use Rattle.ssb_sql.specs.declared.condition.Operand.{Operand}
+use Rattle.ssb_sql.specs.declared.condition.Operand.TheVariants as operand
+use Rattle.ssb_sql.specs.declared.expr.Expr.{Expr}
+use Rattle.ssb_sql.specs.declared.expr.Expr.TheOpen.{Expr-F, Step-F}
+use Rattle.ssb_sql.specs.declared.expr.Expr.TheFolds.{fold-Expr, fold-Step}
+use Rattle.ssb_sql.specs.declared.expr.Step.{Step}
+use Rattle.ssb_sql.specs.declared.select.Item.{Item}
+use Rattle.ssb_sql.specs.declared.select.Output.{Output}
+use Rattle.ssb_sql.specs.declared.select.Output.TheVariants as output
+use Rattle.ssb_sql.specs.declared.select.Select.{Select}
+use Rattle.ssb_bind.specs.Columns.{bound_name, table_numbers}
+use Rattle.ssb_bind.specs.Orders.{bound_order}
+use Rattle.ssb_bind.specs.Tables.{rules_in, kind_at, fact_place}
+use Rattle.ssb_bind.specs.declared.condition.BoundColumn.{BoundColumn}
+use Rattle.ssb_bind.specs.declared.condition.BoundCondition.{BoundCondition}
+use Rattle.ssb_bind.specs.declared.condition.BoundCondition.TheVariants as test
+use Rattle.ssb_bind.specs.declared.condition.BoundOperand.{BoundOperand}
+use Rattle.ssb_bind.specs.declared.condition.BoundOperand.TheVariants as bound
+use Rattle.ssb_bind.specs.declared.expr.BoundExpr.{BoundExpr}
+use Rattle.ssb_bind.specs.declared.expr.BoundExpr.TheVariants as expr
+use Rattle.ssb_bind.specs.declared.expr.BoundStep.{BoundStep}
+use Rattle.ssb_bind.specs.declared.query.Aggregate.{Aggregate}
+use Rattle.ssb_bind.specs.declared.query.Aggregate.TheVariants as aggregate
+use Rattle.ssb_bind.specs.declared.query.BoundItem.{BoundItem}
+use Rattle.ssb_bind.specs.declared.query.QueryParts.{QueryParts}
+use Rattle.ssb_bind.specs.declared.query.Source.{Source}
+use Rattle.ssb_bind.specs.declared.query.Source.TheVariants as source
+
+abbrev pub bound_operand : List TableShape → List ℕ → Operand → BoundOperand
+bound_operand c from (operand.Column name) = bound.Column (bound_name c from name)
+bound_operand c from (operand.Literal l) = bound.Literal l
+
+abbrev pub condition_layer : List TableShape → List ℕ → Condition-F BoundCondition → BoundCondition
+condition_layer c from (Condition-F.Any parts) = test.Any parts
+condition_layer c from (Condition-F.All parts) = test.All parts
+condition_layer c from (Condition-F.Not part) = test.Not part
+condition_layer c from (Condition-F.Compare op a b) = test.Compare op (bound_operand c from a) (bound_operand c from b)
+condition_layer c from (Condition-F.Between x a b) = test.Between (bound_operand c from x) (bound_operand c from a) (bound_operand c from b)
+condition_layer c from (Condition-F.NotBetween x a b) = test.NotBetween (bound_operand c from x) (bound_operand c from a) (bound_operand c from b)
+condition_layer c from (Condition-F.In x literals) = test.In (bound_operand c from x) literals
+condition_layer c from (Condition-F.NotIn x literals) = test.NotIn (bound_operand c from x) literals
+condition_layer c from (Condition-F.IsNull name) = test.IsNull (bound.Column (bound_name c from name))
+condition_layer c from (Condition-F.IsNotNull name) = test.IsNotNull (bound.Column (bound_name c from name))
+
+abbrev pub bound_condition : List TableShape → List ℕ → Condition → BoundCondition
+bound_condition c from = fold-Condition BoundCondition (condition_layer c from)
+
+abbrev pub bound_where : List TableShape → List ℕ → Option Condition → Option BoundCondition
+bound_where c from None = None
+bound_where c from (Some condition) = Some (bound_condition c from condition)
+
+abbrev pub expr_layer : List TableShape → List ℕ → Expr-F BoundExpr BoundStep → BoundExpr
+expr_layer c from (Expr-F.Column name) = expr.Column (bound_name c from name)
+expr_layer c from (Expr-F.Number n) = expr.Number n
+expr_layer c from (Expr-F.Positive part) = expr.Positive part
+expr_layer c from (Expr-F.Negative part) = expr.Negative part
+expr_layer c from (Expr-F.Chain first steps) = expr.Chain first steps
+expr_layer c from (Expr-F.Times factors) = expr.Times factors
+
+abbrev pub step_layer : Step-F BoundExpr BoundStep → BoundStep
+step_layer s = record { adding = s.adding; term = s.term }
+
+abbrev pub bound_expr : List TableShape → List ℕ → Expr → BoundExpr
+bound_expr c from = fold-Expr BoundExpr BoundStep (expr_layer c from) step_layer
+
+abbrev pub bound_step : List TableShape → List ℕ → Step → BoundStep
+bound_step c from = fold-Step BoundExpr BoundStep (expr_layer c from) step_layer
+
+-- the aggregates, in the order of the text
+abbrev pub aggregate_of : List TableShape → List ℕ → Output → Option Aggregate
+aggregate_of c from (output.Column name) = None
+aggregate_of c from (output.Sum e) = Some (aggregate.Sum (bound_expr c from e))
+aggregate_of c from output.CountRows = Some aggregate.CountRows
+aggregate_of c from (output.Count e) = Some (aggregate.Count (bound_expr c from e))
+
+abbrev pub aggregates_of : List TableShape → List ℕ → List Item → List Aggregate
+aggregates_of c from items = filter_map (λ item. aggregate_of c from item.output) items
+
+abbrev pub is_same : BoundColumn → BoundColumn → Bool
+is_same x y = nat_eq x.table y.table && nat_eq x.column y.column
+
+-- the place of a column among the group columns
+abbrev pub group_place : List BoundColumn → BoundColumn → Option ℕ
+group_place groups x = position (is_same x) groups
+
+-- A select column by its place: that of its group column, or of its aggregate, of which so many stand before it. A column that is
+-- no group column, which no bound query has, takes the first.
+abbrev pub source_of : List TableShape → List ℕ → List BoundColumn → ℕ → Output → Source
+source_of c from groups before (output.Column name) = source.Group (unwrap_or (group_place groups (bound_name c from name)) 0)
+source_of c from groups before (output.Sum e) = source.Aggregate before
+source_of c from groups before output.CountRows = source.Aggregate before
+source_of c from groups before (output.Count e) = source.Aggregate before
+
+-- sums and counts are numbers
+abbrev pub kind_of_output : List TableShape → List ℕ → Output → ColType
+kind_of_output c from (output.Column name) = unwrap_or (kind_at (rules_in c) from (bound_name c from name)) kinds.Int
+kind_of_output c from (output.Sum e) = kinds.Int
+kind_of_output c from output.CountRows = kinds.Int
+kind_of_output c from (output.Count e) = kinds.Int
+
+-- the AS name, or else the name of the column
+abbrev pub own_name : Output → Option (List ℕ)
+own_name (output.Column name) = Some name.column
+own_name (output.Sum e) = None
+own_name output.CountRows = None
+own_name (output.Count e) = None
+
+abbrev pub or_else : {A : Type 0} → Option A → Option A → Option A
+or_else (Some x) other = Some x
+or_else None other = other
+
+abbrev pub name_of_item : Item → Option (List ℕ)
+name_of_item item = or_else item.alias (own_name item.output)
+
+abbrev pub bound_item : List TableShape → List ℕ → List BoundColumn → ℕ → Item → BoundItem
+bound_item c from groups before item = record {
+  source = source_of c from groups before item.output;
+  kind = kind_of_output c from item.output;
+  name = name_of_item item;
+}
+
+abbrev pub is_aggregate : Output → Bool
+is_aggregate (output.Column name) = false
+is_aggregate (output.Sum e) = true
+is_aggregate output.CountRows = true
+is_aggregate (output.Count e) = true
+
+abbrev pub bound_items : List TableShape → List ℕ → List BoundColumn → ℕ → List Item → List BoundItem
+bound_items c from groups before [] = []
+bound_items c from groups before (item ∷ items) = bound_item c from groups before item ∷ bound_items c from groups (if is_aggregate item.output then before + 1 else before) items
+
+abbrev pub bound_over : List TableShape → List ℕ → List BoundColumn → List BoundItem → Select → QueryParts
+bound_over c from groups items s = record {
+  tables = rules_in c;
+  from = from;
+  fact = unwrap_or (fact_place (rules_in c) from) 0;
+  condition = bound_where c from s.condition;
+  groups = groups;
+  aggregates = aggregates_of c from s.items;
+  items = items;
+  orders = map (bound_order items) s.orders;
+}
+
+abbrev pub groups_of : List TableShape → List ℕ → Select → List BoundColumn
+groups_of c from s = map (bound_name c from) s.groups
+
+abbrev pub bound_from : List TableShape → List ℕ → Select → QueryParts
+bound_from c from s = bound_over c from (groups_of c from s) (bound_items c from (groups_of c from s) 0 s.items) s
+
+-- the select with a column for each name
+unfoldable pub bound_query : List TableShape → Select → QueryParts
+bound_query c s = bound_from c (table_numbers c s.from) s

@@ -1,0 +1,142 @@
+-- What a select means over a catalog, and why it means nothing: the ten refusals, least number first.
+-- Source: SQL-92, 6.3 <table reference>, 6.4 <column reference>, 7.7 <group by clause>, 7.9 <query specification>, 13.1 <declare cursor>; the shape of a
+-- star is that of the Star Schema Benchmark; the limits are this project's own.
+use Rattle.std.specs.Prelude.{◌≡◌, ◌⊎◌, ℕ, Bool, true, false, ◌++◌, if◌then◌else◌, List, [], ◌∷◌, length, nat_lt, Option, Some, None, Result, Ok, Err, find, is_none, All, ⊤}
+use Rattle.std.specs.List.{list_any, filter_map}
+use Rattle.std.specs.Str.{bytes_eq}
+use Rattle.ssb_load.specs.Shapes.{TableShape}
+use Rattle.ssb_sql.specs.declared.expr.ColumnName.{ColumnName}
+use Rattle.ssb_sql.specs.declared.select.Item.{Item}
+use Rattle.ssb_sql.specs.declared.select.Output.{Output}
+use Rattle.ssb_sql.specs.declared.select.Output.TheVariants as output
+use Rattle.ssb_sql.specs.declared.select.Select.{Select}
+use Rattle.ssb_bind.specs.Bound.{bound_query, group_place}
+use Rattle.ssb_bind.specs.Columns.{table_number, columns_for, bound_name, is_wrong}
+use Rattle.ssb_bind.specs.Names.{column_names}
+use Rattle.ssb_bind.specs.Orders.{bad_from}
+use Rattle.ssb_bind.specs.Star.{unjoined_from}
+use Rattle.ssb_bind.specs.Tables.{fact_place}
+use Rattle.ssb_bind.specs.Types.{has_mismatch}
+use Rattle.ssb_bind.specs.declared.condition.BoundColumn.{BoundColumn}
+use Rattle.ssb_bind.specs.declared.fault.BindFault.{BindFault}
+use Rattle.ssb_bind.specs.declared.fault.BindFault.TheVariants as fault
+use Rattle.ssb_bind.specs.declared.fault.TooMany.{TooMany}
+use Rattle.ssb_bind.specs.declared.fault.TooMany.TheVariants as many
+use Rattle.ssb_bind.specs.declared.fit.Wrong.{Wrong}
+use Rattle.ssb_bind.specs.declared.fit.Wrong.TheVariants as wrong
+use Rattle.ssb_bind.specs.declared.query.QueryParts.{QueryParts}
+
+-- ---- each by itself, with its detail: of the first place in the text
+
+-- a FROM name that is no table
+abbrev pub unknown_table : List TableShape → List (List ℕ) → Option (List ℕ)
+unknown_table c from = find (λ name. is_none (table_number c name)) from
+
+-- the first name that stands before, or among those behind it
+abbrev pub repeated : List (List ℕ) → List (List ℕ) → Option (List ℕ)
+repeated before [] = None
+repeated before (name ∷ names) = if list_any (bytes_eq name) before then Some name else repeated (before ++ name ∷ []) names
+
+-- a FROM name that stood in FROM before
+abbrev pub table_twice : Select → Option (List ℕ)
+table_twice s = repeated [] s.from
+
+-- a name without table that no table of FROM has, or one whose table is not in FROM or lacks it; a name without table that two tables have
+abbrev pub wrong_name : List TableShape → List ℕ → Wrong → Select → Option ColumnName
+wrong_name c from w s = find (is_wrong c from w) (column_names s)
+
+abbrev pub own_column : Output → Option ColumnName
+own_column (output.Column name) = Some name
+own_column (output.Sum e) = None
+own_column output.CountRows = None
+own_column (output.Count e) = None
+
+abbrev pub is_ungrouped : List TableShape → List ℕ → List BoundColumn → ColumnName → Bool
+is_ungrouped c from groups name = is_none (group_place groups (bound_name c from name))
+
+-- a select column, no aggregate, that is no group column
+abbrev pub not_grouped : List TableShape → List ℕ → List BoundColumn → List Item → Option ColumnName
+not_grouped c from groups items = find (is_ungrouped c from groups) (filter_map (λ item. own_column item.output) items)
+
+-- an order key that is not the name or the position of exactly one select column: its number from 1
+abbrev pub bad_order : QueryParts → Select → Option ℕ
+bad_order q s = bad_from q.items 1 s.orders
+
+-- FROM lacks the fact table
+abbrev pub lacks_fact : QueryParts → Bool
+lacks_fact q = is_none (fact_place q.tables q.from)
+
+-- another table of FROM that no conjunct of WHERE joins to the fact table by its key
+abbrev pub unjoined : QueryParts → Select → Option (List ℕ)
+unjoined q s = unjoined_from q 0 s.from
+
+-- over 8 tables, 32 select columns, 16 group columns or 32 order keys: the first that holds
+abbrev pub too_many : Select → Option TooMany
+too_many s =
+    if nat_lt 8 (length s.from) then Some many.Tables
+    else (if nat_lt 32 (length s.items) then Some many.Items
+    else (if nat_lt 16 (length s.groups) then Some many.Groups
+    else (if nat_lt 32 (length s.orders) then Some many.Orders
+    else None)))
+
+-- ---- all of them
+
+-- the first that there is
+abbrev pub first_of : List (Option BindFault) → Option BindFault
+first_of [] = None
+first_of (Some f ∷ fs) = Some f
+first_of (None ∷ fs) = first_of fs
+
+abbrev pub with : {A : Type 0} → (A → BindFault) → Option A → Option BindFault
+with f None = None
+with f (Some x) = Some (f x)
+
+abbrev pub when : Bool → BindFault → Option BindFault
+when true f = Some f
+when false f = None
+
+-- judged of a select and of its query
+abbrev pub faults : List TableShape → QueryParts → Select → List (Option BindFault)
+faults c q s =
+    with fault.UnknownTable (unknown_table c s.from)
+    ∷ with fault.TableTwice (table_twice s)
+    ∷ with (λ name. fault.UnknownColumn name.column) (wrong_name c q.from wrong.Unknown s)
+    ∷ with (λ name. fault.AmbiguousColumn name.column) (wrong_name c q.from wrong.Ambiguous s)
+    ∷ when (has_mismatch q) fault.TypeMismatch
+    ∷ with (λ name. fault.NotGrouped name.column) (not_grouped c q.from q.groups s.items)
+    ∷ with fault.BadOrderItem (bad_order q s)
+    ∷ when (lacks_fact q) fault.NoFactTable
+    ∷ with fault.NotStar (unjoined q s)
+    ∷ with fault.TooMany (too_many s)
+    ∷ []
+
+-- the least that applies: a number is judged only where no lesser one applies
+unfoldable pub least_fault : List TableShape → Select → Option BindFault
+least_fault c s = first_of (faults c (bound_query c s) s)
+
+-- ---- what binding answers
+
+-- what a refusal says of the one that applies: it is that one, or a growth was refused
+abbrev pub Says : Option BindFault → BindFault → Type 0
+Says applies f = (f ≡ fault.Memory) ⊎ (applies ≡ Some f)
+
+-- a check for one fault, or several
+abbrev pub Judges : {A : Type 0} → Option BindFault → Result A BindFault → Type 0
+Judges applies (Ok x) = applies ≡ None
+Judges applies (Err f) = Says applies f
+
+-- a value, where a check passes
+abbrev pub Keeps : {A : Type 0} → A → Result ⊤ BindFault → Result A BindFault → Type 0
+Keeps x (Ok u) kept = kept ≡ Ok x
+Keeps x (Err f) kept = kept ≡ Err f
+
+-- each name stands for one column of one table of FROM, the query has it in the name's place, and no refusal applies
+pub record Means (c : List TableShape) (s : Select) (q : QueryParts) : Type 0 where
+  pub each_name : All (λ name. columns_for c q.from name ≡ bound_name c q.from name ∷ []) (column_names s)
+  pub query : q ≡ bound_query c s
+  pub no_fault : least_fault c s ≡ None
+
+-- the query that the select means, or the least fault
+abbrev pub Answers : List TableShape → Select → Result QueryParts BindFault → Type 0
+Answers c s (Ok q) = Means c s q
+Answers c s (Err f) = Says (least_fault c s) f

@@ -1,0 +1,223 @@
+// The query of a select whose names each stand for one column.
+
+ghost use Rattle.std.specs.Prelude.{◌≡◌, IfOk, map};
+ghost use Rattle.ssb_bind.specs.Bound as spec;
+ghost use Rattle.ssb_bind.specs.Columns.{bound_name};
+ghost use Rattle.ssb_bind.specs.Tables.{rules_in};
+
+use crate::bind_condition::bound_where;
+use crate::bind_expr::bound_expr;
+use crate::condition::BoundColumn;
+use crate::groups::group_place;
+use crate::orders::bound_orders;
+use crate::query::{Aggregate, BoundItem, QueryParts, Source, TableRules};
+use crate::resolve::bound_name;
+use crate::star::fact_place;
+use crate::types::kind_at;
+use sqlite_items::Items;
+use ssb_cells::{ColType, Name};
+use ssb_load::{ColumnDef, Rule, TableDef};
+use ssb_sql::{ColumnName, Item, Output, Select};
+use std::alloc::{AllocError, Global};
+
+fn rules_of(alloc: Global, columns: &[ColumnDef]) -> Result<Items<Rule>, AllocError>
+    ensures { IfOk result (λ rules. rules ≡ map (λ c. c.rule) columns.now) }
+{
+    let mut rules = Items::new(alloc);
+    for column in columns {
+        rules.push(column.rule)?;
+    }
+    Ok(rules)
+}
+
+fn rules_in(alloc: Global, catalog: &[TableDef]) -> Result<Items<TableRules>, AllocError>
+    ensures { IfOk result (λ tables. tables ≡ rules_in catalog.now) }
+{
+    let mut tables = Items::new(alloc);
+    for table in catalog {
+        let rules = rules_of(alloc, table.columns())?;
+        tables.push(TableRules { rules })?;
+    }
+    Ok(tables)
+}
+
+fn bound_names(
+    alloc: Global,
+    catalog: &[TableDef],
+    from: &[usize],
+    names: &[ColumnName],
+) -> Result<Items<BoundColumn>, AllocError>
+    ensures { IfOk result (λ all. all ≡ map (bound_name catalog.now from.now) names.now) }
+{
+    let mut all = Items::new(alloc);
+    for name in names {
+        all.push(bound_name(catalog, from, name))?;
+    }
+    Ok(all)
+}
+
+fn aggregate_of(
+    alloc: Global,
+    catalog: &[TableDef],
+    from: &[usize],
+    output: &Output,
+) -> Result<Option<Aggregate>, AllocError>
+    ensures { IfOk result (λ a. a ≡ spec.aggregate_of catalog.now from.now output.now) }
+{
+    match output {
+        Output::Column(_) => Ok(None),
+        Output::Sum(expr) => {
+            let expr = bound_expr(alloc, catalog, from, expr)?;
+            Ok(Some(Aggregate::Sum(expr)))
+        }
+        Output::CountRows => Ok(Some(Aggregate::CountRows)),
+        Output::Count(expr) => {
+            let expr = bound_expr(alloc, catalog, from, expr)?;
+            Ok(Some(Aggregate::Count(expr)))
+        }
+    }
+}
+
+fn aggregates_of(
+    alloc: Global,
+    catalog: &[TableDef],
+    from: &[usize],
+    items: &[Item],
+) -> Result<Items<Aggregate>, AllocError>
+    ensures { IfOk result (λ all. all ≡ spec.aggregates_of catalog.now from.now items.now) }
+{
+    let mut all = Items::new(alloc);
+    for item in items {
+        if let Some(aggregate) = aggregate_of(alloc, catalog, from, &item.output)? {
+            all.push(aggregate)?;
+        }
+    }
+    Ok(all)
+}
+
+fn source_of(
+    catalog: &[TableDef],
+    from: &[usize],
+    groups: &[BoundColumn],
+    before: usize,
+    output: &Output,
+) -> Source
+    ensures { result ≡ spec.source_of catalog.now from.now groups.now before output.now }
+{
+    match output {
+        Output::Column(name) => {
+            let column = bound_name(catalog, from, name);
+            Source::Group(group_place(groups, column).unwrap_or(0))
+        }
+        _ => Source::Aggregate(before),
+    }
+}
+
+fn kind_of(catalog: &[TableDef], tables: &[TableRules], from: &[usize], output: &Output) -> ColType
+    requires { tables.now ≡ rules_in catalog.now }
+    ensures { result ≡ spec.kind_of_output catalog.now from.now output.now }
+{
+    match output {
+        Output::Column(name) => {
+            let column = bound_name(catalog, from, name);
+            kind_at(tables, from, column).unwrap_or(ColType::Int)
+        }
+        _ => ColType::Int,
+    }
+}
+
+fn name_of(alloc: Global, item: &Item) -> Result<Option<Name>, AllocError>
+    ensures { IfOk result (λ name. name ≡ spec.name_of_item item.now) }
+{
+    match (&item.alias, &item.output) {
+        (Some(alias), _) => Ok(Some(alias.copy(alloc)?)),
+        (None, Output::Column(name)) => Ok(Some(name.column.copy(alloc)?)),
+        (None, _) => Ok(None),
+    }
+}
+
+fn bound_item(
+    alloc: Global,
+    catalog: &[TableDef],
+    tables: &[TableRules],
+    from: &[usize],
+    groups: &[BoundColumn],
+    before: usize,
+    item: &Item,
+) -> Result<BoundItem, AllocError>
+    requires { tables.now ≡ rules_in catalog.now }
+    ensures { IfOk result (λ i. i ≡ spec.bound_item catalog.now from.now groups.now before item.now) }
+{
+    Ok(BoundItem {
+        source: source_of(catalog, from, groups, before, &item.output),
+        kind: kind_of(catalog, tables, from, &item.output),
+        name: name_of(alloc, item)?,
+    })
+}
+
+fn is_aggregate(output: &Output) -> bool
+    ensures { result ≡ spec.is_aggregate output.now }
+{
+    !matches!(output, Output::Column(_))
+}
+
+fn bound_items(
+    alloc: Global,
+    catalog: &[TableDef],
+    tables: &[TableRules],
+    from: &[usize],
+    groups: &[BoundColumn],
+    items: &[Item],
+) -> Result<Items<BoundItem>, AllocError>
+    requires { tables.now ≡ rules_in catalog.now }
+    ensures { IfOk result (λ all. all ≡ spec.bound_items catalog.now from.now groups.now 0 items.now) }
+{
+    let mut all = Items::new(alloc);
+    let mut before = 0;
+    for item in items {
+        all.push(bound_item(alloc, catalog, tables, from, groups, before, item)?)?;
+        if is_aggregate(&item.output) {
+            before += 1;
+        }
+    }
+    Ok(all)
+}
+
+// The select with a column for each name.
+#[tactic(auto, unfolding(crate::specs::Bound::bound_query))]
+pub(crate) fn bound_query(
+    alloc: Global,
+    catalog: &[TableDef],
+    from: Items<usize>,
+    select: &Select,
+) -> Result<QueryParts, AllocError>
+    ensures { IfOk result (λ q. q ≡ spec.bound_from catalog.now from select.now) }
+{
+    let numbers = from.as_slice();
+    let tables = rules_in(alloc, catalog)?;
+    let rules = tables.as_slice();
+    let groups = bound_names(alloc, catalog, numbers, select.groups.as_slice())?;
+    let columns = groups.as_slice();
+    let items = bound_items(
+        alloc,
+        catalog,
+        rules,
+        numbers,
+        columns,
+        select.items.as_slice(),
+    )?;
+    let orders = bound_orders(alloc, items.as_slice(), select.orders.as_slice())?;
+    let aggregates = aggregates_of(alloc, catalog, numbers, select.items.as_slice())?;
+    let condition = bound_where(alloc, catalog, numbers, &select.condition)?;
+    let fact = fact_place(rules, numbers).unwrap_or(0);
+    Ok(QueryParts {
+        tables,
+        from,
+        fact,
+        condition,
+        groups,
+        aggregates,
+        items,
+        orders,
+    })
+}

@@ -1,0 +1,49 @@
+// Binding a select to a catalog.
+
+ghost use Rattle.std.specs.Prelude.{◌≡◌, IfOk};
+ghost use Rattle.ssb_bind.specs.Faults as spec;
+ghost use Rattle.ssb_bind.specs.Star.{IsStar};
+
+use crate::bind_select::bound_query;
+use crate::fault::BindFault;
+use crate::judge::check;
+use crate::query::{Query, QueryParts};
+use crate::resolve::table_numbers;
+use ssb_load::{Catalog, TableDef};
+use ssb_sql::Select;
+use std::alloc::Global;
+
+// The query, where nothing is wrong with it.
+fn keep(query: QueryParts, checked: Result<(), BindFault>) -> Result<QueryParts, BindFault>
+    ensures { spec.Keeps query checked result }
+{
+    match checked {
+        Ok(()) => Ok(query),
+        Err(fault) => Err(fault),
+    }
+}
+
+#[tactic(auto, using(crate::proofs::Meaning::answers))]
+fn judged(alloc: Global, catalog: &[TableDef], select: &Select) -> Result<QueryParts, BindFault>
+    ensures { spec.Answers catalog.now select.now result }
+{
+    let from = table_numbers(alloc, catalog, select.from.as_slice())?;
+    let query = bound_query(alloc, catalog, from, select)?;
+    let checked = check(alloc, catalog, &query, select);
+    keep(query, checked)
+}
+
+/// The query that a select means over a catalog.
+///
+/// # Errors
+///
+/// The least fault that applies, for the first place in the text: the select list, FROM, WHERE,
+/// GROUP BY and ORDER BY, each from left to right. A fault is judged only where no lesser one
+/// applies. `Memory` where a growth was refused.
+#[tactic(auto, using(crate::proofs::Meaning::star))]
+pub fn bind(alloc: Global, catalog: &Catalog, select: Select) -> Result<Query, BindFault>
+    ensures { spec.Answers catalog.now select result }
+{
+    let parts = judged(alloc, catalog.tables(), &select)?;
+    Ok(Query::new(parts))
+}

@@ -1,0 +1,191 @@
+// The ten refusals, least number first.
+
+ghost use Rattle.std.specs.Prelude.{◌≡◌, []};
+ghost use Rattle.std.specs.List.{list_any};
+ghost use Rattle.std.specs.Option.{option_copied};
+ghost use Rattle.std.specs.Str.{bytes_eq};
+ghost use Rattle.ssb_bind.specs.Faults as spec;
+ghost use Rattle.ssb_bind.specs.Types.{has_mismatch};
+
+use crate::fault::BindFault;
+use crate::fit::Wrong;
+use crate::groups::not_grouped;
+use crate::limits::too_many;
+use crate::names::first_wrong;
+use crate::orders::bad_order;
+use crate::query::QueryParts;
+use crate::resolve::table_number;
+use crate::star::{fact_place, unjoined};
+use crate::types::has_mismatch;
+use ssb_cells::Name;
+use ssb_load::TableDef;
+use ssb_sql::Select;
+use std::alloc::Global;
+
+fn unknown_table<'a>(catalog: &[TableDef], from: &'a [Name]) -> Option<&'a Name>
+    ensures { option_copied result ≡ spec.unknown_table catalog.now from.now }
+{
+    for name in from {
+        if table_number(catalog, name).is_none() {
+            return Some(name);
+        }
+    }
+    None
+}
+
+fn is_same(name: &Name, other: &Name) -> bool
+    ensures { result ≡ bytes_eq name.now other.now }
+{
+    name.as_str() == other.as_str()
+}
+
+fn stands_in(names: &[Name], name: &Name) -> bool
+    ensures { result ≡ list_any (bytes_eq name.now) names.now }
+{
+    names.iter().any(|other| is_same(name, other))
+}
+
+fn repeated(from: &[Name]) -> Option<&Name>
+    ensures { option_copied result ≡ spec.repeated [] from.now }
+{
+    for (at, name) in from.iter().enumerate() {
+        if stands_in(&from[..at], name) {
+            return Some(name);
+        }
+    }
+    None
+}
+
+fn check_known(alloc: Global, catalog: &[TableDef], select: &Select) -> Result<(), BindFault>
+    ensures { spec.Judges (spec.with BindFault.UnknownTable (spec.unknown_table catalog.now select.now.from)) result }
+{
+    match unknown_table(catalog, select.from.as_slice()) {
+        None => Ok(()),
+        Some(name) => Err(BindFault::UnknownTable(name.copy(alloc)?)),
+    }
+}
+
+fn check_once(alloc: Global, select: &Select) -> Result<(), BindFault>
+    ensures { spec.Judges (spec.with BindFault.TableTwice (spec.table_twice select.now)) result }
+{
+    match repeated(select.from.as_slice()) {
+        None => Ok(()),
+        Some(name) => Err(BindFault::TableTwice(name.copy(alloc)?)),
+    }
+}
+
+fn check_columns(
+    alloc: Global,
+    catalog: &[TableDef],
+    from: &[usize],
+    select: &Select,
+) -> Result<(), BindFault>
+    ensures { spec.Judges (spec.with (λ name. BindFault.UnknownColumn name.column) (spec.wrong_name catalog.now from.now Wrong.Unknown select.now)) result }
+{
+    match first_wrong(catalog, from, Wrong::Unknown, select) {
+        None => Ok(()),
+        Some(name) => Err(BindFault::UnknownColumn(name.column.copy(alloc)?)),
+    }
+}
+
+fn check_single(
+    alloc: Global,
+    catalog: &[TableDef],
+    from: &[usize],
+    select: &Select,
+) -> Result<(), BindFault>
+    ensures { spec.Judges (spec.with (λ name. BindFault.AmbiguousColumn name.column) (spec.wrong_name catalog.now from.now Wrong.Ambiguous select.now)) result }
+{
+    match first_wrong(catalog, from, Wrong::Ambiguous, select) {
+        None => Ok(()),
+        Some(name) => Err(BindFault::AmbiguousColumn(name.column.copy(alloc)?)),
+    }
+}
+
+fn check_types(query: &QueryParts) -> Result<(), BindFault>
+    ensures { spec.Judges (spec.when (has_mismatch query.now) BindFault.TypeMismatch) result }
+{
+    if has_mismatch(query) {
+        return Err(BindFault::TypeMismatch);
+    }
+    Ok(())
+}
+
+fn check_groups(
+    alloc: Global,
+    catalog: &[TableDef],
+    query: &QueryParts,
+    select: &Select,
+) -> Result<(), BindFault>
+    ensures { spec.Judges (spec.with (λ name. BindFault.NotGrouped name.column) (spec.not_grouped catalog.now query.now.from query.now.groups select.now.items)) result }
+{
+    let from = query.from.as_slice();
+    match not_grouped(
+        catalog,
+        from,
+        query.groups.as_slice(),
+        select.items.as_slice(),
+    ) {
+        None => Ok(()),
+        Some(name) => Err(BindFault::NotGrouped(name.column.copy(alloc)?)),
+    }
+}
+
+fn check_orders(query: &QueryParts, select: &Select) -> Result<(), BindFault>
+    ensures { spec.Judges (spec.with BindFault.BadOrderItem (spec.bad_order query.now select.now)) result }
+{
+    match bad_order(query.items.as_slice(), select.orders.as_slice()) {
+        None => Ok(()),
+        Some(number) => Err(BindFault::BadOrderItem(number)),
+    }
+}
+
+fn check_fact(query: &QueryParts) -> Result<(), BindFault>
+    ensures { spec.Judges (spec.when (spec.lacks_fact query.now) BindFault.NoFactTable) result }
+{
+    match fact_place(query.tables.as_slice(), query.from.as_slice()) {
+        None => Err(BindFault::NoFactTable),
+        Some(_) => Ok(()),
+    }
+}
+
+fn check_star(alloc: Global, query: &QueryParts, select: &Select) -> Result<(), BindFault>
+    ensures { spec.Judges (spec.with BindFault.NotStar (spec.unjoined query.now select.now)) result }
+{
+    match unjoined(query, select.from.as_slice()) {
+        None => Ok(()),
+        Some(name) => Err(BindFault::NotStar(name.copy(alloc)?)),
+    }
+}
+
+fn check_limits(select: &Select) -> Result<(), BindFault>
+    ensures { spec.Judges (spec.with BindFault.TooMany (spec.too_many select.now)) result }
+{
+    match too_many(select) {
+        None => Ok(()),
+        Some(many) => Err(BindFault::TooMany(many)),
+    }
+}
+
+// The least fault of a select, whose names of tables and columns are bound.
+#[tactic(auto, using(crate::proofs::Least::hit, crate::proofs::Least::skip, crate::proofs::Least::done))]
+pub(crate) fn check(
+    alloc: Global,
+    catalog: &[TableDef],
+    query: &QueryParts,
+    select: &Select,
+) -> Result<(), BindFault>
+    ensures { spec.Judges (spec.first_of (spec.faults catalog.now query.now select.now)) result }
+{
+    let from = query.from.as_slice();
+    check_known(alloc, catalog, select)?;
+    check_once(alloc, select)?;
+    check_columns(alloc, catalog, from, select)?;
+    check_single(alloc, catalog, from, select)?;
+    check_types(query)?;
+    check_groups(alloc, catalog, query, select)?;
+    check_orders(query, select)?;
+    check_fact(query)?;
+    check_star(alloc, query, select)?;
+    check_limits(select)
+}

@@ -1,0 +1,97 @@
+// Keys of ORDER BY.
+
+ghost use Rattle.std.specs.Prelude.{◌≡◌, IfOk, fold, map};
+ghost use Rattle.ssb_bind.specs.Columns.{counted, and_one};
+ghost use Rattle.ssb_bind.specs.Orders as spec;
+
+use crate::fit::Fit;
+use crate::query::{BoundItem, BoundOrder};
+use sqlite_items::Items;
+use ssb_cells::Name;
+use ssb_sql::{Key, Order};
+use std::alloc::{AllocError, Global};
+
+fn is_named(name: &Name, own: &Option<Name>) -> bool
+    ensures { result ≡ spec.is_named name.now own.now }
+{
+    match own {
+        None => false,
+        Some(own) => name.as_str() == own.as_str(),
+    }
+}
+
+fn is_key_of(key: &Key, place: usize, item: &BoundItem) -> bool
+    ensures { result ≡ spec.is_key_of key.now place item.now }
+{
+    match key {
+        Key::Name(name) => is_named(name, &item.name),
+        Key::Position(number) => *number > 0 && *number - 1 == place as u64,
+    }
+}
+
+fn and_one(found: Fit<usize>, place: usize) -> Fit<usize>
+    ensures { result ≡ and_one found place }
+{
+    match found {
+        Fit::Missing => Fit::One(place),
+        _ => Fit::Several,
+    }
+}
+
+// How many select columns a key fits.
+fn fit_of(items: &[BoundItem], key: &Key) -> Fit<usize>
+    ensures { result ≡ counted (spec.places_for items.now key.now) }
+{
+    let mut found = Fit::Missing;
+    for (place, item) in items.iter().enumerate() {
+        if is_key_of(key, place, item) {
+            found = and_one(found, place);
+        }
+    }
+    found
+}
+
+fn bound_order(items: &[BoundItem], order: &Order) -> BoundOrder
+    ensures { result ≡ spec.bound_order items.now order.now }
+{
+    let item = match fit_of(items, &order.key) {
+        Fit::One(place) => place,
+        _ => 0,
+    };
+    BoundOrder {
+        item,
+        descending: order.descending,
+    }
+}
+
+pub(crate) fn bound_orders(
+    alloc: Global,
+    items: &[BoundItem],
+    orders: &[Order],
+) -> Result<Items<BoundOrder>, AllocError>
+    ensures { IfOk result (λ all. all ≡ map (spec.bound_order items.now) orders.now) }
+{
+    let mut all = Items::new(alloc);
+    for order in orders {
+        all.push(bound_order(items, order))?;
+    }
+    Ok(all)
+}
+
+fn fits_one(found: Fit<usize>) -> bool
+    ensures { result ≡ spec.fits_one found }
+{
+    matches!(found, Fit::One(_))
+}
+
+// The number of the first key, from 1, that does not fit one select column alone.
+pub(crate) fn bad_order(items: &[BoundItem], orders: &[Order]) -> Option<u64>
+    ensures { result ≡ spec.bad_from items.now 1 orders.now }
+{
+    for (place, order) in orders.iter().enumerate() {
+        if !fits_one(fit_of(items, &order.key)) {
+            return Some(place as u64 + 1);
+        }
+    }
+    None
+}

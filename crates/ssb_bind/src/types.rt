@@ -1,0 +1,198 @@
+// Types of expressions, and tests of a number beside a text.
+
+ghost use Rattle.std.specs.Prelude.{◌≡◌, ◌||◌, map};
+ghost use Rattle.std.specs.List.{list_all, list_any};
+ghost use Rattle.std.specs.Option.{option_copied};
+ghost use Rattle.ssb_bind.specs.Tables.{rule_at, kind_at};
+ghost use Rattle.ssb_bind.specs.Types as spec;
+
+use crate::condition::{BoundColumn, BoundCondition, BoundOperand};
+use crate::expr::{BoundExpr, BoundStep};
+use crate::query::{Aggregate, QueryParts, TableRules};
+use ssb_cells::ColType;
+use ssb_load::Rule;
+use ssb_sql::Literal;
+
+// What a column of a table of FROM takes.
+pub(crate) fn rule_at(tables: &[TableRules], from: &[usize], column: BoundColumn) -> Option<Rule>
+    ensures { result ≡ rule_at tables.now from.now column }
+{
+    let number = from.get(column.table)?;
+    let table = tables.get(*number)?;
+    let rule = table.rules.as_slice().get(column.column)?;
+    Some(*rule)
+}
+
+// The type of a column.
+pub(crate) fn kind_at(tables: &[TableRules], from: &[usize], column: BoundColumn) -> Option<ColType>
+    ensures { result ≡ kind_at tables.now from.now column }
+{
+    match rule_at(tables, from, column) {
+        None => None,
+        Some(rule) => Some(rule.kind),
+    }
+}
+
+fn is_number(kind: Option<ColType>) -> bool
+    ensures { result ≡ spec.is_number kind }
+{
+    matches!(kind, Some(ColType::Int))
+}
+
+fn number_if(all: bool) -> Option<ColType>
+    ensures { result ≡ spec.number_if all }
+{
+    if all { Some(ColType::Int) } else { None }
+}
+
+#[cycle(expr)]
+fn are_number_steps(tables: &[TableRules], from: &[usize], steps: &[BoundStep]) -> bool
+    ensures { result ≡ list_all spec.is_number (map (spec.type_of_step tables.now from.now) steps.now) }
+{
+    for step in steps {
+        if !is_number(type_of(tables, from, &step.term)) {
+            return false;
+        }
+    }
+    true
+}
+
+#[cycle(expr)]
+fn are_number_factors(tables: &[TableRules], from: &[usize], factors: &[BoundExpr]) -> bool
+    ensures { result ≡ list_all spec.is_number (map (spec.type_of tables.now from.now) factors.now) }
+{
+    for factor in factors {
+        if !is_number(type_of(tables, from, factor)) {
+            return false;
+        }
+    }
+    true
+}
+
+#[cycle(expr)]
+fn type_of(tables: &[TableRules], from: &[usize], expr: &BoundExpr) -> Option<ColType>
+    ensures { result ≡ spec.type_of tables.now from.now expr.now }
+{
+    match expr {
+        BoundExpr::Column(column) => kind_at(tables, from, *column),
+        BoundExpr::Number(_) => Some(ColType::Int),
+        BoundExpr::Positive(part) => number_if(is_number(type_of(tables, from, part.get()))),
+        BoundExpr::Negative(part) => number_if(is_number(type_of(tables, from, part.get()))),
+        BoundExpr::Chain(first, steps) => number_if(
+            is_number(type_of(tables, from, first.get()))
+                && are_number_steps(tables, from, steps.as_slice()),
+        ),
+        BoundExpr::Times(factors) => {
+            number_if(are_number_factors(tables, from, factors.as_slice()))
+        }
+    }
+}
+
+fn is_untyped(tables: &[TableRules], from: &[usize], aggregate: &Aggregate) -> bool
+    ensures { result ≡ spec.is_untyped tables.now from.now aggregate.now }
+{
+    match aggregate {
+        Aggregate::Sum(expr) => !is_number(type_of(tables, from, expr)),
+        Aggregate::CountRows => false,
+        Aggregate::Count(expr) => type_of(tables, from, expr).is_none(),
+    }
+}
+
+fn has_untyped(tables: &[TableRules], from: &[usize], aggregates: &[Aggregate]) -> bool
+    ensures { result ≡ list_any (spec.is_untyped tables.now from.now) aggregates.now }
+{
+    aggregates
+        .iter()
+        .any(|aggregate| is_untyped(tables, from, aggregate))
+}
+
+fn is_text_literal(literal: &Literal) -> bool
+    ensures { result ≡ spec.is_text_literal literal.now }
+{
+    match literal {
+        Literal::Number(_) => false,
+        Literal::Text(_) => true,
+    }
+}
+
+fn is_text(tables: &[TableRules], from: &[usize], operand: &BoundOperand) -> bool
+    ensures { result ≡ spec.is_text tables.now from.now operand.now }
+{
+    match operand {
+        BoundOperand::Column(column) => {
+            matches!(kind_at(tables, from, *column), Some(ColType::Text))
+        }
+        BoundOperand::Literal(literal) => is_text_literal(literal),
+    }
+}
+
+fn are_mixed(tables: &[TableRules], from: &[usize], a: &BoundOperand, b: &BoundOperand) -> bool
+    ensures { result ≡ spec.are_mixed tables.now from.now a.now b.now }
+{
+    is_text(tables, from, a) != is_text(tables, from, b)
+}
+
+fn has_other(is_text: bool, literals: &[Literal]) -> bool
+    ensures { result ≡ list_any (λ l. spec.differ is_text (spec.is_text_literal l)) literals.now }
+{
+    literals
+        .iter()
+        .any(|literal| is_text != is_text_literal(literal))
+}
+
+#[cycle(condition)]
+fn has_mixed(tables: &[TableRules], from: &[usize], parts: &[BoundCondition]) -> bool
+    ensures { result ≡ list_any (λ part. part) (map (spec.is_mixed tables.now from.now) parts.now) }
+{
+    for part in parts {
+        if is_mixed(tables, from, part) {
+            return true;
+        }
+    }
+    false
+}
+
+#[cycle(condition)]
+fn is_mixed(tables: &[TableRules], from: &[usize], condition: &BoundCondition) -> bool
+    ensures { result ≡ spec.is_mixed tables.now from.now condition.now }
+{
+    match condition {
+        BoundCondition::Any(parts) => has_mixed(tables, from, parts.as_slice()),
+        BoundCondition::All(parts) => has_mixed(tables, from, parts.as_slice()),
+        BoundCondition::Not(part) => is_mixed(tables, from, part.get()),
+        BoundCondition::Compare(_, a, b) => are_mixed(tables, from, a, b),
+        BoundCondition::Between(x, a, b) => {
+            are_mixed(tables, from, x, a) || are_mixed(tables, from, x, b)
+        }
+        BoundCondition::NotBetween(x, a, b) => {
+            are_mixed(tables, from, x, a) || are_mixed(tables, from, x, b)
+        }
+        BoundCondition::In(x, literals) => {
+            has_other(is_text(tables, from, x), literals.as_slice())
+        }
+        BoundCondition::NotIn(x, literals) => {
+            has_other(is_text(tables, from, x), literals.as_slice())
+        }
+        BoundCondition::IsNull(_) => false,
+        BoundCondition::IsNotNull(_) => false,
+    }
+}
+
+fn is_mixed_where(tables: &[TableRules], from: &[usize], condition: &Option<BoundCondition>) -> bool
+    ensures { result ≡ spec.is_mixed_where tables.now from.now condition.now }
+{
+    match condition {
+        None => false,
+        Some(condition) => is_mixed(tables, from, condition),
+    }
+}
+
+// Whether some part of the query has no type.
+pub(crate) fn has_mismatch(query: &QueryParts) -> bool
+    ensures { result ≡ spec.has_mismatch query.now }
+{
+    let tables = query.tables.as_slice();
+    let from = query.from.as_slice();
+    has_untyped(tables, from, query.aggregates.as_slice())
+        || is_mixed_where(tables, from, &query.condition)
+}

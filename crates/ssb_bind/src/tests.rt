@@ -53,13 +53,15 @@ fn is_by_city(parts: &QueryParts) -> bool {
     let [by_sales, by_place] = parts.orders.as_slice() else {
         return false;
     };
-    parts.from.as_slice() == [2, 0, 1]
+    parts.from.as_slice() == [2, 0, 1].as_slice()
         && parts.fact == 1
-        && parts.groups.as_slice()
-            == [BoundColumn {
+        && matches!(
+            parts.groups.as_slice(),
+            [BoundColumn {
                 table: 0,
                 column: 1,
             }]
+        )
         && total.source == Source::Aggregate(0)
         && total.name.is_none()
         && place.source == Source::Group(0)
@@ -72,7 +74,10 @@ fn is_by_city(parts: &QueryParts) -> bool {
         && by_sales.descending
         && by_place.item == 1
         && !by_place.descending
-        && matches!(parts.aggregates.as_slice(), [Aggregate::Sum(_), Aggregate::CountRows])
+        && matches!(
+            parts.aggregates.as_slice(),
+            [Aggregate::Sum(_), Aggregate::CountRows]
+        )
 }
 
 #[test]
@@ -81,9 +86,9 @@ fn parts_of_a_star(rt: HostRuntime) {
         where (shops.id = shop and year > 1992) and day = days.id group by shops.city
         order by sales desc, 2";
     match bound(rt.alloc(), text) {
-        Ok(query) => assert!(&rt, is_by_city(query.parts())),
+        Ok(query) => assert!(rt; is_by_city(query.parts())),
         Err(Stop::Memory) => {}
-        Err(_) => assert!(&rt, false),
+        Err(_) => assert!(rt; false),
     }
 }
 
@@ -92,10 +97,10 @@ fn name_of_two_tables(rt: HostRuntime) {
     let text = "select count(*) from sales, days, shops where day = id and shop = shops.id";
     match bound(rt.alloc(), text) {
         Err(Stop::Bound(BindFault::AmbiguousColumn(name))) => {
-            assert!(&rt, name.as_str() == "id");
+            assert!(rt; name.as_str() == "id");
         }
         Err(Stop::Memory) => {}
-        _ => assert!(&rt, false),
+        _ => assert!(rt; false),
     }
 }
 
@@ -104,6 +109,6 @@ fn least_of_two_faults(rt: HostRuntime) {
     let text = "select city, count(*) from sales, shops where shop = city";
     match bound(rt.alloc(), text) {
         Err(Stop::Bound(BindFault::TypeMismatch)) | Err(Stop::Memory) => {}
-        _ => assert!(&rt, false),
+        _ => assert!(rt; false),
     }
 }

@@ -5,8 +5,8 @@ use Rattle.ssb_load.specs.declared.fault.LoadFault.{LoadFault}
 use Rattle.ssb_load.specs.declared.fault.LoadFault.TheVariants as load
 use Rattle.ssb_sql.specs.declared.fault.SqlFault.{SqlFault}
 use Rattle.ssb_sql.specs.declared.fault.SqlFault.TheVariants as sql
-use Rattle.ssb_cli.specs.declared.fault.bind.BindFault.{BindFault}
-use Rattle.ssb_cli.specs.declared.fault.bind.BindFault.TheVariants as bind
+use Rattle.ssb_bind.specs.declared.fault.BindFault.{BindFault}
+use Rattle.ssb_bind.specs.declared.fault.BindFault.TheVariants as bind
 use Rattle.ssb_cli.specs.declared.fault.answer.AnswerFault.{AnswerFault}
 use Rattle.ssb_cli.specs.declared.fault.answer.AnswerFault.TheVariants as answer
 use Rattle.ssb_cli.specs.declared.fault.run.RunFault.{RunFault}

@@ -1,4 +1,5 @@
 pub mod Binding
+pub mod Checking
 pub mod Faults
 pub mod Loaded
 pub mod Reading

@@ -12,7 +12,7 @@ use Rattle.ssb_cli.specs.Taking.{IsBeginning}
 use Rattle.ssb_cli.specs.declared.sum_query.SumQuery.{SumQuery}
 use Rattle.ssb_cli.specs.declared.sum_text.SumText.{SumText}
 use Rattle.ssb_sql.specs.declared.fault.SqlFault.{SqlFault}
-use Rattle.ssb_cli.specs.declared.fault.bind.BindFault.{BindFault}
+use Rattle.ssb_bind.specs.declared.fault.BindFault.{BindFault}
 use Rattle.ssb_cli.specs.declared.fault.answer.AnswerFault.{AnswerFault}
 use Rattle.ssb_cli.specs.declared.fault.answer.AnswerFault.TheVariants as answer
 use Rattle.ssb_cli.specs.declared.fault.run.RunFault.{RunFault}

@@ -9,8 +9,8 @@ use Rattle.ssb_load.specs.Shapes.{TableShape}
 use Rattle.ssb_load.specs.declared.catalog.ColumnDef.{ColumnDef}
 use Rattle.ssb_cli.specs.declared.sum_text.SumText.{SumText}
 use Rattle.ssb_cli.specs.declared.sum_query.SumQuery.{SumQuery}
-use Rattle.ssb_cli.specs.declared.fault.bind.BindFault.{BindFault}
-use Rattle.ssb_cli.specs.declared.fault.bind.BindFault.TheVariants as bind
+use Rattle.ssb_bind.specs.declared.fault.BindFault.{BindFault}
+use Rattle.ssb_bind.specs.declared.fault.BindFault.TheVariants as bind
 
 abbrev pub table_named : List TableShape → List ℕ → Option ℕ
 table_named catalog name = position (λ t. bytes_eq t.name name) catalog

@@ -1,6 +1,7 @@
 // Files that are opened and read.
 
-ghost use Rattle.std.specs.Prelude.{◌≡◌, ◌≤◌, ◌<◌, IfOk, IfErr, IsOk, IsErrAnd, IsUtf8, length, vec_len, string_bytes};
+ghost use Rattle.std.specs.Prelude.{◌≡◌, ◌≤◌, ◌<◌, IfOk, IfErr, IsNone, IsOk, IsErrAnd, IsUtf8, length, vec_len, string_bytes};
+ghost use Rattle.ssb_load.specs.BuiltIn.{ssb_tables};
 ghost use Rattle.ssb_cli.specs.Faults.{IsOpenFault, IsQueryFault};
 ghost use Rattle.ssb_cli.specs.declared.files.TheConstants.{MAX_QUERY_BYTES};
 
@@ -36,12 +37,24 @@ fn open<R: Files + AllocGlobal>(rt: &R, path: &str) -> Result<R::File, ProgramFa
     }
 }
 
-/// The catalog of a file.
-pub fn read_catalog<R: Files + AllocGlobal>(rt: &R, path: &str) -> Result<Catalog, ProgramFault> {
+fn read_catalog<R: Files + AllocGlobal>(rt: &R, path: &str) -> Result<Catalog, ProgramFault> {
     let file = open(rt, path)?;
     match Catalog::read(rt.alloc(), file) {
         Ok(catalog) => Ok(catalog),
         Err(fault) => Err(ProgramFault::Catalog(fault)),
+    }
+}
+
+/// The catalog of a file, or the built-in one where no file is given.
+pub fn catalog_of<R: Files + AllocGlobal>(
+    rt: &R,
+    path: Option<&str>,
+) -> Result<Catalog, ProgramFault>
+    ensures built_in { IsNone path.entry → IfOk result (λ c. c ≡ ssb_tables) }
+{
+    match path {
+        Some(path) => read_catalog(rt, path),
+        None => Ok(Catalog::ssb(rt.alloc())?),
     }
 }
 

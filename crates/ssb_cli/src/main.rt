@@ -1,6 +1,7 @@
 //! The program `ssb`, which answers queries over the tables of the Star Schema Benchmark.
 #![tactic(auto)]
 
+mod check;
 mod fault;
 mod files;
 mod history;

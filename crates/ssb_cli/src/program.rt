@@ -3,13 +3,13 @@
 ghost use Rattle.std.specs.Prelude.{◌≡◌, ◌⊎◌};
 ghost use Rattle.ssb_cli.specs.Faults.{out_of_memory, program_status};
 
+use crate::check::check_text;
 use crate::fault::{AnswerFault, ProgramFault, RunFault};
-use crate::files::{names_of, open_all, read_catalog, read_query};
+use crate::files::{catalog_of, names_of, open_all, read_query};
 use crate::report::{MEMORY_LINE, OUT_OF_MEMORY, program_line, program_status_of};
 use crate::run::run_sum;
 use crate::words::{Task, WordsFault, task_of};
 use crate::writer::Out;
-use ssb_sql::read;
 use std::alloc::{AllocError, Global};
 use std::io::{BufWriter, Write};
 use std::rt::{Env, Files};
@@ -27,9 +27,9 @@ fn run<R: Files + Print + AllocGlobal>(
     rt: &R,
     data: &str,
     query: &str,
-    catalog: &str,
+    catalog: Option<&str>,
 ) -> Result<(), ProgramFault> {
-    let catalog = read_catalog(rt, catalog)?;
+    let catalog = catalog_of(rt, catalog)?;
     let text = read_query(rt, query)?;
     let names = names_of(rt.alloc(), &catalog)?;
     let readers = open_all(rt, data, &catalog)?;
@@ -46,13 +46,18 @@ fn run<R: Files + Print + AllocGlobal>(
     }
 }
 
-// Says `ok` of a file's text that is a query.
-fn check<R: Files + Print + AllocGlobal>(rt: &R, query: &str) -> Result<(), ProgramFault> {
+// Says `ok` of a file's text that means something over the catalog.
+fn check<R: Files + Print + AllocGlobal>(
+    rt: &R,
+    query: &str,
+    catalog: Option<&str>,
+) -> Result<(), ProgramFault> {
+    let catalog = catalog_of(rt, catalog)?;
     let text = read_query(rt, query)?;
-    if let Err(fault) = read(rt.alloc(), text.as_str()) {
+    if let Err(fault) = check_text(rt.alloc(), &catalog, text.as_str()) {
         return Err(ProgramFault::Run {
             names: Vec::new(rt.alloc()),
-            fault: RunFault::Sql(fault),
+            fault,
         });
     }
     match rt.print("ok\n") {
@@ -86,7 +91,7 @@ fn act<R: Files + Print + Eprint + Env + AllocGlobal>(rt: &R) -> Result<(), Prog
                 catalog,
             },
         ) => run(rt, data, query, catalog),
-        Ok(Task::Check { query }) => check(rt, query),
+        Ok(Task::Check { query, catalog }) => check(rt, query, catalog),
         Err(WordsFault::Help(text)) => match text.print(rt) {
             Ok(()) => Ok(()),
             Err(_) => Err(write_fault(rt.alloc())),

@@ -13,13 +13,15 @@ pub enum Task<'a> {
         data: &'a str,
         /// The query's file.
         query: &'a str,
-        /// The catalog's file.
-        catalog: &'a str,
+        /// The catalog's file, where another than the built-in one is meant.
+        catalog: Option<&'a str>,
     },
-    /// To read a query alone.
+    /// To say whether a query means something over a catalog.
     Check {
         /// The query's file.
         query: &'a str,
+        /// The catalog's file, where another than the built-in one is meant.
+        catalog: Option<&'a str>,
     },
 }
 
@@ -34,6 +36,23 @@ pub enum WordsFault {
     Memory,
 }
 
+fn query_option<'a>(alloc: Global) -> Arg<'a> {
+    Arg::new(alloc, "query")
+        .long("query")
+        .required(true)
+        .action(ArgAction::Set)
+        .value_name("FILE")
+        .help("The query")
+}
+
+fn catalog_option<'a>(alloc: Global) -> Arg<'a> {
+    Arg::new(alloc, "catalog")
+        .long("catalog")
+        .action(ArgAction::Set)
+        .value_name("FILE")
+        .help("The tables and their columns, where they are not those of the benchmark")
+}
+
 fn run_command<'a>(alloc: Global) -> Result<Command<'a>, Error> {
     let data = Arg::new(alloc, "data")
         .long("data")
@@ -41,36 +60,19 @@ fn run_command<'a>(alloc: Global) -> Result<Command<'a>, Error> {
         .action(ArgAction::Set)
         .value_name("DIR")
         .help("The folder with a file TABLE.tbl for each table");
-    let query = Arg::new(alloc, "query")
-        .long("query")
-        .required(true)
-        .action(ArgAction::Set)
-        .value_name("FILE")
-        .help("The query");
-    let catalog = Arg::new(alloc, "catalog")
-        .long("catalog")
-        .required(true)
-        .action(ArgAction::Set)
-        .value_name("FILE")
-        .help("The tables and their columns");
     let run = Command::new(alloc, "run")
         .about("Answers a query over tables")
         .arg(data)?
-        .arg(query)?
-        .arg(catalog)?;
+        .arg(query_option(alloc))?
+        .arg(catalog_option(alloc))?;
     Ok(run)
 }
 
 fn check_command<'a>(alloc: Global) -> Result<Command<'a>, Error> {
-    let query = Arg::new(alloc, "query")
-        .long("query")
-        .required(true)
-        .action(ArgAction::Set)
-        .value_name("FILE")
-        .help("The query");
     let check = Command::new(alloc, "check")
-        .about("Reads a query, and says `ok` or why it is none")
-        .arg(query)?;
+        .about("Says `ok` of a query that means something over the tables, or why it doesn't")
+        .arg(query_option(alloc))?
+        .arg(catalog_option(alloc))?;
     Ok(check)
 }
 
@@ -93,13 +95,15 @@ fn run_task<'a>(found: &ArgMatches<'a>) -> Option<Task<'a>> {
     Some(Task::Run {
         data: found.get_str("data")?,
         query: found.get_str("query")?,
-        catalog: found.get_str("catalog")?,
+        catalog: found.get_str("catalog"),
     })
 }
 
 fn check_task<'a>(found: &ArgMatches<'a>) -> Option<Task<'a>> {
-    let query = found.get_str("query")?;
-    Some(Task::Check { query })
+    Some(Task::Check {
+        query: found.get_str("query")?,
+        catalog: found.get_str("catalog"),
+    })
 }
 
 fn fault_of(error: Error) -> WordsFault {

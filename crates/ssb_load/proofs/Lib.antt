@@ -1,3 +1,4 @@
+pub mod BuiltInFacts
 pub mod CatalogFaults
 pub mod CatalogGoing
 pub mod CatalogLaws
@@ -10,6 +11,7 @@ pub mod Going
 pub mod GroupFacts
 pub mod HoldsFacts
 pub mod LawfulFacts
+pub mod ListFacts
 pub mod NumberFacts
 pub mod OneKey
 pub mod PlaceFacts

@@ -1,6 +1,8 @@
+pub mod BuiltIn
 pub mod Catalog
 pub mod CatalogReading
 pub mod Lawful
+pub mod Listing
 pub mod Loader
 pub mod Loading
 pub mod Numbers

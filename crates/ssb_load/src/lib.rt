@@ -5,6 +5,8 @@
 //! first faulty record with the least fault that applies to it.
 #![tactic(auto)]
 
+mod benchmark;
+mod built_in;
 pub mod catalog;
 mod draft;
 mod entry;

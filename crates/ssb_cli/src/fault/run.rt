@@ -1,7 +1,7 @@
 // Why a run failed.
 
 use crate::fault::answer::AnswerFault;
-use crate::fault::bind::BindFault;
+use ssb_bind::BindFault;
 use ssb_load::LoadFault;
 use ssb_sql::SqlFault;
 use thiserror::Error;

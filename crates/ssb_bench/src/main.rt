@@ -1,13 +1,16 @@
-//! What the bench measures beside `ssb`: reading the records of a file, and nothing more.
+//! What the bench measures beside `ssb`: reading the records of a file and nothing more, and what a
+//! query's joins cost by themselves.
 #![tactic(auto)]
 
+mod probe;
 mod read;
 
+use probe::{Report, measure};
 use read::count_records;
 use std::alloc::AllocError;
 use std::process::ExitCode;
-use std::rt::{Env, Files};
-use std::{env, fs};
+use std::rt::{Clock, Env, Files};
+use std::{env, fs, io};
 
 // Words that ask for nothing.
 const BAD_WORDS: u8 = 2;
@@ -35,13 +38,40 @@ fn print_count<R: Files + Print + AllocGlobal>(rt: &R, path: &str) -> u8 {
     }
 }
 
-fn status<R: Files + Print + Env + AllocGlobal>(rt: &R) -> u8 {
+fn print_micros<R: Print>(rt: &R, what: &str, micros: u128) -> io::Result<()> {
+    let whole = micros / 1000;
+    let rest = micros % 1000;
+    println!(rt; "{what} {whole}.{rest:03} ms")
+}
+
+fn print_report<R: Print>(rt: &R, report: &Report) -> io::Result<()> {
+    print_micros(rt, "loading", report.loading)?;
+    print_micros(rt, "building", report.building)?;
+    print_micros(rt, "probing", report.probing)?;
+    println!(rt; "kept {} of {} rows", report.kept, report.rows)
+}
+
+// Prints what loading the fact table, building a job and probing each fact row took.
+fn print_measures<R: Files + Clock + Print + AllocGlobal>(rt: &R, folder: &str, path: &str) -> u8 {
+    let Some(report) = measure(rt, folder, path) else {
+        return FAILED;
+    };
+    match print_report(rt, &report) {
+        Ok(()) => 0,
+        Err(_) => FAILED,
+    }
+}
+
+fn status<R: Files + Clock + Print + Env + AllocGlobal>(rt: &R) -> u8 {
     let Some(given) = words(rt) else {
         return FAILED;
     };
     match given.as_slice() {
         [] | [_] => 0,
         [_, command, path] if command.as_str() == "read" => print_count(rt, path.as_str()),
+        [_, command, folder, path] if command.as_str() == "probe" => {
+            print_measures(rt, folder.as_str(), path.as_str())
+        }
         _ => BAD_WORDS,
     }
 }

@@ -1,0 +1,79 @@
+-- One put after another.
+use Rattle.std.proofs.Common.{◌≡◌, ◌∙◌, ◌++◌, ◌∷◌, [], ℕ, List, refl, sym, ap, map, subst, arith, append_assoc, Result, Ok, Err}
+use Rattle.std.proofs.lemmas.List.{append-nil}
+use Rattle.std.specs.List.{join_with_byte}
+use Rattle.ssb_answer.specs.Taking.{IsBeginning, IsPut}
+use Rattle.ssb_answer.proofs.Written.{puts-more, puts-began, begins-more, puts-end, puts-end_began}
+use Rattle.ssb_answer.specs.Text.{barred, cell_text, line, text_of}
+use Rattle.ssb_answer.specs.Order.{Row}
+use Rattle.ssb_groups.specs.Keys.{cell_in}
+use Rattle.ssb_groups.specs.declared.key.OwnedValue.{OwnedValue}
+use Rattle.ssb_answer.specs.Writing.{Desk, Puts, Breaks, Writes}
+
+-- the text so far is put, and this is left of it
+pub record Going (old now : Desk) (text left : List ℕ) : Type 0 where
+  pub done : List ℕ
+  pub split : text ≡ done ++ left
+  pub puts : Puts old now done
+
+pub nothing-put : (d : Desk) → Puts d d []
+nothing-put d = record { put = record { gone = []; split = append-nil d.waits; taken = sym (append-nil d.taken) }; clean = refl }
+
+pub puts-both : (a b c : Desk) (x y : List ℕ) → Puts a b x → Puts b c y → Puts a c (x ++ y)
+puts-both a b c x y p q = record { put = puts-more a.taken b.taken c.taken a.waits x b.waits y c.waits p.put q.put; clean = q.clean ∙ p.clean }
+
+pub puts-then-breaks : (a b c : Desk) (x y : List ℕ) → Puts a b x → Breaks b c y → Breaks a c (x ++ y)
+puts-then-breaks a b c x y p q = record { began = puts-began a.taken b.taken c.taken a.waits x b.waits y p.put q.began; failed = let e = p.clean in let h = q.failed in omega (arith, e, h) }
+
+pub breaks-front : (a c : Desk) (x y : List ℕ) → Breaks a c x → Breaks a c (x ++ y)
+breaks-front a c x y q = record { began = begins-more a.taken c.taken a.waits x y q.began; failed = q.failed }
+
+pub going-start : (d : Desk) (text : List ℕ) → Going d d text text
+going-start d text = record { done = []; split = refl; puts = nothing-put d }
+
+pub going-more : (a b c : Desk) (text x left : List ℕ) → Going a b text (x ++ left) → Puts b c x → Going a c text left
+going-more a b c text x left w p = record { done = w.done ++ x; split = w.split ∙ sym (append_assoc w.done x left); puts = puts-both a b c w.done x w.puts p }
+
+pub going-breaks : (a b c : Desk) (text x left : List ℕ) → Going a b text (x ++ left) → Breaks b c x → Breaks a c text
+going-breaks a b c text x left w q = subst (Breaks a c) (sym w.split) (puts-then-breaks a b c w.done (x ++ left) w.puts (breaks-front b c x left q))
+
+pub going-end : (a b : Desk) (text : List ℕ) → Going a b text [] → Puts a b text
+going-end a b text w = subst (Puts a b) (sym (w.split ∙ append-nil w.done)) w.puts
+
+-- fields joined by bars
+pub joined : (x : List ℕ) (xs : List (List ℕ)) → join_with_byte 124 (x ∷ xs) ≡ x ++ barred xs
+joined x [] = sym (append-nil x)
+joined x (y ∷ ys) = ap (λ t. x ++ (124 ∷ t)) (joined y ys)
+
+-- the front of what is left
+pub field-on : (a b : Desk) (text : List ℕ) (rest fs : List OwnedValue) (f : OwnedValue) → Going a b text (barred (map cell_text (map cell_in rest))) → rest ≡ f ∷ fs
+    → Going a b text ((124 ∷ []) ++ (cell_text (cell_in f) ++ barred (map cell_text (map cell_in fs))))
+field-on a b text rest fs f w e = subst (λ r. Going a b text (barred (map cell_text (map cell_in r)))) e w
+
+pub row-on : (a b : Desk) (text : List ℕ) (rest rs : List Row) (r : Row) → Going a b text (text_of rest) → rest ≡ r ∷ rs → Going a b text (line r ++ text_of rs)
+row-on a b text rest rs r w e = subst (λ q. Going a b text (text_of q)) e w
+
+pub fields-are : (fields fs : List OwnedValue) (f : OwnedValue) → fields ≡ f ∷ fs
+    → join_with_byte 124 (map cell_text (map cell_in fields)) ≡ cell_text (cell_in f) ++ barred (map cell_text (map cell_in fs))
+fields-are fields fs f e = ap (λ q. join_with_byte 124 (map cell_text (map cell_in q))) e ∙ joined (cell_text (cell_in f)) (map cell_text (map cell_in fs))
+
+pub writes-after : {E : Type 0} (r : Result (Unit {0}) E) (a b c : Desk) (x y : List ℕ) → Puts a b x → Writes r b c y → Writes r a c (x ++ y)
+writes-after (Ok u) a b c x y p w = puts-both a b c x y p w
+writes-after (Err e) a b c x y p w = puts-then-breaks a b c x y p w
+
+-- from an empty page
+pub ends_began : (a b c t q w : List ℕ) → w ≡ [] → IsPut a b (w ++ t) q → IsBeginning b c q → IsBeginning a c t
+ends_began a b c t q w e f g = puts-end_began a b c t q (subst (λ v. IsPut a b (v ++ t) q) e f) g
+
+pub ends : (a b c t q w : List ℕ) → w ≡ [] → IsPut a b (w ++ t) q → c ≡ b ++ q → c ≡ a ++ t
+ends a b c t q w e f g = puts-end a b c t q (subst (λ v. IsPut a b (v ++ t) q) e f) g
+
+pub fails_began : (a b t w : List ℕ) → w ≡ [] → IsBeginning a b (w ++ t) → IsBeginning a b t
+fails_began a b t w e f = subst (λ v. IsBeginning a b (v ++ t)) e f
+
+pub breaks-line : (a c : Desk) (fields : List OwnedValue) → Breaks a c (join_with_byte 124 (map cell_text (map cell_in fields))) → Breaks a c (line (map cell_in fields))
+breaks-line a c fields b = breaks-front a c _ _ b
+
+pub writes-line : {E : Type 0} (r : Result (Unit {0}) E) (a b c : Desk) (fields : List OwnedValue)
+    → Puts a b (join_with_byte 124 (map cell_text (map cell_in fields))) → Writes r b c (10 ∷ []) → Writes r a c (line (map cell_in fields))
+writes-line r a b c fields p w = writes-after r a b c _ _ p w

@@ -1,0 +1,9 @@
+pub mod Bridge
+pub mod EntryFacts
+pub mod Going
+pub mod KnownLemmas
+pub mod Members
+pub mod Orders
+pub mod Probing
+pub mod Walks
+pub mod Written

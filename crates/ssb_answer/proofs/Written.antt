@@ -1,0 +1,86 @@
+-- How far a write of a text has come.
+use Rattle.std.proofs.Common.{◌≡◌, ◌∙◌, ◌++◌, ◌<◌, ◌+◌, ◌≤◌, [], ℕ, List, length, take, drop, refl, sym, ap, arith, append_assoc, length-append, rules}
+use Rattle.std.proofs.lemmas.List.{append-nil, take-append-drop, take-append-le}
+use Rattle.std.proofs.lemmas.Bool.Decides.{nat_tests}
+use Rattle.std.proofs.lemmas.Grind.{common_steps}
+use Rattle.ssb_answer.specs.Taking.{IsBeginning, IsPut, refusals}
+
+-- these bytes are taken, and those are left
+pub record Written (old new gone rest text : List ℕ) (failed_old failed_new : ℕ) : Type 0 where
+  pub split : text ≡ gone ++ rest
+  pub taken : new ≡ old ++ gone
+  pub clean : failed_new ≡ failed_old
+
+pub written-start : (old text : List ℕ) (failed : ℕ) → Written old old [] text text failed failed
+written-start old text failed = record { split = refl; taken = search (rules, common_steps); clean = refl }
+
+pub written-more : (old now next gone rest text : List ℕ) (n f g h : ℕ) → 0 < n → Written old now gone rest text f g → next ≡ now ++ take n rest → h ≡ g + refusals n rest → Written old next (gone ++ take n rest) (drop n rest) text f h
+written-more old now next gone rest text n f g h pos w e k = record {
+  split = w.split ∙ ap (λ t. gone ++ t) (sym (take-append-drop n rest)) ∙ sym (append_assoc gone (take n rest) (drop n rest));
+  taken = e ∙ ap (λ t. t ++ take n rest) w.taken ∙ append_assoc old gone (take n rest);
+  clean = let c = w.clean in grind (arith, nat_tests, k, c);
+}
+
+pub written-all : (old now gone text : List ℕ) (f g : ℕ) → Written old now gone [] text f g → now ≡ old ++ text
+written-all old now gone text f g w = w.taken ∙ ap (λ t. old ++ t) (sym (append-nil gone) ∙ sym w.split)
+
+pub written-some : (old now next gone rest text : List ℕ) (f g : ℕ) → Written old now gone rest text f g → next ≡ now → IsBeginning old next text
+written-some old now next gone rest text f g w e = record { gone = gone; left = rest; split = w.split; taken = e ∙ w.taken }
+
+-- a beginning of the front is one of the whole
+pub begins-front : (old new front back : List ℕ) → IsBeginning old new front → IsBeginning old new (front ++ back)
+begins-front old new front back b = record { gone = b.gone; left = b.left ++ back; split = ap (λ t. t ++ back) b.split ∙ append_assoc b.gone b.left back; taken = b.taken }
+
+-- so is one of the back, after the front
+pub begins-back : (old mid new front back : List ℕ) → mid ≡ old ++ front → IsBeginning mid new back → IsBeginning old new (front ++ back)
+begins-back old mid new front back m b = record {
+  gone = front ++ b.gone;
+  left = b.left;
+  split = ap (λ t. front ++ t) b.split ∙ sym (append_assoc front b.gone b.left);
+  taken = b.taken ∙ ap (λ t. t ++ b.gone) m ∙ append_assoc old front b.gone;
+}
+
+-- nothing written, or all that waited
+pub puts-none : (old new text left : List ℕ) → new ≡ old → left ≡ text → IsPut old new text left
+puts-none old new text left e l = record { gone = []; split = sym l; taken = e ∙ sym (append-nil old) }
+
+pub puts-front : (old new front back left : List ℕ) → new ≡ old ++ front → left ≡ back → IsPut old new (front ++ back) left
+puts-front old new front back left e l = record { gone = front; split = ap (λ t. front ++ t) (sym l); taken = e }
+
+pub puts-all : (old mid new front back left : List ℕ) → mid ≡ old ++ front → new ≡ mid ++ back → left ≡ [] → IsPut old new (front ++ back) left
+puts-all old mid new front back left m e l = record { gone = front ++ back; split = sym (append-nil (front ++ back)) ∙ ap (λ t. (front ++ back) ++ t) (sym l); taken = e ∙ ap (λ t. t ++ back) m ∙ append_assoc old front back }
+
+-- one put after another
+pub puts-more : (a b c p x q y r : List ℕ) → IsPut a b (p ++ x) q → IsPut b c (q ++ y) r → IsPut a c (p ++ (x ++ y)) r
+puts-more a b c p x q y r f g = record {
+  gone = f.gone ++ g.gone;
+  split = sym (append_assoc p x y) ∙ ap (λ t. t ++ y) f.split ∙ append_assoc f.gone q y ∙ ap (λ t. f.gone ++ t) g.split ∙ sym (append_assoc f.gone g.gone r);
+  taken = g.taken ∙ ap (λ t. t ++ g.gone) f.taken ∙ append_assoc a f.gone g.gone;
+}
+
+-- a put, and then a failure
+pub puts-began : (a b c p x q y : List ℕ) → IsPut a b (p ++ x) q → IsBeginning b c (q ++ y) → IsBeginning a c (p ++ (x ++ y))
+puts-began a b c p x q y f g = record {
+  gone = f.gone ++ g.gone;
+  left = g.left;
+  split = sym (append_assoc p x y) ∙ ap (λ t. t ++ y) f.split ∙ append_assoc f.gone q y ∙ ap (λ t. f.gone ++ t) g.split ∙ sym (append_assoc f.gone g.gone g.left);
+  taken = g.taken ∙ ap (λ t. t ++ g.gone) f.taken ∙ append_assoc a f.gone g.gone;
+}
+
+-- a failure in the front
+pub begins-more : (a c p x y : List ℕ) → IsBeginning a c (p ++ x) → IsBeginning a c (p ++ (x ++ y))
+begins-more a c p x y b = record { gone = b.gone; left = b.left ++ y; split = sym (append_assoc p x y) ∙ ap (λ t. t ++ y) b.split ∙ append_assoc b.gone b.left y; taken = b.taken }
+
+-- all is written once nothing waits
+pub puts-end : (a b c t q : List ℕ) → IsPut a b t q → c ≡ b ++ q → c ≡ a ++ t
+puts-end a b c t q f e = e ∙ ap (λ u. u ++ q) f.taken ∙ append_assoc a f.gone q ∙ ap (λ u. a ++ u) (sym f.split)
+
+pub puts-end_began : (a b c t q : List ℕ) → IsPut a b t q → IsBeginning b c q → IsBeginning a c t
+puts-end_began a b c t q f g = record {
+  gone = f.gone ++ g.gone;
+  left = g.left;
+  split = f.split ∙ ap (λ u. f.gone ++ u) g.split ∙ sym (append_assoc f.gone g.gone g.left);
+  taken = g.taken ∙ ap (λ u. u ++ g.gone) f.taken ∙ append_assoc a f.gone g.gone;
+}
+
+pub ruleset page_lemmas = (append_assoc, append-nil, begins-front, begins-back, puts-none, puts-front, puts-all)

@@ -1,0 +1,15 @@
+use Rattle.std.proofs.Common.{◌∷◌, []}
+use Rattle.ssb_answer.proofs.Going.{field-on, going-more, going-breaks}
+use Rattle.ssb_answer.proofs.write.put_barred.Goals as goal
+
+pub returns-in_default-put : goal.returns-in_default-put
+returns-in_default-put g c =
+    going-breaks _ _ _ _ (124 ∷ []) _ (field-on _ _ _ _ _ _ c.loop-field.invariant c.in-Some.ensures.cases.0) c.in_default-put.ensures
+
+pub returns-in_default-put_field : goal.returns-in_default-put_field
+returns-in_default-put_field g c =
+    going-breaks _ _ _ _ _ _ (going-more _ _ _ _ (124 ∷ []) _ (field-on _ _ _ _ _ _ c.loop-field.invariant c.in-Some.ensures.cases.0) c.in-Ok.ensures) c.in_default-put_field.ensures
+
+pub loop-field-preserved : goal.loop-field-preserved
+loop-field-preserved g c =
+    going-more _ _ _ _ _ _ (going-more _ _ _ _ (124 ∷ []) _ (field-on _ _ _ _ _ _ c.loop-field.invariant c.in-Some.ensures.cases.0) c.in-Ok.ensures) c.in-Ok-put_field.ensures

@@ -1,0 +1,14 @@
+use Rattle.std.proofs.Common.{map, length}
+use Rattle.ssb_groups.specs.Keys.{cell_in}
+use Rattle.ssb_answer.specs.Text.{cell_text, barred}
+use Rattle.ssb_answer.specs.Writing.{desk}
+use Rattle.ssb_answer.proofs.Going.{Going}
+use Rattle.ssb_answer.proofs.write.put_barred.Given as goal
+
+abbrev pub invariant-loop-field : goal.invariant-loop-field
+invariant-loop-field g l =
+    Going (desk (g.W.Sink.taken l.fn.out) l.fn.page (g.W.Sink.failures l.fn.out)) (desk (g.W.Sink.taken l.out) l.page (g.W.Sink.failures l.out))
+    (barred (map cell_text (map cell_in l.fields))) (barred (map cell_text (map cell_in l.rest)))
+
+abbrev pub decreases-loop-field : goal.decreases-loop-field
+decreases-loop-field g l = length l.rest

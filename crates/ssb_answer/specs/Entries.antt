@@ -1,0 +1,67 @@
+-- Rows of an answer by the entries of its groups.
+-- For the contracts inside this crate.
+use Rattle.std.specs.Prelude.{◌≡◌, ℕ, ◌==◌, pos, Bool, true, false, ⊤, Result, Ok, Err, if◌then◌else◌, List, [], ◌∷◌, map, length, Option, None, Some, slice_get, unwrap_or, replicate}
+use Rattle.std.specs.List.{list_any, range_with_len}
+use Rattle.ssb_cells.specs.Cell.{Cell, null, number}
+use Rattle.ssb_bind.specs.declared.condition.BoundColumn.{BoundColumn}
+use Rattle.ssb_bind.specs.declared.query.Aggregate.{Aggregate}
+use Rattle.ssb_bind.specs.declared.query.Aggregate.TheVariants as aggregate
+use Rattle.ssb_bind.specs.declared.query.QueryParts.{QueryParts}
+use Rattle.ssb_bind.specs.declared.query.Source.{Source}
+use Rattle.ssb_bind.specs.declared.query.Source.TheVariants as source
+use Rattle.ssb_groups.specs.Rows.{Key}
+use Rattle.ssb_groups.specs.declared.accumulator.Accumulator.{Accumulator}
+use Rattle.ssb_answer.specs.Order.{Row}
+use Rattle.ssb_answer.specs.Result.{is_beyond}
+use Rattle.ssb_answer.specs.declared.fault.AnswerFault.{AnswerFault}
+use Rattle.ssb_answer.specs.declared.fault.AnswerFault.TheVariants as fault
+
+abbrev pub Entry : Type 0
+Entry = Key × List Accumulator
+
+-- the value of an aggregate
+abbrev pub total_cell : Aggregate → Accumulator → Cell
+total_cell (aggregate.Sum e) t = if t.values == 0 then null else number t.total
+total_cell aggregate.CountRows t = number (pos t.values)
+total_cell (aggregate.Count e) t = number (pos t.values)
+
+abbrev pub total_if : Option Aggregate → Option Accumulator → Cell
+total_if None t = null
+total_if (Some a) None = null
+total_if (Some a) (Some t) = total_cell a t
+
+abbrev pub total_at : QueryParts → List Accumulator → ℕ → Cell
+total_at q ts i = total_if (slice_get q.aggregates i) (slice_get ts i)
+
+abbrev pub entry_beyond : QueryParts → Entry → Bool
+entry_beyond q e = list_any (λ i. is_beyond (total_at q e.1 i)) (range_with_len 0 (length q.aggregates))
+
+abbrev pub entry_cell : QueryParts → Entry → Source → Cell
+entry_cell q e (source.Group i) = unwrap_or (slice_get e.0 i) null
+entry_cell q e (source.Aggregate i) = total_at q e.1 i
+
+abbrev pub entry_row : QueryParts → Entry → Row
+entry_row q e = map (λ item. entry_cell q e item.source) q.items
+
+-- the aggregates over no row
+abbrev pub zeros : ℕ → List Accumulator
+zeros width = replicate width (record { values = 0; total = pos 0 })
+
+-- without GROUP BY the whole is one group, also where it is empty
+abbrev pub all_entries : List BoundColumn → ℕ → List Entry → List Entry
+all_entries [] width [] = ([], zeros width) ∷ []
+all_entries [] width (e ∷ es) = e ∷ es
+all_entries (x ∷ xs) width es = es
+
+-- a sum beyond the range, or memory
+abbrev pub IsBeyondFault : Bool → AnswerFault → Type 0
+IsBeyondFault beyond (fault.RowOverflow n) = ⊥
+IsBeyondFault beyond fault.SumOutOfRange = beyond ≡ true
+IsBeyondFault beyond fault.Memory = ⊤
+IsBeyondFault beyond fault.Write = ⊥
+
+-- the row of an entry, or why it has none
+abbrev pub JudgesEntry : QueryParts → Option Entry → Result Row AnswerFault → Type 0
+JudgesEntry q None r = ⊥
+JudgesEntry q (Some e) (Ok row) = (entry_beyond q e ≡ false) × (row ≡ entry_row q e)
+JudgesEntry q (Some e) (Err f) = IsBeyondFault (entry_beyond q e) f

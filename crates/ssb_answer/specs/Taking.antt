@@ -1,0 +1,30 @@
+-- What a write did.
+-- Source: own, in the terms of std's `Write`.
+use Rattle.std.specs.Prelude.{◌≡◌, ◌++◌, [], ℕ, List, length, take, Result, Ok, Err, ◌==◌, ◌&&◌, nat_lt, if◌then◌else◌}
+
+-- the bytes that it took
+abbrev pub taken_of : {E : Type 0} → Result ℕ E → List ℕ → List ℕ
+taken_of (Ok n) bytes = take n bytes
+taken_of (Err e) bytes = []
+
+-- 1 where it took no byte of some
+abbrev pub refusals : ℕ → List ℕ → ℕ
+refusals n bytes = if (n == 0) && nat_lt 0 (length bytes) then 1 else 0
+
+-- 1 for a failure, which is an error or no byte taken of some
+abbrev pub failures_of : {E : Type 0} → Result ℕ E → List ℕ → ℕ
+failures_of (Ok n) bytes = refusals n bytes
+failures_of (Err e) bytes = 1
+
+-- the text was taken but for what is left of it
+pub record IsPut (old new text left : List ℕ) : Type 0 where
+  pub gone : List ℕ
+  pub split : text ≡ gone ++ left
+  pub taken : new ≡ old ++ gone
+
+-- what was taken since is a beginning of the text
+pub record IsBeginning (old new text : List ℕ) : Type 0 where
+  pub gone : List ℕ
+  pub left : List ℕ
+  pub split : text ≡ gone ++ left
+  pub taken : new ≡ old ++ gone

@@ -1,0 +1,72 @@
+// An answer: rows of values.
+
+use ssb_groups::OwnedValue;
+use std::marker::Model;
+
+/// The values of a row, from left to right, seen as their list.
+#[derive(Drop)]
+pub struct AnswerRow {
+    fields: Vec<OwnedValue>,
+}
+
+impl Model for AnswerRow {
+    ghost use Rattle.std.specs.Prelude.{List, map};
+    ghost use Rattle.ssb_cells.specs.Cell.{Cell};
+    ghost use Rattle.ssb_groups.specs.Keys.{cell_in};
+
+    ghost Value = { List Cell };
+
+    ghost view = { λ r. map cell_in r.fields.items };
+}
+
+impl AnswerRow {
+    ghost use Rattle.std.specs.Prelude.{◌≡◌, map};
+    ghost use Rattle.ssb_groups.specs.Keys.{cell_in};
+
+    // Of these values.
+    pub(crate) fn new(fields: Vec<OwnedValue>) -> AnswerRow
+        ensures { result ≡ map cell_in fields.items }
+    {
+        AnswerRow { fields }
+    }
+
+    /// The values.
+    pub fn fields(&self) -> &[OwnedValue]
+        ensures { map cell_in result.now ≡ self.now }
+    {
+        self.fields.as_slice()
+    }
+}
+
+/// The rows of an answer in order, seen as their list.
+#[derive(Drop)]
+pub struct Answer {
+    rows: Vec<AnswerRow>,
+}
+
+impl Model for Answer {
+    ghost use Rattle.std.specs.Prelude.{List};
+    ghost use Rattle.ssb_cells.specs.Cell.{Cell};
+
+    ghost Value = { List (List Cell) };
+
+    ghost view = { λ a. a.rows.items };
+}
+
+impl Answer {
+    ghost use Rattle.std.specs.Prelude.{◌≡◌};
+
+    // Of these rows.
+    pub(crate) fn new(rows: Vec<AnswerRow>) -> Answer
+        ensures { result ≡ rows.items }
+    {
+        Answer { rows }
+    }
+
+    /// The rows.
+    pub fn rows(&self) -> &[AnswerRow]
+        ensures { result.now ≡ self.now }
+    {
+        self.rows.as_slice()
+    }
+}

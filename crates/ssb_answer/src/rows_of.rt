@@ -1,0 +1,258 @@
+// From groups to the rows of an answer.
+
+ghost use Rattle.std.specs.Prelude.{◌≡◌, ◌<◌, IfOk, IfErr, List, [], ◌∷◌, true, false, length, map, slice_get, unwrap_or};
+ghost use Rattle.std.specs.List.{list_any, range_with_len};
+ghost use Rattle.ssb_cells.specs.Cell as Cell;
+ghost use Rattle.ssb_groups.specs.Keys.{cell_in};
+ghost use Rattle.ssb_groups.specs.Rows.{SeenRow};
+ghost use Rattle.ssb_groups.specs.Stands.{Stands};
+ghost use Rattle.ssb_groups.specs.Value.{in_range};
+ghost use Rattle.ssb_answer.specs.Entries as spec;
+ghost use Rattle.ssb_answer.specs.Result.{Answers, AreKeyed, is_beyond};
+
+use crate::answer::{Answer, AnswerRow};
+use crate::fault::AnswerFault;
+use crate::order::sort_rows;
+use ssb_bind::{Aggregate, Query, QueryParts, Source};
+use ssb_groups::{Accumulator, GroupKey, Groups, OwnedValue, Totals};
+use std::alloc::{AllocError, Global};
+
+fn is_in_range(number: i128) -> bool
+    ensures { result ≡ in_range number }
+{
+    i64::try_from(number).is_ok()
+}
+
+// Whether the value of an aggregate leaves 64 bits.
+fn is_beyond(aggregate: &Aggregate, total: Accumulator) -> bool
+    ensures { result ≡ is_beyond (spec.total_cell aggregate.now total) }
+{
+    match aggregate {
+        Aggregate::Sum(_) => total.values > 0 && !is_in_range(total.total),
+        _ => !is_in_range(i128::from(total.values)),
+    }
+}
+
+fn is_beyond_at(parts: &QueryParts, totals: &[Accumulator], at: usize) -> bool
+    ensures { result ≡ is_beyond (spec.total_at parts.now totals.now at) }
+{
+    match (parts.aggregates.as_slice().get(at), totals.get(at)) {
+        (Some(aggregate), Some(total)) => is_beyond(aggregate, *total),
+        _ => false,
+    }
+}
+
+// Whether some aggregate of a group leaves 64 bits.
+fn has_beyond(parts: &QueryParts, totals: &[Accumulator]) -> bool
+    ensures { result ≡ list_any (λ i. is_beyond (spec.total_at parts.now totals.now i)) (range_with_len 0 (length parts.now.aggregates)) }
+{
+    (0..parts.aggregates.len()).any(|at| is_beyond_at(parts, totals, at))
+}
+
+fn number_value(number: i128) -> OwnedValue
+    ensures { in_range number ≡ true → cell_in result ≡ Cell.number number }
+{
+    match i64::try_from(number) {
+        Ok(number) => OwnedValue::Number(number),
+        Err(_) => OwnedValue::Null,
+    }
+}
+
+// The value of an aggregate that does not leave 64 bits.
+fn total_value(aggregate: &Aggregate, total: Accumulator) -> OwnedValue
+    requires { is_beyond (spec.total_cell aggregate.now total) ≡ false }
+    ensures { cell_in result ≡ spec.total_cell aggregate.now total }
+{
+    match aggregate {
+        Aggregate::Sum(_) => {
+            if total.values == 0 {
+                OwnedValue::Null
+            } else {
+                number_value(total.total)
+            }
+        }
+        _ => number_value(i128::from(total.values)),
+    }
+}
+
+fn total_value_at(parts: &QueryParts, totals: &[Accumulator], at: usize) -> OwnedValue
+    requires { is_beyond (spec.total_at parts.now totals.now at) ≡ false }
+    ensures { cell_in result ≡ spec.total_at parts.now totals.now at }
+{
+    match (parts.aggregates.as_slice().get(at), totals.get(at)) {
+        (Some(aggregate), Some(total)) => total_value(aggregate, *total),
+        _ => OwnedValue::Null,
+    }
+}
+
+fn key_value_at(alloc: Global, key: &[OwnedValue], at: usize) -> Result<OwnedValue, AllocError>
+    ensures { IfOk result (λ v. cell_in v ≡ unwrap_or (slice_get (map cell_in key.now) at) Cell.null) }
+{
+    match key.get(at) {
+        Some(value) => value.copy(alloc),
+        None => Ok(OwnedValue::Null),
+    }
+}
+
+// A value of a group's row.
+fn item_value(
+    alloc: Global,
+    parts: &QueryParts,
+    key: &[OwnedValue],
+    totals: &[Accumulator],
+    source: Source,
+) -> Result<OwnedValue, AllocError>
+    requires { spec.entry_beyond parts.now (map cell_in key.now, totals.now) ≡ false }
+    ensures { IfOk result (λ v. cell_in v ≡ spec.entry_cell parts.now (map cell_in key.now, totals.now) source) }
+{
+    match source {
+        Source::Group(at) => key_value_at(alloc, key, at),
+        Source::Aggregate(at) => Ok(total_value_at(parts, totals, at)),
+    }
+}
+
+// The row of a group.
+fn entry_row(
+    alloc: Global,
+    parts: &QueryParts,
+    key: &[OwnedValue],
+    totals: &[Accumulator],
+) -> Result<AnswerRow, AllocError>
+    requires { spec.entry_beyond parts.now (map cell_in key.now, totals.now) ≡ false }
+    ensures { IfOk result (λ row. row ≡ spec.entry_row parts.now (map cell_in key.now, totals.now)) }
+{
+    let mut fields = Vec::with_capacity(alloc, parts.items.len())?;
+    for item in parts.items.as_slice() {
+        fields.push(item_value(alloc, parts, key, totals, item.source)?)?;
+    }
+    Ok(AnswerRow::new(fields))
+}
+
+// The row of a group, if no aggregate leaves 64 bits.
+fn judged_row(
+    alloc: Global,
+    parts: &QueryParts,
+    key: &[OwnedValue],
+    totals: &[Accumulator],
+) -> Result<AnswerRow, AnswerFault>
+    ensures ok { IfOk result (λ row. (spec.entry_beyond parts.now (map cell_in key.now, totals.now) ≡ false) × (row ≡ spec.entry_row parts.now (map cell_in key.now, totals.now))) }
+    ensures err { IfErr result (spec.IsBeyondFault (spec.entry_beyond parts.now (map cell_in key.now, totals.now))) }
+{
+    if has_beyond(parts, totals) {
+        return Err(AnswerFault::SumOutOfRange);
+    }
+    match entry_row(alloc, parts, key, totals) {
+        Ok(row) => Ok(row),
+        Err(_) => Err(AnswerFault::Memory),
+    }
+}
+
+fn group_row(
+    alloc: Global,
+    parts: &QueryParts,
+    groups: &Groups,
+    at: usize,
+) -> Result<AnswerRow, AnswerFault>
+    requires { at < length groups.now.entries }
+    ensures { spec.JudgesEntry parts.now (slice_get groups.now.entries at) result }
+{
+    let Some((key, totals)) = groups.group(at) else {
+        unreachable!()
+    };
+    judged_row(alloc, parts, key.cells(), totals.as_slice())
+}
+
+// The rows of all groups, in no order.
+fn group_rows(
+    alloc: Global,
+    parts: &QueryParts,
+    groups: &Groups,
+) -> Result<Vec<AnswerRow>, AnswerFault>
+    ensures ok { IfOk result (λ rows. (list_any (spec.entry_beyond parts.now) groups.now.entries ≡ false) × (rows.items ≡ map (spec.entry_row parts.now) groups.now.entries)) }
+    ensures err { IfErr result (spec.IsBeyondFault (list_any (spec.entry_beyond parts.now) groups.now.entries)) }
+{
+    let mut rows = Vec::new(alloc);
+    for at in 0..groups.group_count() {
+        match group_row(alloc, parts, groups, at) {
+            Ok(row) => {
+                let Ok(()) = rows.push(row) else {
+                    return Err(AnswerFault::Memory);
+                };
+            }
+            Err(fault) => return Err(fault),
+        }
+    }
+    Ok(rows)
+}
+
+fn zeros(alloc: Global, width: usize) -> Result<Vec<Accumulator>, AllocError>
+    ensures { IfOk result (λ totals. totals.items ≡ spec.zeros width) }
+{
+    vec![in alloc; Accumulator {
+        values: 0,
+        total: 0,
+    }; width]
+}
+
+// The one row of a query without GROUP BY over no row.
+fn whole_row(alloc: Global, parts: &QueryParts, width: usize) -> Result<Vec<AnswerRow>, AnswerFault>
+    ensures ok { IfOk result (λ rows. (list_any (spec.entry_beyond parts.now) (([], spec.zeros width) ∷ []) ≡ false) × (rows.items ≡ map (spec.entry_row parts.now) (([], spec.zeros width) ∷ []))) }
+    ensures err { IfErr result (spec.IsBeyondFault (list_any (spec.entry_beyond parts.now) (([], spec.zeros width) ∷ []))) }
+{
+    let Ok(totals) = zeros(alloc, width) else {
+        return Err(AnswerFault::Memory);
+    };
+    let row = match judged_row(alloc, parts, &[], totals.as_slice()) {
+        Ok(row) => row,
+        Err(fault) => return Err(fault),
+    };
+    let mut rows = Vec::new(alloc);
+    match rows.push(row) {
+        Ok(()) => Ok(rows),
+        Err(_) => Err(AnswerFault::Memory),
+    }
+}
+
+// The rows of all groups, in no order; without GROUP BY the whole is one group, also where it is empty.
+fn all_rows(
+    alloc: Global,
+    parts: &QueryParts,
+    groups: &Groups,
+) -> Result<Vec<AnswerRow>, AnswerFault>
+    ensures ok { IfOk result (λ rows. (list_any (spec.entry_beyond parts.now) (spec.all_entries parts.now.groups groups.now.width groups.now.entries) ≡ false) × (rows.items ≡ map (spec.entry_row parts.now) (spec.all_entries parts.now.groups groups.now.width groups.now.entries))) }
+    ensures err { IfErr result (spec.IsBeyondFault (list_any (spec.entry_beyond parts.now) (spec.all_entries parts.now.groups groups.now.width groups.now.entries))) }
+{
+    if parts.groups.is_empty() && groups.group_count() == 0 {
+        return whole_row(alloc, parts, groups.width());
+    }
+    group_rows(alloc, parts, groups)
+}
+
+fn answer_of(alloc: Global, parts: &QueryParts, groups: &Groups) -> Result<Answer, AnswerFault>
+    requires { groups.now.width ≡ length parts.now.aggregates }
+    ensures { (R : List SeenRow) → Stands groups.now R → AreKeyed parts.now R → Answers parts.now R result }
+{
+    if let Some(fact) = groups.overflow() {
+        return Err(AnswerFault::RowOverflow(fact));
+    }
+    let mut found = match all_rows(alloc, parts, groups) {
+        Ok(found) => found,
+        Err(fault) => return Err(fault),
+    };
+    sort_rows(parts.orders.as_slice(), &mut found);
+    Ok(Answer::new(found))
+}
+
+/// The rows of a query's answer in order, of the groups over the rows that it keeps.
+///
+/// # Errors
+///
+/// `RowOverflow` with the least fact row, from 1, at which an aggregate's argument leaves 64 bits;
+/// else `SumOutOfRange` where the exact sum of a group leaves them; `Memory` where a growth was
+/// refused.
+pub fn rows(alloc: Global, groups: Groups, query: &Query) -> Result<Answer, AnswerFault>
+    requires { groups.width ≡ length query.now.aggregates }
+    ensures { (R : List SeenRow) → Stands groups R → AreKeyed query.now R → Answers query.now R result }
+{
+    answer_of(alloc, query.parts(), &groups)
+}

@@ -1,0 +1,8 @@
+pub mod AddFacts
+pub mod Bounds
+pub mod CellFacts
+pub mod JoinedFront
+pub mod KeyFacts
+pub mod RowFacts
+pub mod StandsFacts
+pub mod TableFacts

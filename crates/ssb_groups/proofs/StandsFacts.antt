@@ -1,0 +1,117 @@
+-- When groups stand for one row more.
+use Rattle.std.proofs.Common.{◌≡◌, ℕ, ◌+◌, ◌^◌, ◌<◌, true, false, true≢false, is_some, cond, List, [], ◌∷◌, ◌++◌, map, length, Option, None, Some, refl, sym, ap, subst, ◌∙◌, arith, length-append}
+use Rattle.std.specs.List.{IsDistinct}
+use Rattle.std.specs.Map.{lookup}
+use Rattle.ssb_groups.specs.Joining.{FitEach, option_joined}
+use Rattle.ssb_groups.specs.Rows.{Key, key_eq, SeenRow}
+use Rattle.ssb_groups.specs.Stands.{GroupMap, Stands, has_over, overflows, least_of, least, totals, group, summary, EachRanged}
+use Rattle.ssb_groups.specs.declared.accumulator.Accumulator.{Accumulator}
+use Rattle.ssb_groups.proofs.RowFacts.{summary-append, group-append, overflows-append, least-append, AreRanged-append}
+use Rattle.ssb_groups.proofs.Bounds.{summary_is, fit_row}
+
+-- the groups of one row
+abbrev pub of_row : ℕ → SeenRow → GroupMap
+of_row w r = record { width = w; entries = (r.key, totals w (r ∷ [])) ∷ []; overflow = least (overflows (r ∷ [])); counted = 1 }
+
+-- n has at each key the aggregates of g and of h, joined
+abbrev pub JoinsAll : GroupMap → GroupMap → GroupMap → Type 0
+JoinsAll g h n = (k : Key) → lookup (key_eq k) n.entries ≡ option_joined (lookup (key_eq k) g.entries) (lookup (key_eq k) h.entries)
+
+none_left : (a b : Option ℕ) → least_of a b ≡ None → a ≡ None
+none_left None b e = refl
+none_left (Some m) None e = cc
+none_left (Some m) (Some n) e = cc
+
+none_right : (a b : Option ℕ) → least_of a b ≡ None → b ≡ None
+none_right None b e = e
+none_right (Some m) None e = refl
+none_right (Some m) (Some n) e = cc
+
+pub Stands-join : (g h n : GroupMap) (A B : List SeenRow) → Stands g A → Stands h B → n.width ≡ g.width → h.width ≡ g.width
+    → n.counted ≡ g.counted + h.counted
+    → n.overflow ≡ least_of g.overflow h.overflow
+    → IsDistinct key_eq (map (λ e. e.0) n.entries)
+    → (n.overflow ≡ None → JoinsAll g h n)
+    → Stands n (A ++ B)
+Stands-join g h n A B p q width same counted overflow distinct joins = record {
+  ranged = AreRanged-append A B p.ranged q.ranged;
+  counted = let a = p.counted in let b = q.counted in omega (arith, length-append A B);
+  overflow = overflow ∙ cc (p.overflow, q.overflow, overflows-append A B, least-append (overflows A) (overflows B));
+  exact = λ none k.
+      let gn = none_left g.overflow h.overflow (sym overflow ∙ none) in
+      let hn = none_right g.overflow h.overflow (sym overflow ∙ none) in
+      let left : lookup (key_eq k) g.entries ≡ summary n.width (group k A) = p.exact gn k ∙ ap (λ w. summary w (group k A)) (sym width) in
+      let right : lookup (key_eq k) h.entries ≡ summary n.width (group k B) = q.exact hn k ∙ ap (λ w. summary w (group k B)) (same ∙ sym width) in
+      joins none k ∙ cc (left, right, group-append k A B, summary-append n.width (group k A) (group k B));
+  distinct = distinct;
+}
+
+Stands-of_row : (w : ℕ) (r : SeenRow) → EachRanged r.arguments → IsDistinct key_eq (r.key ∷ []) → Stands (of_row w r) (r ∷ [])
+Stands-of_row w r p d = record {
+  ranged = (p, tt);
+  counted = refl;
+  overflow = refl;
+  exact = λ none k. elim (key_eq k r.key) as (λ t. cond t (Some (totals w (r ∷ []))) None ≡ summary w (cond t (r ∷ []) [])) [ true ↦ refl | false ↦ refl ];
+  distinct = d;
+}
+
+alone : (k : Key) → IsDistinct key_eq (k ∷ [])
+unfolding IsDistinct
+alone k = (tt, tt)
+
+-- over no row
+pub Stands-nothing : (g : GroupMap) → g.counted ≡ 0 → g.overflow ≡ None → g.entries ≡ [] → Stands g []
+unfolding IsDistinct
+Stands-nothing g counted overflow entries = record {
+  ranged = tt;
+  counted = counted;
+  overflow = overflow;
+  exact = λ none k. ap (lookup (key_eq k)) entries;
+  distinct = subst (λ es. IsDistinct key_eq (map (λ e. e.0) es)) (sym entries) tt;
+}
+
+-- one more row, at which an argument is Over
+pub Stands-over : (g n : GroupMap) (A : List SeenRow) (r : SeenRow) → has_over r ≡ true → EachRanged r.arguments → Stands g A → n.width ≡ g.width
+    → n.counted ≡ g.counted + 1 → n.overflow ≡ least_of g.overflow (Some r.fact) → n.entries ≡ g.entries → Stands n (A ++ r ∷ [])
+Stands-over g n A r is_over ranged p width counted overflow entries =
+    Stands-join g (of_row g.width r) n A (r ∷ []) p (Stands-of_row g.width r ranged (alone r.key)) width refl counted (overflow ∙ ap (least_of g.overflow) (sym one))
+    (subst (λ es. IsDistinct key_eq (map (λ e. e.0) es)) (sym entries) p.distinct)
+    (λ none. absurd (some_none r.fact (none_right g.overflow (Some r.fact) (sym overflow ∙ none))))
+  where
+    one : least (overflows (r ∷ [])) ≡ Some r.fact
+    one = ap (λ o. least (map (λ (x : SeenRow). x.fact) (cond o (r ∷ []) []))) is_over
+
+    some_none : (m : ℕ) → Some m ≡ None → ⊥
+    some_none m e = cc
+
+-- one more row, at which none is
+pub Stands-plain : (g n : GroupMap) (A : List SeenRow) (r : SeenRow) → has_over r ≡ false → EachRanged r.arguments → Stands g A → n.width ≡ g.width
+    → n.counted ≡ g.counted + 1 → n.overflow ≡ g.overflow → IsDistinct key_eq (map (λ e. e.0) n.entries)
+    → (n.overflow ≡ None → (q : Key) → lookup (key_eq q) n.entries ≡ option_joined (lookup (key_eq q) g.entries) (cond (key_eq q r.key) (Some (totals g.width (r ∷ []))) None))
+    → Stands n (A ++ r ∷ [])
+Stands-plain g n A r plain ranged p width counted overflow distinct entries =
+    Stands-join g (of_row g.width r) n A (r ∷ []) p (Stands-of_row g.width r ranged (alone r.key)) width refl counted (overflow ∙ sym (right_none g.overflow) ∙ ap (least_of g.overflow) (sym none))
+    distinct entries
+  where
+    none : least (overflows (r ∷ [])) ≡ None
+    none = ap (λ o. least (map (λ (x : SeenRow). x.fact) (cond o (r ∷ []) []))) plain
+
+    right_none : (a : Option ℕ) → least_of a None ≡ a
+    right_none None = refl
+    right_none (Some m) = refl
+
+-- what g has at a key can be joined with one more row
+pub fits_row : (g : GroupMap) (A : List SeenRow) (r : SeenRow) → Stands g A → EachRanged r.arguments → g.overflow ≡ None → g.counted + 1 < 2 ^ 32 → (k : Key) (xs : List Accumulator)
+    → lookup (key_eq k) g.entries ≡ Some xs → FitEach xs (totals g.width (r ∷ []))
+fits_row g A r p ranged none small k xs e =
+    let s = summary_is g.width (group k A) xs (sym (p.exact none k) ∙ e) in
+    let few : length A + 1 < 2 ^ 32 = let c = p.counted in omega arith in
+    subst (λ x. FitEach x (totals g.width (r ∷ []))) (sym s) (fit_row g.width k A r p.ranged ranged few)
+
+pub none_from : {X : Type 0} (o : Option X) → is_some o ≡ false → o ≡ None
+none_from None e = refl
+none_from (Some x) e = cc
+
+pub not_none_from : {X : Type 0} (o : Option X) → is_some o ≡ true → o ≡ None → ⊥
+not_none_from None e h = absurd (true≢false (sym e))
+not_none_from (Some x) e h = cc

@@ -1,0 +1,39 @@
+-- Accumulators over the values of two lists.
+-- For the contracts inside this crate.
+use Rattle.std.specs.Prelude.{ℕ, zero, suc, ◌+◌, ◌^◌, ◌<◌, ◌+ℤ◌, ⊤, List, [], ◌∷◌, Option, None, Some}
+use Rattle.std.specs.Int.RustNames.{FitsSigned}
+use Rattle.std.specs.Int.{w128}
+use Rattle.ssb_groups.specs.declared.accumulator.Accumulator.{Accumulator}
+
+abbrev pub joined : Accumulator → Accumulator → Accumulator
+joined a b = record { values = a.values + b.values; total = a.total +ℤ b.total }
+
+-- neither number leaves its range
+pub record Fits (a b : Accumulator) : Type 0 where
+  pub values : a.values + b.values < 2 ^ 64
+  pub total : FitsSigned w128 (a.total +ℤ b.total)
+
+-- place by place
+abbrev pub joined_each : List Accumulator → List Accumulator → List Accumulator
+joined_each [] bs = []
+joined_each (x ∷ xs) [] = []
+joined_each (x ∷ xs) (b ∷ bs) = joined x b ∷ joined_each xs bs
+
+-- as many on both sides, and each pair fits
+abbrev pub FitEach : List Accumulator → List Accumulator → Type 0
+FitEach [] [] = ⊤
+FitEach [] (b ∷ bs) = ⊥
+FitEach (x ∷ xs) [] = ⊥
+FitEach (x ∷ xs) (b ∷ bs) = Fits x b × FitEach xs bs
+
+-- the first n accumulators joined, and the rest as they were
+abbrev pub joined_front : ℕ → List Accumulator → List Accumulator → List Accumulator
+joined_front zero xs ys = xs
+joined_front (suc n) [] ys = []
+joined_front (suc n) (x ∷ xs) [] = x ∷ xs
+joined_front (suc n) (x ∷ xs) (y ∷ ys) = joined x y ∷ joined_front n xs ys
+
+abbrev pub option_joined : Option (List Accumulator) → Option (List Accumulator) → Option (List Accumulator)
+option_joined None other = other
+option_joined (Some xs) None = Some xs
+option_joined (Some xs) (Some ys) = Some (joined_each xs ys)

@@ -1,0 +1,75 @@
+-- The value of an expression, in whole numbers of any size, cut to the range of an `int` at each column, number, sign and operation.
+-- Source: SQL-92, 6.12 <numeric value expression>, for nulls; the range, and that Over goes before null, are this project's own.
+use Rattle.std.specs.Prelude.{◌^◌, nat_lt, ℤ, pos, negsuc, ◌+ℤ◌, ◌-ℤ◌, ◌*ℤ◌, Bool, if◌then◌else◌, List, fold}
+use Rattle.ssb_cells.specs.Cell.{Cell, null, number, text}
+use Rattle.ssb_sql.specs.declared.expr.Adding.{Adding}
+use Rattle.ssb_sql.specs.declared.expr.Adding.TheVariants as adding
+use Rattle.ssb_bind.specs.declared.condition.BoundColumn.{BoundColumn}
+use Rattle.ssb_bind.specs.declared.expr.BoundExpr.{BoundExpr}
+use Rattle.ssb_bind.specs.declared.expr.BoundExpr.TheOpen.{BoundExpr-F, BoundStep-F}
+use Rattle.ssb_bind.specs.declared.expr.BoundExpr.TheFolds.{fold-BoundExpr, fold-BoundStep}
+use Rattle.ssb_bind.specs.declared.expr.BoundStep.{BoundStep}
+
+-- null, a number, a text, or Over: beyond the range
+pub data Outcome : Type 0 where
+  over : Outcome
+  known : Cell → Outcome
+
+-- from -2^63 to 2^63 - 1
+abbrev pub in_range : ℤ → Bool
+in_range (pos n) = nat_lt n (2 ^ 63)
+in_range (negsuc n) = nat_lt n (2 ^ 63)
+
+abbrev pub checked : ℤ → Outcome
+checked z = if in_range z then known (number z) else over
+
+-- a column's value
+abbrev pub column_outcome : Cell → Outcome
+column_outcome null = known null
+column_outcome (number n) = checked n
+column_outcome (text t) = known (text t)
+
+-- An operation with an operand that is Over is Over; else one without two numbers is null; else it is exact, or Over.
+abbrev pub apply : (ℤ → ℤ → ℤ) → Outcome → Outcome → Outcome
+apply exact over b = over
+apply exact (known a) over = over
+apply exact (known (number a)) (known (number b)) = checked (exact a b)
+apply exact (known a) (known b) = known null
+
+abbrev pub plus : Outcome → Outcome → Outcome
+plus = apply (λ a b. a +ℤ b)
+
+abbrev pub minus : Outcome → Outcome → Outcome
+minus = apply (λ a b. a -ℤ b)
+
+abbrev pub times : Outcome → Outcome → Outcome
+times = apply (λ a b. a *ℤ b)
+
+-- a further term
+abbrev pub add_step : Outcome → Adding × Outcome → Outcome
+add_step so_far (adding.Plus, term) = plus so_far term
+add_step so_far (adding.Minus, term) = minus so_far term
+
+-- factors from left to right
+abbrev pub product : List Outcome → Outcome
+product xs = fold times (known (number (pos 1))) xs
+
+-- one form of expression, with the values of the expressions in it
+abbrev pub value_layer : (BoundColumn → Cell) → BoundExpr-F Outcome (Adding × Outcome) → Outcome
+value_layer cell (BoundExpr-F.Column x) = column_outcome (cell x)
+value_layer cell (BoundExpr-F.Number n) = checked (pos n)
+value_layer cell (BoundExpr-F.Positive part) = part
+value_layer cell (BoundExpr-F.Negative part) = minus (known (number (pos 0))) part
+value_layer cell (BoundExpr-F.Chain first steps) = fold add_step first steps
+value_layer cell (BoundExpr-F.Times factors) = product factors
+
+abbrev pub step_layer : BoundStep-F Outcome (Adding × Outcome) → Adding × Outcome
+step_layer s = (s.adding, s.term)
+
+-- the value of an expression where the columns have these values
+abbrev pub value : (BoundColumn → Cell) → BoundExpr → Outcome
+value cell = fold-BoundExpr Outcome (Adding × Outcome) (value_layer cell) step_layer
+
+-- that of a further term, with its sign
+abbrev pub step_value : (BoundColumn → Cell) → BoundStep → Adding × Outcome
+step_value cell = fold-BoundStep Outcome (Adding × Outcome) (value_layer cell) step_layer

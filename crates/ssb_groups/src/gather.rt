@@ -1,0 +1,95 @@
+// What the aggregates take of a row, and the key of its group.
+
+ghost use Rattle.std.specs.Prelude.{◌≡◌, ◌<◌, ◌^◌, map, IfOk, OnOk};
+ghost use Rattle.ssb_cells.specs.Values.{cell_of};
+ghost use Rattle.ssb_job.specs.Kept.{column_value, from_tables};
+ghost use Rattle.ssb_groups.specs.Gathering.{IsGathered, set_or_push};
+ghost use Rattle.ssb_groups.specs.Keys.{cell_in, cells_in};
+ghost use Rattle.ssb_groups.specs.Seen.{argument, fact_of};
+
+use crate::accumulator::Accumulator;
+use crate::evaluate::argument;
+use crate::key::{GroupKey, OwnedValue};
+use ssb_bind::{Aggregate, BoundColumn};
+use ssb_cells::Value;
+use ssb_job::{Job, JoinedRow};
+use std::alloc::{AllocError, Global};
+
+// The row of the fact table, from 1.
+pub(crate) fn fact_of(job: &Job, row: &JoinedRow) -> u32
+    requires { fact_of job.now row.now < 2 ^ 32 }
+    ensures { result ≡ fact_of job.now row.now }
+{
+    let parts = job.query().parts();
+    match row.as_slice().get(parts.fact) {
+        Some(number) => *number + 1,
+        None => 1,
+    }
+}
+
+// The accumulators over this row alone, and whether some argument is Over.
+pub(crate) fn gather(
+    job: &Job,
+    row: &JoinedRow,
+    aggregates: &[Aggregate],
+    more: &mut Vec<Accumulator>,
+) -> Result<bool, AllocError>
+    ensures { IfOk result (λ over. IsGathered over (map (argument (column_value (from_tables job.now) row.now)) aggregates.now) more.new.items) }
+{
+    more.clear();
+    let mut over = false;
+    for aggregate in aggregates {
+        let outcome = argument(job, row, aggregate);
+        over = over || outcome.is_over();
+        more.push(outcome.accumulator())?;
+    }
+    Ok(over)
+}
+
+// Puts a value at a place of a key, or behind its last.
+#[tactic(auto, using(crate::proofs::CellFacts::set_inside, crate::proofs::CellFacts::push_behind))]
+fn set_cell(
+    alloc: Global,
+    cells: &mut Vec<OwnedValue>,
+    at: usize,
+    value: Value<'_>,
+) -> Result<(), AllocError>
+    ensures { OnOk result (map cell_in cells.new.items ≡ set_or_push (map cell_in cells.old.items) at (cell_of value.entry)) }
+{
+    if at < cells.len() {
+        return cells[at].set(alloc, value);
+    }
+    cells.push(OwnedValue::of(alloc, value)?)?;
+    Ok(())
+}
+
+// Puts the value of a column at a place of a key, or behind its last.
+fn set_column(
+    alloc: Global,
+    job: &Job,
+    row: &JoinedRow,
+    cells: &mut Vec<OwnedValue>,
+    at: usize,
+    column: BoundColumn,
+) -> Result<(), AllocError>
+    ensures { OnOk result (map cell_in cells.new.items ≡ set_or_push (map cell_in cells.old.items) at (column_value (from_tables job.now) row.now column)) }
+{
+    set_cell(alloc, cells, at, job.value(column, row))
+}
+
+// Makes a key that of a row.
+pub(crate) fn fill_key(
+    alloc: Global,
+    job: &Job,
+    row: &JoinedRow,
+    groups: &[BoundColumn],
+    key: &mut GroupKey,
+) -> Result<(), AllocError>
+    ensures { OnOk result (cells_in key.new ≡ map (column_value (from_tables job.now) row.now) groups.now) }
+{
+    key.cells.truncate(groups.len());
+    for (at, column) in groups.iter().enumerate() {
+        set_column(alloc, job, row, &mut key.cells, at, *column)?;
+    }
+    Ok(())
+}

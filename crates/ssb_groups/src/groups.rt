@@ -1,0 +1,118 @@
+// The groups over the rows that were added.
+
+ghost use Rattle.std.specs.Prelude.{◌≡◌, ◌+◌, ◌<◌, ◌^◌, ◌∷◌, ◌++◌, [], ◌↔◌, List, length, Some, slice_get, IfSome, OnOk, OnErr};
+ghost use Rattle.std.specs.Option.{IsSome};
+ghost use Rattle.ssb_groups.specs.Keys.{cells_in};
+ghost use Rattle.ssb_groups.specs.Rows.{SeenRow};
+ghost use Rattle.ssb_groups.specs.Seen.{fact_of, seen};
+ghost use Rattle.ssb_groups.specs.Stands.{Stands};
+
+use crate::accumulator::Accumulator;
+use crate::gather::{fact_of, fill_key, gather};
+use crate::key::GroupKey;
+use crate::store::Store;
+use crate::totals::Totals;
+use ssb_job::{Job, JoinedRow};
+use std::alloc::{AllocError, Global};
+use std::marker::Model;
+
+/// The groups over some combinations of rows, seen as the aggregates of each key, the least fact row
+/// of an overflow and a count of rows.
+///
+/// What they stand for does not depend on the order in which the rows come.
+#[derive(Drop)]
+pub struct Groups {
+    alloc: Global,
+    store: Store,
+    // The key and the accumulators of the row that is added, whose room is used again for the next.
+    key: GroupKey,
+    more: Vec<Accumulator>,
+}
+
+impl Model for Groups {
+    ghost use Rattle.ssb_groups.specs.Stands.{GroupMap};
+
+    ghost Value = { GroupMap };
+
+    ghost view = { λ g. g.store };
+}
+
+impl Groups {
+    /// The groups over no row of a job. They take no memory.
+    pub fn empty(alloc: Global, job: &Job) -> Groups
+        ensures stands { Stands result [] }
+        ensures width { result.width ≡ length job.now.query.aggregates }
+        ensures counted { result.counted ≡ 0 }
+    {
+        let parts = job.query().parts();
+        Groups {
+            alloc,
+            store: Store::new(alloc, parts.aggregates.len()),
+            key: GroupKey::new(alloc),
+            more: Vec::new(alloc),
+        }
+    }
+
+    /// Adds a combination of rows of the job. Where an aggregate's argument leaves 64 bits there, the
+    /// least such row of the fact table is kept, and no sum any more.
+    ///
+    /// # Errors
+    ///
+    /// Only where a growth was refused; the groups stand as before.
+    pub fn add(&mut self, job: &Job, row: &JoinedRow) -> Result<(), AllocError>
+        requires one_job { self.old.width ≡ length job.now.query.aggregates }
+        requires numbered { fact_of job.now row.now < 2 ^ 32 }
+        requires few { self.old.counted + 1 < 2 ^ 32 }
+        ensures stands { OnOk result ((A : List SeenRow) → Stands self.old A → Stands self.new (A ++ seen job.now row.now ∷ [])) }
+        ensures width { OnOk result (self.new.width ≡ self.old.width) }
+        ensures counted { OnOk result (self.new.counted ≡ self.old.counted + 1) }
+        ensures err { OnErr result (self.new ≡ self.old) }
+    {
+        let parts = job.query().parts();
+        if gather(job, row, parts.aggregates.as_slice(), &mut self.more)? {
+            self.store.add_over(fact_of(job, row));
+            return Ok(());
+        }
+        fill_key(self.alloc, job, row, parts.groups.as_slice(), &mut self.key)?;
+        self.store
+            .add_plain(self.alloc, &self.key, self.more.as_slice())?;
+        Ok(())
+    }
+
+    /// How many aggregates each group has.
+    pub fn width(&self) -> usize
+        ensures { result ≡ self.now.width }
+    {
+        self.store.width()
+    }
+
+    /// The least row of the fact table, from 1, at which an aggregate's argument left 64 bits.
+    pub fn overflow(&self) -> Option<u32>
+        ensures { result ≡ self.now.overflow }
+    {
+        self.store.overflow()
+    }
+
+    /// How many rows were added.
+    pub fn counted(&self) -> u32
+        ensures { result ≡ self.now.counted }
+    {
+        self.store.counted()
+    }
+
+    /// How many groups there are.
+    pub fn group_count(&self) -> usize
+        ensures { result ≡ length self.now.entries }
+    {
+        self.store.group_count()
+    }
+
+    /// The key and the accumulators of a group, by its number from 0, or none beyond the last. Groups
+    /// stand in the order of their first rows.
+    pub fn group(&self, at: usize) -> Option<(&GroupKey, &Totals)>
+        ensures found { IsSome result ↔ (at < length self.now.entries) }
+        ensures entry { IfSome result (λ e. slice_get self.now.entries at ≡ Some (cells_in e.0.now, e.1.now)) }
+    {
+        self.store.group(at)
+    }
+}

@@ -1,0 +1,126 @@
+// The groups over the rows so far.
+
+ghost use Rattle.std.specs.Prelude.{◌≡◌, ◌+◌, ◌<◌, ◌^◌, ◌∷◌, ◌++◌, [], ◌↔◌, List, length, true, false, Some, slice_get, IfSome, OnOk, OnErr};
+ghost use Rattle.std.specs.Option.{IsSome};
+ghost use Rattle.ssb_groups.specs.Keys.{cells_in};
+ghost use Rattle.ssb_groups.specs.Rows.{SeenRow};
+ghost use Rattle.ssb_groups.specs.Stands.{Stands, EachRanged, has_over, least_of, totals};
+
+use crate::accumulator::Accumulator;
+use crate::key::GroupKey;
+use crate::table::{Table, put};
+use crate::totals::Totals;
+use indexmap::IndexMap;
+use std::alloc::{AllocError, Global};
+use std::marker::Model;
+
+/// The aggregates of each key, the least fact row of an overflow, and a count of rows.
+#[derive(Drop)]
+pub(crate) struct Store {
+    width: usize,
+    table: Table,
+    overflow: Option<u32>,
+    counted: u32,
+}
+
+impl Model for Store {
+    ghost use Rattle.indexmap.specs.IndexMap.{IsUnique};
+    ghost use Rattle.ssb_groups.specs.Keys.{entries_of};
+    ghost use Rattle.ssb_groups.specs.Stands.{GroupMap};
+    ghost use Rattle.ssb_groups.specs.contracts.key.GroupKeyPartialEq.TheImpl as keys;
+
+    ghost Value = { GroupMap };
+
+    ghost view = { λ s. record { width = s.width; entries = entries_of s.table.entries; overflow = s.overflow; counted = s.counted } };
+
+    ghost invariant = { λ s. IsUnique keys.eq-value.it s.table };
+}
+
+// The lesser of two numbers, either of which may be missing.
+fn lesser(a: Option<u32>, b: Option<u32>) -> Option<u32>
+    ensures { result ≡ least_of a b }
+{
+    match (a, b) {
+        (None, b) => b,
+        (Some(a), None) => Some(a),
+        (Some(a), Some(b)) => Some(a.min(b)),
+    }
+}
+
+impl Store {
+    // Over no row.
+    pub(crate) fn new(alloc: Global, width: usize) -> Store
+        ensures stands { Stands result [] }
+        ensures width { result.width ≡ width }
+        ensures counted { result.counted ≡ 0 }
+    {
+        Store {
+            width,
+            table: IndexMap::new(alloc),
+            overflow: None,
+            counted: 0,
+        }
+    }
+
+    // One more row, at which an argument is Over.
+    pub(crate) fn add_over(&mut self, fact: u32)
+        requires { self.old.counted + 1 < 2 ^ 32 }
+        ensures stands { (A : List SeenRow) (r : SeenRow) → has_over r ≡ true → r.fact ≡ fact → EachRanged r.arguments → Stands self.old A → Stands self.new (A ++ r ∷ []) }
+        ensures width { self.new.width ≡ self.old.width }
+        ensures counted { self.new.counted ≡ self.old.counted + 1 }
+    {
+        self.overflow = lesser(self.overflow, Some(fact));
+        self.counted += 1;
+    }
+
+    // One more row, at which none is: its key, and its accumulators.
+    pub(crate) fn add_plain(
+        &mut self,
+        alloc: Global,
+        key: &GroupKey,
+        more: &[Accumulator],
+    ) -> Result<(), AllocError>
+        requires { self.old.counted + 1 < 2 ^ 32 }
+        ensures stands { OnOk result ((A : List SeenRow) (r : SeenRow) → has_over r ≡ false → cells_in key.now ≡ r.key → more.now ≡ totals self.old.width (r ∷ []) → EachRanged r.arguments → Stands self.old A → Stands self.new (A ++ r ∷ [])) }
+        ensures width { OnOk result (self.new.width ≡ self.old.width) }
+        ensures counted { OnOk result (self.new.counted ≡ self.old.counted + 1) }
+        ensures err { OnErr result (self.new ≡ self.old) }
+    {
+        if self.overflow.is_none() {
+            put(alloc, &mut self.table, key, more)?;
+        }
+        self.counted += 1;
+        Ok(())
+    }
+
+    pub(crate) fn width(&self) -> usize
+        ensures { result ≡ self.now.width }
+    {
+        self.width
+    }
+
+    pub(crate) fn overflow(&self) -> Option<u32>
+        ensures { result ≡ self.now.overflow }
+    {
+        self.overflow
+    }
+
+    pub(crate) fn counted(&self) -> u32
+        ensures { result ≡ self.now.counted }
+    {
+        self.counted
+    }
+
+    pub(crate) fn group_count(&self) -> usize
+        ensures { result ≡ length self.now.entries }
+    {
+        self.table.len()
+    }
+
+    pub(crate) fn group(&self, at: usize) -> Option<(&GroupKey, &Totals)>
+        ensures found { IsSome result ↔ (at < length self.now.entries) }
+        ensures entry { IfSome result (λ e. slice_get self.now.entries at ≡ Some (cells_in e.0.now, e.1.now)) }
+    {
+        self.table.get_index(at)
+    }
+}

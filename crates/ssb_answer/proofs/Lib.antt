@@ -1,7 +1,9 @@
+pub mod Asking
 pub mod Bridge
 pub mod EntryFacts
 pub mod Going
 pub mod KnownLemmas
+pub mod Loading
 pub mod Members
 pub mod Orders
 pub mod Probing

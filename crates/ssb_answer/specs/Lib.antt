@@ -1,5 +1,8 @@
+pub mod Asking
 pub mod Entries
+pub mod Loaded
 pub mod Order
+pub mod Reply
 pub mod Result
 pub mod Taking
 pub mod Text

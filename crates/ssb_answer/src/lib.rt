@@ -5,13 +5,16 @@ pub mod answer;
 pub mod fault;
 mod grouping;
 mod history;
+mod load_all;
 mod order;
 mod page;
 mod rows_of;
+pub mod run_fault;
 mod shown;
 pub mod sink;
 #[cfg(test)]
 mod tests;
+mod whole;
 mod write;
 pub mod writer;
 
@@ -20,6 +23,8 @@ pub use fault::AnswerFault;
 pub use grouping::group_all;
 pub use order::one_order;
 pub use rows_of::rows;
+pub use run_fault::RunFault;
 pub use sink::{Sink, SinkFault};
+pub use whole::run_plain;
 pub use write::write_answer;
 pub use writer::Out;

@@ -1,7 +1,6 @@
 // What three texts mean over the catalog of a small star.
 
 use crate::bind_to_catalog::bind;
-use crate::condition::BoundColumn;
 use crate::fault::BindFault;
 use crate::query::{Aggregate, BoundItem, Query, QueryParts, Source};
 use ssb_cells::ColType;
@@ -53,15 +52,14 @@ fn is_by_city(parts: &QueryParts) -> bool {
     let [by_sales, by_place] = parts.orders.as_slice() else {
         return false;
     };
+    let [group] = parts.groups.as_slice() else {
+        return false;
+    };
+    let group = *group;
     parts.from.as_slice() == [2, 0, 1].as_slice()
         && parts.fact == 1
-        && matches!(
-            parts.groups.as_slice(),
-            [BoundColumn {
-                table: 0,
-                column: 1,
-            }]
-        )
+        && group.table == 0
+        && group.column == 1
         && total.source == Source::Aggregate(0)
         && total.name.is_none()
         && place.source == Source::Group(0)

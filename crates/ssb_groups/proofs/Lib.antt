@@ -3,6 +3,7 @@ pub mod Bounds
 pub mod CellFacts
 pub mod JoinedFront
 pub mod KeyFacts
+pub mod Permuted
 pub mod RowFacts
 pub mod StandsFacts
 pub mod TableFacts

@@ -5,7 +5,8 @@ ghost use Rattle.std.specs.Option.{IsSome};
 ghost use Rattle.ssb_groups.specs.Keys.{cells_in};
 ghost use Rattle.ssb_groups.specs.Rows.{SeenRow};
 ghost use Rattle.ssb_groups.specs.Seen.{fact_of, seen};
-ghost use Rattle.ssb_groups.specs.Stands.{Stands};
+ghost use Rattle.ssb_groups.specs.Stands.{GroupMap, Stands};
+ghost use Rattle.std.specs.List.Sorted.{IsPermutation};
 
 use crate::accumulator::Accumulator;
 use crate::gather::{fact_of, fill_key, gather};
@@ -116,3 +117,8 @@ impl Groups {
         self.store.group(at)
     }
 }
+
+/// A law: what groups stand for does not see the order of the rows.
+pub fn any_order()
+    ensures { (g : GroupMap) (R Q : List SeenRow) → IsPermutation R Q → Stands g R → Stands g Q }
+{}

@@ -15,6 +15,6 @@ mod table;
 pub mod totals;
 
 pub use accumulator::Accumulator;
-pub use groups::Groups;
+pub use groups::{Groups, any_order};
 pub use key::{GroupKey, OwnedValue};
 pub use totals::Totals;

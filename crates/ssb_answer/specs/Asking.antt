@@ -1,0 +1,76 @@
+-- What reading and binding a text answers, and answering its query.
+-- For the contracts inside this crate.
+use Rattle.std.specs.Prelude.{◌≡◌, List, Result, Ok, Err, ⊤}
+use Rattle.ssb_load.specs.Shapes.{TableShape}
+use Rattle.ssb_sql.specs.Spells.{ReadsText}
+use Rattle.ssb_sql.specs.declared.fault.SqlFault.{SqlFault}
+use Rattle.ssb_sql.specs.declared.fault.SqlFault.TheVariants as sql
+use Rattle.ssb_bind.specs.declared.fault.BindFault.{BindFault}
+use Rattle.ssb_bind.specs.declared.fault.BindFault.TheVariants as bind
+use Rattle.ssb_bind.specs.declared.query.QueryParts.{QueryParts}
+use Rattle.ssb_job.specs.Kept.{Columns}
+use Rattle.ssb_answer.specs.Loaded.{Bytes}
+use Rattle.ssb_answer.specs.Order.{Row}
+use Rattle.ssb_answer.specs.Reply.{Asks, IsUnbound, seen_rows}
+use Rattle.ssb_answer.specs.Result.{Answers}
+use Rattle.ssb_answer.specs.declared.fault.AnswerFault.{AnswerFault}
+use Rattle.ssb_answer.specs.declared.fault.AnswerFault.TheVariants as answer
+use Rattle.ssb_answer.specs.declared.run_fault.RunFault.{RunFault}
+use Rattle.ssb_answer.specs.declared.run_fault.RunFault.TheVariants as run
+
+-- the fault of a run for that of reading, of binding, and of answering
+abbrev pub told_sql : SqlFault → RunFault
+told_sql sql.TooLong = run.Sql sql.TooLong
+told_sql sql.TooDeep = run.Sql sql.TooDeep
+told_sql sql.Syntax = run.Sql sql.Syntax
+told_sql sql.Memory = run.Memory
+
+abbrev pub told_bind : BindFault → RunFault
+told_bind (bind.UnknownTable n) = run.Bind (bind.UnknownTable n)
+told_bind (bind.TableTwice n) = run.Bind (bind.TableTwice n)
+told_bind (bind.UnknownColumn n) = run.Bind (bind.UnknownColumn n)
+told_bind (bind.AmbiguousColumn n) = run.Bind (bind.AmbiguousColumn n)
+told_bind bind.TypeMismatch = run.Bind bind.TypeMismatch
+told_bind (bind.NotGrouped n) = run.Bind (bind.NotGrouped n)
+told_bind (bind.BadOrderItem n) = run.Bind (bind.BadOrderItem n)
+told_bind bind.NoFactTable = run.Bind bind.NoFactTable
+told_bind (bind.NotStar n) = run.Bind (bind.NotStar n)
+told_bind (bind.TooMany m) = run.Bind (bind.TooMany m)
+told_bind bind.Memory = run.Memory
+
+abbrev pub told_answer : AnswerFault → RunFault
+told_answer (answer.RowOverflow n) = run.Answer (answer.RowOverflow n)
+told_answer answer.SumOutOfRange = run.Answer answer.SumOutOfRange
+told_answer answer.Memory = run.Memory
+told_answer answer.Write = run.Answer answer.Write
+
+abbrev pub Asked : List TableShape → Bytes → Result QueryParts RunFault → Type 0
+Asked c text (Ok q) = Asks c text q
+Asked c text (Err (run.Load t f)) = ⊥
+Asked c text (Err (run.Sql sql.TooLong)) = ReadsText text (Err sql.TooLong)
+Asked c text (Err (run.Sql sql.TooDeep)) = ReadsText text (Err sql.TooDeep)
+Asked c text (Err (run.Sql sql.Syntax)) = ReadsText text (Err sql.Syntax)
+Asked c text (Err (run.Sql sql.Memory)) = ⊥
+Asked c text (Err (run.Bind f)) = IsUnbound c text f
+Asked c text (Err (run.Answer f)) = ⊥
+Asked c text (Err run.Memory) = ⊤
+
+-- the query of a text over these tables, answered
+pub record IsAnswered (c : List TableShape) (tables : List Columns) (text : Bytes) (r : Result (List Row) AnswerFault) : Type 0 where
+  pub query : QueryParts
+  pub asks : Asks c text query
+  pub answers : Answers query (seen_rows (record { query = query; tables = tables })) r
+
+abbrev pub AnswersText : List TableShape → List Columns → Bytes → Result (List Row) RunFault → Type 0
+AnswersText c tables text (Ok rows) = IsAnswered c tables text (Ok rows)
+AnswersText c tables text (Err (run.Load t f)) = ⊥
+AnswersText c tables text (Err (run.Sql sql.TooLong)) = ReadsText text (Err sql.TooLong)
+AnswersText c tables text (Err (run.Sql sql.TooDeep)) = ReadsText text (Err sql.TooDeep)
+AnswersText c tables text (Err (run.Sql sql.Syntax)) = ReadsText text (Err sql.Syntax)
+AnswersText c tables text (Err (run.Sql sql.Memory)) = ⊥
+AnswersText c tables text (Err (run.Bind f)) = IsUnbound c text f
+AnswersText c tables text (Err (run.Answer (answer.RowOverflow n))) = IsAnswered c tables text (Err (answer.RowOverflow n))
+AnswersText c tables text (Err (run.Answer answer.SumOutOfRange)) = IsAnswered c tables text (Err answer.SumOutOfRange)
+AnswersText c tables text (Err (run.Answer answer.Memory)) = ⊥
+AnswersText c tables text (Err (run.Answer answer.Write)) = ⊥
+AnswersText c tables text (Err run.Memory) = ⊤

@@ -1,0 +1,156 @@
+// The whole path, from the bytes of files to the bytes of the answer.
+
+ghost use Rattle.std.specs.Prelude.{◌≡◌, ◌<◌, IfErr, List, OnOk, Some, length, map, vec_len};
+ghost use Rattle.ssb_load.specs.Catalog.{IsCatalog};
+ghost use Rattle.ssb_bind.specs.Star.{IsStar};
+ghost use Rattle.ssb_job.specs.Loaded.{AreLawful};
+ghost use Rattle.ssb_answer.specs.Asking.{Asked, AnswersText, told_answer, told_bind, told_sql};
+ghost use Rattle.ssb_answer.specs.Loaded.{Bytes};
+ghost use Rattle.ssb_answer.specs.Reply.{IsSilentBut, Replies, seen_rows};
+ghost use Rattle.ssb_answer.specs.Result.{Answers};
+
+use crate::answer::Answer;
+use crate::fault::AnswerFault;
+use crate::grouping::group_all;
+use crate::load_all::load_all;
+use crate::rows_of::rows;
+use crate::run_fault::RunFault;
+use crate::sink::Sink;
+use crate::write::write_answer;
+use ssb_bind::{BindFault, Query, bind};
+use ssb_cells::Table;
+use ssb_job::Job;
+use ssb_load::Catalog;
+use ssb_sql::{SqlFault, read};
+use std::alloc::Global;
+use std::io::Read;
+
+fn sql_fault(fault: SqlFault) -> RunFault
+    ensures { result ≡ told_sql fault }
+{
+    match fault {
+        SqlFault::TooLong => RunFault::Sql(SqlFault::TooLong),
+        SqlFault::TooDeep => RunFault::Sql(SqlFault::TooDeep),
+        SqlFault::Syntax => RunFault::Sql(SqlFault::Syntax),
+        SqlFault::Memory => RunFault::Memory,
+    }
+}
+
+fn bind_fault(fault: BindFault) -> RunFault
+    ensures { result ≡ told_bind fault }
+{
+    match fault {
+        BindFault::Memory => RunFault::Memory,
+        fault => RunFault::Bind(fault),
+    }
+}
+
+// The query of a text over a catalog.
+fn query_of(alloc: Global, catalog: &Catalog, text: &str) -> Result<Query, RunFault>
+    ensures { Asked catalog.now text.now result }
+{
+    let select = match read(alloc, text) {
+        Ok(select) => select,
+        Err(fault) => return Err(sql_fault(fault)),
+    };
+    match bind(alloc, catalog, select) {
+        Ok(query) => Ok(query),
+        Err(fault) => Err(bind_fault(fault)),
+    }
+}
+
+// The query of a job; a reminder to the prover that it is a star.
+fn star_query(job: &Job) -> &Query
+    ensures same { result.now ≡ job.now.query }
+    ensures star { IsStar job.now.query }
+{
+    let query = job.query();
+    let _parts = query.parts();
+    query
+}
+
+// What a job's query answers.
+fn answer_job(alloc: Global, job: &Job) -> Result<Answer, AnswerFault>
+    ensures { Answers job.now.query (seen_rows job.now) result }
+{
+    let query = star_query(job);
+    let Ok(groups) = group_all(alloc, job) else {
+        return Err(AnswerFault::Memory);
+    };
+    rows(alloc, groups, query)
+}
+
+fn answer_query(alloc: Global, job: Job) -> Result<Answer, AnswerFault>
+    ensures { Answers job.query (seen_rows job) result }
+{
+    answer_job(alloc, &job)
+}
+
+fn answer_fault(fault: AnswerFault) -> RunFault
+    ensures { result ≡ told_answer fault }
+{
+    match fault {
+        AnswerFault::Memory => RunFault::Memory,
+        fault => RunFault::Answer(fault),
+    }
+}
+
+// What a text asks of these tables.
+#[tactic(auto, using(crate::proofs::Asking::unasked, crate::proofs::Asking::answered, crate::proofs::Asking::refused, crate::proofs::Asking::fits))]
+fn answer_text(
+    alloc: Global,
+    catalog: &Catalog,
+    tables: Vec<Table>,
+    text: &str,
+) -> Result<Answer, RunFault>
+    requires lawful { AreLawful catalog.now tables.items }
+    requires catalog { IsCatalog catalog.now }
+    ensures { AnswersText catalog.now tables.items text.now result }
+{
+    let query = match query_of(alloc, catalog, text) {
+        Ok(query) => query,
+        Err(fault) => return Err(fault),
+    };
+    let Ok(job) = Job::build(alloc, query, tables) else {
+        return Err(RunFault::Memory);
+    };
+    match answer_query(alloc, job) {
+        Ok(answer) => Ok(answer),
+        Err(fault) => Err(answer_fault(fault)),
+    }
+}
+
+/// Answers a query over the tables of a catalog, each read from its reader in the catalog's order,
+/// and writes the answer's rows. It loads all tables, reads the query, binds it, answers and writes;
+/// the first fault ends it, and nothing is written before the answer is complete.
+///
+/// # Errors
+///
+/// `Load` with the number of the table, from 0; `Sql`, `Bind` and `Answer` as the query has it;
+/// `Answer(Write)` only where the sink failed, and then what it took is a beginning of the answer;
+/// `Memory` where a growth was refused.
+pub fn run_plain<R: Read + Drop, W: Sink>(
+    alloc: Global,
+    catalog: Catalog,
+    readers: Vec<R>,
+    text: &str,
+    out: &mut W,
+) -> Result<(), RunFault>
+    requires { vec_len readers ≡ length catalog }
+    ensures replies { (files : List Bytes) → map R.remaining readers.items ≡ map Some files → Replies catalog files text.now result (W.taken out.old) (W.taken out.new) }
+    ensures silent { IfErr result (IsSilentBut (W.failures out.old < W.failures out.new) (W.taken out.new ≡ W.taken out.old)) }
+    ensures clean { OnOk result (W.failures out.new ≡ W.failures out.old) }
+{
+    let tables = match load_all(alloc, &catalog, readers) {
+        Ok(tables) => tables,
+        Err(fault) => return Err(fault),
+    };
+    let answer = match answer_text(alloc, &catalog, tables, text) {
+        Ok(answer) => answer,
+        Err(fault) => return Err(fault),
+    };
+    match write_answer(&answer, out) {
+        Ok(()) => Ok(()),
+        Err(fault) => Err(RunFault::Answer(fault)),
+    }
+}

@@ -1,5 +1,5 @@
 -- How a table of groups keeps its keys.
--- For the contracts inside this crate.
+-- Source: own; contracts of this crate, and of the one that makes rows of groups, see kept values by it.
 use Rattle.std.specs.Prelude.{List, map, string_bytes}
 use Rattle.ssb_cells.specs.Cell.{Cell, null, number, text}
 use Rattle.ssb_groups.specs.Rows.{Key}

@@ -1,18 +1,14 @@
 #!/usr/bin/env python3
 """Measures what reading a query costs: `ssb check` of the longest texts, against a short one."""
 
-import argparse
-import subprocess
 import sys
-import tempfile
-import time
-from pathlib import Path
 
-ROOT = Path(__file__).resolve().parent.parent
-PROGRAM = ROOT / "crates" / "ssb_cli" / "out" / "ssb_cli"
+import measure
+
 MAX_BYTES = 65536
-WANTED_MILLISECONDS = 20
+MOST_MILLISECONDS = 20
 
+CATALOG = "t|a|int|null\n"
 SHORT = "select count(*) from t"
 
 
@@ -33,35 +29,40 @@ def texts():
     }
 
 
-def least_seconds(path, runs):
-    """The least time that `ssb check` takes for a file."""
-    least = None
-    for _ in range(runs):
-        start = time.perf_counter()
-        ended = subprocess.run([PROGRAM, "check", "--query", path], capture_output=True)
-        took = time.perf_counter() - start
-        if ended.returncode != 0 or ended.stdout != b"ok\n":
-            sys.exit(f"{path}: {ended.stdout!r} {ended.stderr!r}")
-        least = took if least is None else min(least, took)
-    return least
+def report(folder, times):
+    """Runs the program with each text and prints the figures."""
+    catalog = folder / "catalog"
+    catalog.write_text(CATALOG, encoding="utf-8")
+    given = {"a short text": SHORT, **texts()}
+    commands = {}
+    for number, (name, text) in enumerate(given.items()):
+        path = folder / f"{number}.sql"
+        path.write_text(text, encoding="utf-8")
+        commands[name] = [measure.SSB, "check", "--query", path, "--catalog", catalog]
+    runs = measure.run_all(commands, times)
+    for name, some in runs.items():
+        measure.check_outputs(name, [run.output for run in some], "ok\n")
+    milliseconds = {name: 1000 * measure.least_seconds(some) for name, some in runs.items()}
+    short = milliseconds.pop("a short text")
+    print(f"a short text: {short:.1f} ms; least of {times} runs")
+    measure.print_table(
+        ["Text", "Bytes", "Milliseconds more", "Wanted", ""],
+        [
+            [
+                name, str(len(given[name])), f"{took - short:.1f}", f"at most {MOST_MILLISECONDS}",
+                measure.verdict(took - short, MOST_MILLISECONDS),
+            ]
+            for name, took in milliseconds.items()
+        ],
+    )
 
 
-def main():
-    words = argparse.ArgumentParser(description=__doc__)
-    words.add_argument("--runs", type=int, default=5)
-    given = words.parse_args()
-    with tempfile.TemporaryDirectory() as folder:
-        path = Path(folder) / "query.sql"
-        path.write_text(SHORT)
-        short = least_seconds(path, given.runs)
-        print(f"a short text: {1000 * short:.1f} ms; least of {given.runs} runs\n")
-        print("| Text | Bytes | Milliseconds more | Wanted |")
-        print("|---|---|---|---|")
-        for name, text in texts().items():
-            path.write_text(text)
-            more = 1000 * (least_seconds(path, given.runs) - short)
-            print(f"| {name} | {len(text)} | {more:.1f} | at most {WANTED_MILLISECONDS} |")
+def main(words):
+    """Measures what the words ask for."""
+    given = measure.parsed(measure.parser_of(__doc__), words, measure.SSB)
+    with measure.folder_of() as folder:
+        report(folder, given.runs)
 
 
 if __name__ == "__main__":
-    main()
+    main(sys.argv[1:])

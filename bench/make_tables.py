@@ -1,16 +1,19 @@
 #!/usr/bin/env python3
 """Makes tables with all columns of the Star Schema Benchmark, and their catalog.
 
-Usage: make_tables.py FOLDER [--scale S] [--fact-rows N] [--dimension-rows N]
+Usage: make_tables.py FOLDER [--scale S] [--fact-rows N] [--dimension-rows N] [--seed N]
 
-At scale 1 the fact table has 6,000,000 rows, as in the benchmark; at another scale all tables but
-that of the days shrink or grow with it. `--fact-rows` sets the size of the fact table by itself, and
-`--dimension-rows` cuts each dimension off. The same arguments always give the same files.
+The tables have the benchmark's sizes, and values of which each of its queries keeps about its usual
+share. At scale 1 the fact table has 6,000,000 rows; at another scale all tables but that of the days
+shrink or grow with it, the parts above scale 1 by its logarithm. `--fact-rows` sets the size of the
+fact table by itself, and `--dimension-rows` cuts each dimension off. The same arguments always give
+the same files.
 """
 
 import argparse
 import datetime
 import itertools
+import math
 import random
 import sys
 from pathlib import Path
@@ -55,17 +58,18 @@ TYPES = ["ECONOMY BRASS", "LARGE STEEL", "MEDIUM TIN", "PROMO COPPER", "STANDARD
 CONTAINERS = ["JUMBO BOX", "LG CASE", "MED BAG", "SM PKG", "WRAP DRUM"]
 SEASONS = ["Winter", "Spring", "Summer", "Fall", "Christmas"]
 FIRST_DAY = datetime.date(1992, 1, 1)
-DAYS = 2557
+DAYS = 2556
 FACT_ROWS = 6_000_000
 
 
 def sizes_at(scale):
     """How many rows each table has at a scale."""
+    parts = 1 + math.log2(scale) if scale > 1 else scale
     return {
         "lineorder": max(1, round(FACT_ROWS * scale)),
         "customer": max(1, round(30_000 * scale)),
         "supplier": max(1, round(2_000 * scale)),
-        "part": max(1, round(200_000 * scale)),
+        "part": max(1, round(200_000 * parts)),
         "date": DAYS,
     }
 
@@ -84,11 +88,26 @@ def date_key(day):
     return date.year * 10_000 + date.month * 100 + date.day
 
 
-def place(draw):
-    """A city, a nation and a region."""
-    region = draw.choice(sorted(NATIONS))
-    nation = draw.choice(NATIONS[region])
-    return f"{nation[:9]:<9}{draw.randrange(10)}", nation, region
+def dealt(draw, cards):
+    """Each card once in a random order, and so again and again: each comes about equally often."""
+    while True:
+        yield from draw.sample(cards, len(cards))
+
+
+def places(draw):
+    """Cities with their nations and regions: ten cities a nation."""
+    return dealt(draw, [
+        (f"{nation[:9]:<9}{number}", nation, region)
+        for region, nations in NATIONS.items() for nation in nations for number in range(10)
+    ])
+
+
+def brands(draw):
+    """Makers with their categories and brands: five categories a maker, forty brands a category."""
+    return dealt(draw, [
+        (f"MFGR#{maker}", f"MFGR#{maker}{category}", f"MFGR#{maker}{category}{brand}")
+        for maker in range(1, 6) for category in range(1, 6) for brand in range(1, 41)
+    ])
 
 
 def phone(draw):
@@ -99,60 +118,58 @@ def phone(draw):
 def lineorder_rows(draw, sizes):
     """The rows of the fact table: orders of one to seven lines."""
     keys = [date_key(day) for day in range(DAYS)]
-    order = 0
-    left = 0
+    last = DAYS - 1
+    customers, parts, suppliers = sizes["customer"], sizes["part"], sizes["supplier"]
+    # `int(share() * n)` is a number below n, and faster than `randrange(n)`.
+    share = draw.random
+    order = left = 0
     for _ in range(sizes["lineorder"]):
         if left == 0:
+            left = 1 + int(share() * 7)
             order += 1
             line = 0
-            left = draw.randrange(1, 8)
-            customer = draw.randrange(1, sizes["customer"] + 1)
-            date = keys[draw.randrange(DAYS)]
-            priority = PRIORITIES[draw.randrange(5)]
-            total = draw.randrange(100_000, 40_000_000)
+            customer = 1 + int(share() * customers)
+            day = int(share() * DAYS)
+            date = keys[day]
+            priority = PRIORITIES[int(share() * 5)]
+            total = 100_000 + int(share() * 39_900_000)
         left -= 1
         line += 1
-        quantity = draw.randrange(1, 51)
-        unit = draw.randrange(90_000, 200_000)
+        quantity = 1 + int(share() * 50)
+        unit = 90_000 + int(share() * 110_000)
         price = quantity * unit
-        discount = draw.randrange(11)
+        discount = int(share() * 11)
         yield (
-            order, line, customer, draw.randrange(1, sizes["part"] + 1),
-            draw.randrange(1, sizes["supplier"] + 1), date, priority, 0, quantity, price, total,
-            discount, price * (100 - discount) // 100, unit * 6 // 10,
-            draw.randrange(9), keys[draw.randrange(DAYS)], MODES[draw.randrange(7)],
+            order, line, customer, 1 + int(share() * parts), 1 + int(share() * suppliers), date,
+            priority, 0, quantity, price, total, discount, price * (100 - discount) // 100,
+            unit * 6 // 10, int(share() * 9), keys[min(day + 30 + int(share() * 61), last)],
+            MODES[int(share() * 7)],
         )
 
 
 def customer_rows(draw, sizes):
     """The rows of the customers."""
-    for key in range(1, sizes["customer"] + 1):
-        city, nation, region = place(draw)
+    for key, place in zip(range(1, sizes["customer"] + 1), places(draw)):
         yield (
-            key, f"Customer#{key:09}", f"address {draw.randrange(10 ** 9)}", city, nation, region,
-            phone(draw), draw.choice(SEGMENTS),
+            key, f"Customer#{key:09}", f"address {draw.randrange(10 ** 9)}", *place, phone(draw),
+            draw.choice(SEGMENTS),
         )
 
 
 def supplier_rows(draw, sizes):
     """The rows of the suppliers."""
-    for key in range(1, sizes["supplier"] + 1):
-        city, nation, region = place(draw)
+    for key, place in zip(range(1, sizes["supplier"] + 1), places(draw)):
         yield (
-            key, f"Supplier#{key:09}", f"address {draw.randrange(10 ** 9)}", city, nation, region,
-            phone(draw),
+            key, f"Supplier#{key:09}", f"address {draw.randrange(10 ** 9)}", *place, phone(draw),
         )
 
 
 def part_rows(draw, sizes):
     """The rows of the parts."""
-    for key in range(1, sizes["part"] + 1):
-        maker = draw.randrange(1, 6)
-        category = draw.randrange(1, 6)
+    for key, brand in zip(range(1, sizes["part"] + 1), brands(draw)):
         color = draw.choice(COLORS)
         yield (
-            key, f"{color} {draw.choice(COLORS)}", f"MFGR#{maker}", f"MFGR#{maker}{category}",
-            f"MFGR#{maker}{category}{draw.randrange(1, 41)}", color, draw.choice(TYPES),
+            key, f"{color} {draw.choice(COLORS)}", *brand, color, draw.choice(TYPES),
             draw.randrange(1, 51), draw.choice(CONTAINERS),
         )
 
@@ -181,7 +198,7 @@ ROWS = {
 }
 
 
-def make(folder, sizes, dimension_rows=None):
+def make(folder, sizes, dimension_rows=None, seed=1):
     """Writes the catalog and the tables into a folder. Of each dimension no more rows are written
     than `dimension_rows` says; the fact table's numbers stay those of the whole sizes."""
     folder.mkdir(parents=True, exist_ok=True)
@@ -189,7 +206,8 @@ def make(folder, sizes, dimension_rows=None):
         out.writelines(catalog_lines())
     for table, rows in ROWS.items():
         most = None if table == "lineorder" else dimension_rows
-        lines = ("|".join(map(str, row)) + "|\n" for row in rows(random.Random(table), sizes))
+        draw = random.Random(f"{table} {seed}")
+        lines = ("|".join(map(str, row)) + "|\n" for row in rows(draw, sizes))
         with open(folder / f"{table}.tbl", "w", encoding="utf-8", newline="\n") as out:
             out.writelines(itertools.islice(lines, most))
 
@@ -201,11 +219,12 @@ def main(words):
     parser.add_argument("--scale", type=float, default=0.01)
     parser.add_argument("--fact-rows", type=int)
     parser.add_argument("--dimension-rows", type=int, help="the most rows of a dimension")
+    parser.add_argument("--seed", type=int, default=1)
     given = parser.parse_args(words)
     sizes = sizes_at(given.scale)
     if given.fact_rows is not None:
         sizes["lineorder"] = given.fact_rows
-    make(given.folder, sizes, given.dimension_rows)
+    make(given.folder, sizes, given.dimension_rows, given.seed)
 
 
 if __name__ == "__main__":

@@ -7,21 +7,19 @@ Usage: probe.py [--scale S] [--runs N] [--folder FOLDER]
 Q2.1, with three dimensions, of which two are filtered. Each figure is the least of the runs.
 """
 
-import argparse
-import subprocess
 import sys
-import tempfile
-from pathlib import Path
 
 import make_tables
+import measure
 
-ROOT = Path(__file__).resolve().parent.parent
-BENCH = ROOT / "crates" / "ssb_bench" / "out" / "ssb_bench"
 QUERY = """select sum(lo_revenue), d_year, p_brand1 from lineorder, date, part, supplier
 where lo_orderdate = d_datekey and lo_partkey = p_partkey and lo_suppkey = s_suppkey
 and p_category = 'MFGR#12' and s_region = 'AMERICA'
 group by d_year, p_brand1 order by d_year, p_brand1;
 """
+
+MOST_PROBING = 0.1
+AIM_PROBING = 0.05
 
 
 def fields(path):
@@ -43,55 +41,46 @@ def kept_rows(folder):
     return kept, rows
 
 
-def measure(folder, query):
-    """Runs the program once: its milliseconds by name, and its last line."""
-    command = [str(BENCH), "probe", str(folder), str(query)]
-    done = subprocess.run(command, check=True, capture_output=True, text=True)
-    *steps, last = done.stdout.splitlines()
+def steps_of(output):
+    """What one run printed: its milliseconds by name, and its last line."""
+    *steps, last = output.splitlines()
     return {line.split()[0]: float(line.split()[1]) for line in steps}, last
 
 
-def report(folder, scale, runs):
+def report(folder, scale, times):
     """Makes the tables, runs the program and prints the figures."""
     make_tables.make(folder, make_tables.sizes_at(scale))
     query = folder / "q21.sql"
     query.write_text(QUERY, encoding="utf-8")
     kept, rows = kept_rows(folder)
     wanted = f"kept {kept} of {rows} rows"
-    measured = [measure(folder, query) for _ in range(runs)]
-    for _, last in measured:
-        if last != wanted:
-            raise SystemExit(f"{BENCH} printed {last!r}, wanted {wanted!r}")
+    name = "ssb_bench probe"
+    runs = measure.run_all({name: [measure.BENCH, "probe", folder, query]}, times)
+    printed = [steps_of(run.output) for run in runs[name]]
+    measure.check_outputs(name, [last for _, last in printed], wanted)
     loading, building, probing = (
-        min(steps[name] for steps, _ in measured) for name in ("loading", "building", "probing")
+        min(steps[what] for steps, _ in printed) for what in ("loading", "building", "probing")
     )
-    print(f"scale {scale}: {wanted}; least of {runs} runs")
-    print()
-    print("| What | Milliseconds | ns a fact row |")
-    print("|---|---|---|")
-    print(f"| loading the fact table | {loading:.1f} | {loading * 1e6 / rows:.0f} |")
-    print(f"| building the job | {building:.1f} | |")
-    print(f"| probing each fact row | {probing:.1f} | {probing * 1e6 / rows:.0f} |")
-    print()
-    print("| Ratio | Measured | Wanted | Aim |")
-    print("|---|---|---|---|")
-    print(f"| probing against loading | {probing / loading:.3f} | at most 0.1 | 0.05 |")
+    print(f"scale {scale}: {wanted}; least of {times} runs")
+    measure.print_table(
+        ["What", "Milliseconds", "ns a fact row"],
+        [
+            ["loading the fact table", f"{loading:.1f}", f"{loading * 1e6 / rows:.0f}"],
+            ["building the job", f"{building:.1f}", ""],
+            ["probing each fact row", f"{probing:.1f}", f"{probing * 1e6 / rows:.0f}"],
+        ],
+    )
+    measure.print_ratios([("probing against loading", probing / loading, MOST_PROBING, AIM_PROBING)])
 
 
 def main(words):
     """Measures what the words ask for."""
-    parser = argparse.ArgumentParser(description=__doc__.split("\n", 1)[0])
+    parser = measure.parser_of(__doc__)
     parser.add_argument("--scale", type=float, default=0.1)
-    parser.add_argument("--runs", type=int, default=5)
-    parser.add_argument("--folder", type=Path, help="where the tables are made and stay")
-    given = parser.parse_args(words)
-    if not BENCH.is_file():
-        raise SystemExit(f"no program at {BENCH}: `rt run` in its crate builds it")
-    if given.folder is not None:
-        report(given.folder, given.scale, given.runs)
-        return
-    with tempfile.TemporaryDirectory() as name:
-        report(Path(name), given.scale, given.runs)
+    measure.add_folder(parser)
+    given = measure.parsed(parser, words, measure.BENCH)
+    with measure.folder_of(given.folder) as folder:
+        report(folder, given.scale, given.runs)
 
 
 if __name__ == "__main__":

@@ -1,5 +1,8 @@
 // How many things a name fits.
 
+ghost use Rattle.std.specs.Prelude.{◌≡◌};
+ghost use Rattle.ssb_bind.specs.Columns.{and_one};
+
 /// How many a name or an order key fits.
 #[derive(Clone, Copy, PartialEq, Eq, Debug)]
 pub(crate) enum Fit<T> {
@@ -9,6 +12,18 @@ pub(crate) enum Fit<T> {
     One(T),
     /// Two or more.
     Several,
+}
+
+impl<T: Copy> Fit<T> {
+    // This one too.
+    pub(crate) fn and_one(self, other: T) -> Fit<T>
+        ensures { result ≡ and_one self other }
+    {
+        match self {
+            Fit::Missing => Fit::One(other),
+            _ => Fit::Several,
+        }
+    }
 }
 
 /// What can be wrong with a column's name.

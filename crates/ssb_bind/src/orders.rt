@@ -1,7 +1,7 @@
 // Keys of ORDER BY.
 
 ghost use Rattle.std.specs.Prelude.{◌≡◌, IfOk, fold, map};
-ghost use Rattle.ssb_bind.specs.Columns.{counted, and_one};
+ghost use Rattle.ssb_bind.specs.Columns.{counted};
 ghost use Rattle.ssb_bind.specs.Orders as spec;
 
 use crate::fit::Fit;
@@ -29,15 +29,6 @@ fn is_key_of(key: &Key, place: usize, item: &BoundItem) -> bool
     }
 }
 
-fn and_one(found: Fit<usize>, place: usize) -> Fit<usize>
-    ensures { result ≡ and_one found place }
-{
-    match found {
-        Fit::Missing => Fit::One(place),
-        _ => Fit::Several,
-    }
-}
-
 // How many select columns a key fits.
 fn fit_of(items: &[BoundItem], key: &Key) -> Fit<usize>
     ensures { result ≡ counted (spec.places_for items.now key.now) }
@@ -45,7 +36,7 @@ fn fit_of(items: &[BoundItem], key: &Key) -> Fit<usize>
     let mut found = Fit::Missing;
     for (place, item) in items.iter().enumerate() {
         if is_key_of(key, place, item) {
-            found = and_one(found, place);
+            found = found.and_one(place);
         }
     }
     found

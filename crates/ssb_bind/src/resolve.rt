@@ -1,7 +1,6 @@
 // Names of tables and columns: which table of the catalog, and which column of FROM's tables.
 
 ghost use Rattle.std.specs.Prelude.{◌≡◌, IfOk, fold, slice_get};
-ghost use Rattle.ssb_load.specs.Catalog.{is_table_named, is_column_named};
 ghost use Rattle.ssb_bind.specs.Columns as columns;
 
 use crate::condition::BoundColumn;
@@ -12,22 +11,10 @@ use ssb_load::{ColumnDef, TableDef};
 use ssb_sql::ColumnName;
 use std::alloc::{AllocError, Global};
 
-fn is_table_named(table: &TableDef, name: &Name) -> bool
-    ensures { result ≡ is_table_named name.now table.now }
-{
-    name.as_str() == table.name()
-}
-
-fn is_column_named(column: &ColumnDef, name: &Name) -> bool
-    ensures { result ≡ is_column_named name.now column.now }
-{
-    name.as_str() == column.name.as_str()
-}
-
 pub(crate) fn table_number(catalog: &[TableDef], name: &Name) -> Option<usize>
     ensures { result ≡ columns.table_number catalog.now name.now }
 {
-    catalog.iter().position(|table| is_table_named(table, name))
+    catalog.iter().position(|table| table.is_named(name))
 }
 
 pub(crate) fn table_numbers(
@@ -49,16 +36,7 @@ fn may_be_of(name: &ColumnName, table: &TableDef) -> bool
 {
     match &name.table {
         None => true,
-        Some(given) => is_table_named(table, given),
-    }
-}
-
-fn and_one(found: Fit<BoundColumn>, column: BoundColumn) -> Fit<BoundColumn>
-    ensures { result ≡ columns.and_one found column }
-{
-    match found {
-        Fit::Missing => Fit::One(column),
-        _ => Fit::Several,
+        Some(given) => table.is_named(given),
     }
 }
 
@@ -72,8 +50,8 @@ fn and_fitting(
 {
     let mut fit = found;
     for (at, column) in all.iter().enumerate() {
-        if is_column_named(column, name) {
-            fit = and_one(fit, BoundColumn { table, column: at });
+        if column.is_named(name) {
+            fit = fit.and_one(BoundColumn { table, column: at });
         }
     }
     fit

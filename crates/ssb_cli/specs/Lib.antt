@@ -1,10 +1,3 @@
-pub mod Binding
+pub mod Benchmark
 pub mod Checking
 pub mod Faults
-pub mod Loaded
-pub mod Reading
-pub mod Reply
-pub mod SumAnswer
-pub mod SumQuery
-pub mod SumText
-pub mod Taking

@@ -7,9 +7,8 @@ use crate::check::check_text;
 use crate::fault::{AnswerFault, ProgramFault, RunFault};
 use crate::files::{catalog_of, names_of, open_all, read_query};
 use crate::report::{MEMORY_LINE, OUT_OF_MEMORY, program_line, program_status_of};
-use crate::run::run_sum;
-use crate::words::{Task, WordsFault, task_of};
-use crate::writer::Out;
+use crate::words::{QuerySource, Task, WordsFault, task_of};
+use ssb_answer::{Out, run_plain};
 use std::alloc::{AllocError, Global};
 use std::io::{BufWriter, Write};
 use std::rt::{Env, Files};
@@ -22,22 +21,30 @@ fn write_fault(alloc: Global) -> ProgramFault {
     }
 }
 
+// The text of a query that is to be answered.
+fn text_of<R: Files + AllocGlobal>(rt: &R, query: QuerySource<'_>) -> Result<String, ProgramFault> {
+    match query {
+        QuerySource::File(path) => read_query(rt, path),
+        QuerySource::Text(text) => Ok(String::from_str(rt.alloc(), text)?),
+    }
+}
+
 // The answer goes through one buffer, which is flushed after it is complete.
 fn run<R: Files + Print + AllocGlobal>(
     rt: &R,
     data: &str,
-    query: &str,
+    query: QuerySource<'_>,
     catalog: Option<&str>,
 ) -> Result<(), ProgramFault> {
     let catalog = catalog_of(rt, catalog)?;
-    let text = read_query(rt, query)?;
+    let text = text_of(rt, query)?;
     let names = names_of(rt.alloc(), &catalog)?;
     let readers = open_all(rt, data, &catalog)?;
     let Ok(writer) = BufWriter::new(rt.alloc(), io::writer(rt)) else {
         return Err(ProgramFault::Memory);
     };
     let mut out = Out::new(writer);
-    if let Err(fault) = run_sum(rt.alloc(), catalog, readers, text.as_str(), &mut out) {
+    if let Err(fault) = run_plain(rt.alloc(), catalog, readers, text.as_str(), &mut out) {
         return Err(ProgramFault::Run { names, fault });
     }
     match out.into_writer().flush() {

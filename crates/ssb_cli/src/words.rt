@@ -1,8 +1,18 @@
 // The words of the command line.
 
+use crate::benchmark::text_named;
 use clap::error::ErrorKind;
 use clap::{Arg, ArgAction, ArgMatches, Command, Error};
 use std::alloc::Global;
+
+/// Where a query's text comes from.
+#[derive(Clone, Copy)]
+pub enum QuerySource<'a> {
+    /// From the file of this path.
+    File(&'a str),
+    /// It is this text, of a query of the benchmark.
+    Text(&'static str),
+}
 
 /// What is asked.
 #[derive(Clone, Copy)]
@@ -11,8 +21,8 @@ pub enum Task<'a> {
     Run {
         /// The folder.
         data: &'a str,
-        /// The query's file.
-        query: &'a str,
+        /// The query.
+        query: QuerySource<'a>,
         /// The catalog's file, where another than the built-in one is meant.
         catalog: Option<&'a str>,
     },
@@ -39,7 +49,6 @@ pub enum WordsFault {
 fn query_option<'a>(alloc: Global) -> Arg<'a> {
     Arg::new(alloc, "query")
         .long("query")
-        .required(true)
         .action(ArgAction::Set)
         .value_name("FILE")
         .help("The query")
@@ -53,6 +62,14 @@ fn catalog_option<'a>(alloc: Global) -> Arg<'a> {
         .help("The tables and their columns, where they are not those of the benchmark")
 }
 
+fn name_option<'a>(alloc: Global) -> Arg<'a> {
+    Arg::new(alloc, "name")
+        .long("name")
+        .action(ArgAction::Set)
+        .value_name("NAME")
+        .help("The query of the benchmark, Q1.1 to Q4.3, in place of a file")
+}
+
 fn run_command<'a>(alloc: Global) -> Result<Command<'a>, Error> {
     let data = Arg::new(alloc, "data")
         .long("data")
@@ -64,6 +81,7 @@ fn run_command<'a>(alloc: Global) -> Result<Command<'a>, Error> {
         .about("Answers a query over tables")
         .arg(data)?
         .arg(query_option(alloc))?
+        .arg(name_option(alloc))?
         .arg(catalog_option(alloc))?;
     Ok(run)
 }
@@ -71,7 +89,7 @@ fn run_command<'a>(alloc: Global) -> Result<Command<'a>, Error> {
 fn check_command<'a>(alloc: Global) -> Result<Command<'a>, Error> {
     let check = Command::new(alloc, "check")
         .about("Says `ok` of a query that means something over the tables, or why it doesn't")
-        .arg(query_option(alloc))?
+        .arg(query_option(alloc).required(true))?
         .arg(catalog_option(alloc))?;
     Ok(check)
 }
@@ -91,10 +109,19 @@ fn parse<'a>(alloc: Global, given: &'a [String]) -> Result<ArgMatches<'a>, Error
     command(alloc)?.try_get_matches_from(given)
 }
 
+// Exactly one of a file and a name.
+fn query_source<'a>(found: &ArgMatches<'a>) -> Option<QuerySource<'a>> {
+    match (found.get_str("query"), found.get_str("name")) {
+        (Some(path), None) => Some(QuerySource::File(path)),
+        (None, Some(name)) => Some(QuerySource::Text(text_named(name)?)),
+        _ => None,
+    }
+}
+
 fn run_task<'a>(found: &ArgMatches<'a>) -> Option<Task<'a>> {
     Some(Task::Run {
         data: found.get_str("data")?,
-        query: found.get_str("query")?,
+        query: query_source(found)?,
         catalog: found.get_str("catalog"),
     })
 }

@@ -1,5 +1,4 @@
 //! Groups: the aggregates of each group of the rows that were added.
-//! Groups: the aggregates of each group of the rows that were added.
 //!
 //! [`Groups`] stands for a list of rows in whatever order they came: `specs/Stands.antt` says how.
 #![tactic(auto)]

@@ -1,6 +1,7 @@
 // The catalog: tables, their columns, and what each column takes.
 
 ghost use Rattle.std.specs.Prelude.{◌≡◌, ◌++◌, ◌∷◌, IfOk, OnOk, length, List};
+ghost use Rattle.ssb_load.specs.Catalog.{is_column_named, is_table_named};
 
 use crate::rule::Rule;
 use ssb_cells::Name;
@@ -52,6 +53,15 @@ impl Model for Catalog {
     ghost invariant = { λ c. IsCatalog c.tables.items };
 }
 
+impl ColumnDef {
+    /// Whether this is the column's name.
+    pub fn is_named(&self, name: &Name) -> bool
+        ensures { result ≡ is_column_named name.now self.now }
+    {
+        name.as_str() == self.name.as_str()
+    }
+}
+
 impl TableDef {
     ghost use Rattle.ssb_load.specs.CatalogReading.{put_column};
 
@@ -76,6 +86,13 @@ impl TableDef {
         ensures { result.now ≡ self.now.name }
     {
         self.name.as_str()
+    }
+
+    /// Whether this is the table's name.
+    pub fn is_named(&self, name: &Name) -> bool
+        ensures { result ≡ is_table_named name.now self.now }
+    {
+        name.as_str() == self.name()
     }
 
     /// The columns, in order.

@@ -9,7 +9,6 @@ ghost use Rattle.ssb_load.specs.CatalogReading.{IsDraft, Refuses, with_column};
 use crate::catalog::{ColumnDef, TableDef};
 use crate::entry::{Entry, read_entry};
 use crate::fault::{CatalogFault, LoadFault};
-use crate::value::is_key_role;
 use csv::ByteRecord;
 use ssb_cells::{ColType, Name};
 use std::alloc::{AllocError, Global};
@@ -18,35 +17,23 @@ const MAX_TABLES: usize = 16;
 
 const MAX_COLUMNS: usize = 64;
 
-fn is_table_named(table: &TableDef, name: &Name) -> bool
-    ensures { result ≡ is_table_named name.now table.now }
-{
-    name.as_str() == table.name()
-}
-
-fn is_column_named(column: &ColumnDef, name: &Name) -> bool
-    ensures { result ≡ is_column_named name.now column.now }
-{
-    name.as_str() == column.name.as_str()
-}
-
 // The place of the table of this name.
 fn place_of(tables: &[TableDef], name: &Name) -> Option<usize>
     ensures { result ≡ position (is_table_named name.now) tables.now }
 {
-    tables.iter().position(|table| is_table_named(table, name))
+    tables.iter().position(|table| table.is_named(name))
 }
 
 fn has_column(columns: &[ColumnDef], name: &Name) -> bool
     ensures { result ≡ list_any (is_column_named name.now) columns.now }
 {
-    columns.iter().any(|column| is_column_named(column, name))
+    columns.iter().any(|column| column.is_named(name))
 }
 
 pub(crate) fn has_key(columns: &[ColumnDef]) -> bool
     ensures { result ≡ list_any is_key_column columns.now }
 {
-    columns.iter().any(|column| is_key_role(column.rule.role))
+    columns.iter().any(|column| column.rule.role.is_key())
 }
 
 // The columns of the table of this name, none where there is no such table.
@@ -79,7 +66,7 @@ fn column_fault(tables: &[TableDef], place: Option<usize>, entry: &Entry) -> Opt
     if has_column(columns, &entry.column.name) {
         return Some(CatalogFault::ColumnTwice);
     }
-    let is_key = is_key_role(entry.column.rule.role);
+    let is_key = entry.column.rule.role.is_key();
     if is_key && has_key(columns) {
         return Some(CatalogFault::KeyTwice);
     }

@@ -12,7 +12,7 @@ use crate::fault::{LoadFault, RecordFault};
 use crate::field::{field_text, is_all_text, is_wide};
 use crate::number::number;
 use crate::rule::{Rule, Test};
-use crate::value::{fails_test, is_key_role};
+use crate::value::fails_test;
 use csv::ByteRecord;
 use std::collections::HashSet;
 
@@ -36,7 +36,7 @@ pub(crate) fn key_place(plan: &[Rule]) -> Option<usize>
 {
     for k in 0..plan.len() {
         let rule = plan[k];
-        if is_key_role(rule.role) {
+        if rule.role.is_key() {
             return Some(k);
         }
     }

@@ -1,5 +1,8 @@
 // What a column takes.
 
+ghost use Rattle.std.specs.Prelude.{◌≡◌};
+ghost use Rattle.ssb_load.specs.Rules.{is_key, needs_value};
+
 use ssb_cells::ColType;
 
 /// Which fields a column takes.
@@ -11,6 +14,30 @@ pub enum Role {
     Need,
     /// Perhaps null.
     Nullable,
+}
+
+impl Role {
+    /// Whether the column is its table's key.
+    pub fn is_key(self) -> bool
+        ensures { result ≡ is_key self }
+    {
+        match self {
+            Role::Key => true,
+            Role::Need => false,
+            Role::Nullable => false,
+        }
+    }
+
+    /// Whether the column has no null.
+    pub fn needs_value(self) -> bool
+        ensures { result ≡ needs_value self }
+    {
+        match self {
+            Role::Key => true,
+            Role::Need => true,
+            Role::Nullable => false,
+        }
+    }
 }
 
 /// The type and the role of a column.

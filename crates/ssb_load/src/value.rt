@@ -2,34 +2,14 @@
 
 ghost use Rattle.std.specs.Prelude.{◌≡◌, ◌||◌, is_none, IfSome};
 ghost use Rattle.ssb_cells.specs.Values.{cell_of, IsOfType};
-ghost use Rattle.ssb_load.specs.Rules.{fails, cell_in, needs_value, is_key};
+ghost use Rattle.ssb_load.specs.Rules.{fails, cell_in};
 ghost use Rattle.ssb_load.specs.declared.rule.Test.TheVariants as tests;
 
 use crate::number::number;
-use crate::rule::{Role, Rule, Test};
+use crate::rule::{Rule, Test};
 use ssb_cells::{ColType, Value};
 
 const MAX_TEXT: usize = 4096;
-
-fn is_needed(role: Role) -> bool
-    ensures { result ≡ needs_value role }
-{
-    match role {
-        Role::Key => true,
-        Role::Need => true,
-        Role::Nullable => false,
-    }
-}
-
-pub(crate) fn is_key_role(role: Role) -> bool
-    ensures { result ≡ is_key role }
-{
-    match role {
-        Role::Key => true,
-        Role::Need => false,
-        Role::Nullable => false,
-    }
-}
 
 // The value of a field under its rule, where it fails no test.
 pub(crate) fn value_of<'a>(rule: Rule, text: &'a str) -> Option<Value<'a>>
@@ -38,7 +18,7 @@ pub(crate) fn value_of<'a>(rule: Rule, text: &'a str) -> Option<Value<'a>>
     ensures kind { IfSome result (λ v. IsOfType rule.kind v) }
 {
     if text.is_empty() {
-        if is_needed(rule.role) {
+        if rule.role.needs_value() {
             return None;
         }
         return Some(Value::Null);
@@ -66,7 +46,7 @@ pub(crate) fn fails_test(test: Test, rule: Rule, text: &str) -> bool
             ColType::Int => !text.is_empty() && number(text).is_none(),
             ColType::Text => false,
         },
-        Test::Value => is_needed(rule.role) && text.is_empty(),
+        Test::Value => rule.role.needs_value() && text.is_empty(),
         Test::Length => match rule.kind {
             ColType::Int => false,
             ColType::Text => text.len() > MAX_TEXT,

@@ -1,6 +1,6 @@
 // Why the program has no answer.
 
-use crate::fault::run::RunFault;
+use ssb_answer::RunFault;
 use ssb_load::LoadFault;
 use std::alloc::AllocError;
 

@@ -1,1 +1,0 @@
-select sum(lo_revenue) from lineorder

@@ -1,5 +1,5 @@
 -- From a text to what is answered.
-use Rattle.std.proofs.Common.{◌≡◌, ◌<◌, ℕ, List, length, Some, Ok, Err, Result, refl, sym, subst}
+use Rattle.std.proofs.Common.{◌≡◌, ◌<◌, List, length, Ok, Err, subst}
 use Rattle.std.proofs.lemmas.List.Quantifiers.{position-Some}
 use Rattle.ssb_load.specs.Catalog.{IsCatalog}
 use Rattle.ssb_load.specs.Shapes.{TableShape}

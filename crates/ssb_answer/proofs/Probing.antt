@@ -1,10 +1,8 @@
 -- The rows of the fact table, probed one after the other.
-use Rattle.std.proofs.Common.{◌≡◌, ◌∙◌, ◌++◌, ◌∷◌, [], ◌+◌, ◌<◌, ◌≤◌, ◌^◌, ℕ, zero, suc, Bool, true, false, List, length, map, Option, None, Some, slice_get, unwrap_or, refl, sym, ap, subst, arith, append_assoc, cond}
-use Rattle.std.specs.List.{All, filter, flat_map, range_with_len}
-use Rattle.std.specs.Prelude.{option_to_list, nat_eq}
+use Rattle.std.proofs.Common.{◌≡◌, ◌∙◌, ◌++◌, ◌∷◌, [], ◌+◌, ◌<◌, ◌≤◌, ◌^◌, ℕ, zero, suc, Bool, true, false, List, length, map, Option, None, Some, slice_get, unwrap_or, refl, sym, ap, subst, arith, cond}
+use Rattle.std.specs.List.{filter, range_with_len}
 use Rattle.std.specs.Cmp.{unsigned_Decides}
 use Rattle.std.proofs.lemmas.List.{append-nil, map-append, length-map}
-use Rattle.ssb_bind.specs.declared.query.QueryParts.{QueryParts}
 use Rattle.ssb_job.specs.Kept.{JobShape, kept, kept_at, joined, has_fact, is_number}
 use Rattle.ssb_job.proofs.Whole.{joined_more}
 use Rattle.ssb_groups.specs.Rows.{SeenRow}

@@ -1,6 +1,6 @@
 -- What reading and binding a text answers, and answering its query.
 -- For the contracts inside this crate.
-use Rattle.std.specs.Prelude.{◌≡◌, List, Result, Ok, Err, ⊤}
+use Rattle.std.specs.Prelude.{List, Result, Ok, Err, ⊤}
 use Rattle.ssb_load.specs.Shapes.{TableShape}
 use Rattle.ssb_sql.specs.Spells.{ReadsText}
 use Rattle.ssb_sql.specs.declared.fault.SqlFault.{SqlFault}

@@ -1,6 +1,6 @@
 -- What a run replies to a query over the files of a catalog's tables: it loads, reads, binds and answers, and the first fault ends it.
 -- Source: own; the order is that of the work.
-use Rattle.std.specs.Prelude.{◌≡◌, ◌++◌, ℕ, List, map, Some, Result, Ok, Err, ⊤}
+use Rattle.std.specs.Prelude.{◌≡◌, ◌++◌, List, map, Some, Result, Ok, Err, ⊤}
 use Rattle.ssb_load.specs.Shapes.{TableShape}
 use Rattle.ssb_load.specs.declared.fault.LoadFault.TheVariants as load
 use Rattle.ssb_sql.specs.Spells.{IsRead, ReadsText}

@@ -60,13 +60,14 @@ impl Page {
         self.len = end;
     }
 
-    /// Writes what waits.
+    /// Writes what waits. Where that fails it still waits.
     pub fn flush<W: Sink>(&mut self, out: &mut W) -> Result<(), SinkFault>
         ensures wrote { OnOk result (W.taken out.new ≡ W.taken out.old ++ self.old) }
         ensures clean { OnOk result (W.failures out.new ≡ W.failures out.old) }
         ensures empty { OnOk result (self.new ≡ []) }
         ensures failed { OnErr result (W.failures out.old < W.failures out.new) }
         ensures began { OnErr result (IsBeginning (W.taken out.old) (W.taken out.new) self.old) }
+        ensures kept { OnErr result (self.new ≡ self.old) }
     {
         write_all(out, self.as_slice())?;
         self.clear();

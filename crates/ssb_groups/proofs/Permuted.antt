@@ -1,5 +1,5 @@
 -- What groups stand for does not see the order of the rows.
-use Rattle.std.proofs.Common.{◌≡◌, ◌∙◌, ◌∷◌, [], ◌||◌, ◌+◌, ◌<◌, ◌≤◌, ℕ, zero, suc, ℤ, pos, ◌+ℤ◌, Bool, true, false, cond, List, length, map, Option, None, Some, refl, sym, ap, ap₂, subst, arith}
+use Rattle.std.proofs.Common.{◌≡◌, ◌∙◌, ◌∷◌, [], ◌||◌, ◌+◌, ◌<◌, ℕ, zero, suc, ℤ, pos, ◌+ℤ◌, Bool, true, false, cond, List, length, map, Option, None, Some, refl, sym, ap, ap₂, arith}
 use Rattle.std.specs.Prelude.{slice_get, unwrap_or}
 use Rattle.std.specs.List.{All, filter, swap, slice_set, slice_index_or, range_with_len}
 use Rattle.std.specs.List.Sorted.{IsPermutation, SwapsInRange, apply_swaps}
@@ -7,8 +7,8 @@ use Rattle.std.proofs.lemmas.Int.{ints}
 use Rattle.std.proofs.lemmas.List.{length-set}
 use Rattle.std.proofs.lemmas.List.Sorted.{All-permutation}
 use Rattle.ssb_groups.specs.Rows.{Key, key_eq, SeenRow}
-use Rattle.ssb_groups.specs.Stands.{GroupMap, Stands, has_over, overflows, least_of, least, count_of, amount_of, value_count, exact_sum, arguments_at, accumulated, totals, group, summary, EachRanged, AreRanged}
-use Rattle.ssb_groups.specs.Value.{Outcome, known}
+use Rattle.ssb_groups.specs.Stands.{GroupMap, Stands, has_over, overflows, least_of, least, count_of, amount_of, value_count, exact_sum, arguments_at, totals, group, summary, EachRanged, AreRanged}
+use Rattle.ssb_groups.specs.Value.{known}
 use Rattle.ssb_groups.specs.declared.accumulator.Accumulator.{Accumulator}
 use Rattle.ssb_cells.specs.Cell.{null}
 

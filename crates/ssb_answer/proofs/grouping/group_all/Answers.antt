@@ -1,7 +1,7 @@
-use Rattle.std.proofs.Common.{◌≡◌, ◌∙◌, ◌∷◌, ◌<◌, ◌^◌, ◌+◌, [], List, ℕ, sym, ap, subst, arith, rules}
+use Rattle.std.proofs.Common.{◌≡◌, ◌∙◌, ◌<◌, ◌^◌, ◌+◌, sym, ap, subst, arith, rules}
 use Rattle.std.specs.List.{range_with_len}
 use Rattle.std.specs.Prelude.{option_to_list}
-use Rattle.ssb_job.specs.Kept.{fact_rows, joined, kept_at}
+use Rattle.ssb_job.specs.Kept.{fact_rows, joined}
 use Rattle.ssb_groups.specs.Stands.{GroupMap}
 use Rattle.ssb_answer.proofs.Probing.{Grouping, start, none_more, one_more, numbered, keyed}
 use Rattle.ssb_answer.proofs.grouping.group_all.Goals as goal

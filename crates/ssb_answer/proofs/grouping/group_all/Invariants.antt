@@ -1,8 +1,3 @@
-use Rattle.std.proofs.Common.{◌≡◌, ◌≤◌, length, map}
-use Rattle.std.specs.List.{range_with_len}
-use Rattle.ssb_job.specs.Kept.{joined}
-use Rattle.ssb_groups.specs.Seen.{seen}
-use Rattle.ssb_groups.specs.Stands.{Stands}
 use Rattle.ssb_answer.proofs.Probing.{Grouping}
 use Rattle.ssb_answer.proofs.grouping.group_all.Given as goal
 

@@ -1,4 +1,5 @@
 pub mod ColumnFacts
+pub mod LowerFacts
 pub mod NameFacts
 pub mod OrderLaws
 pub mod PackedFacts

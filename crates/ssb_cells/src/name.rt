@@ -3,7 +3,7 @@
 ghost use Rattle.std.specs.Prelude.{◌≡◌, true, IfOk, List, ℕ, ◌&&◌};
 ghost use Rattle.std.specs.List.{list_all, list_any};
 ghost use Rattle.std.specs.Str.{str_eq_ignore_ascii_case, str_to_ascii_lowercase};
-ghost use Rattle.ssb_cells.specs.Names.{is_name, is_reserved, is_word, is_word_byte};
+ghost use Rattle.ssb_cells.specs.Names.{IsLowerName, is_name, is_reserved, is_word, is_word_byte};
 
 use std::alloc::{AllocError, Global};
 use std::marker::Model;
@@ -13,7 +13,7 @@ const RESERVED: [&str; 21] = [
     "null", "as", "asc", "desc", "sum", "count", "min", "max", "having",
 ];
 
-/// A name in lower case, seen as its bytes.
+/// A name in lower case, and no reserved word, seen as its bytes.
 #[derive(Debug, Drop)]
 pub struct Name {
     letters: String,
@@ -24,7 +24,11 @@ impl Model for Name {
 
     ghost Value = { List ℕ };
 
+    ghost use Rattle.ssb_cells.specs.Names.{IsLowerName};
+
     ghost view = { λ n. string_bytes n.letters };
+
+    ghost invariant = { λ n. IsLowerName (string_bytes n.letters) };
 }
 
 impl Name {
@@ -51,9 +55,10 @@ impl Name {
         })
     }
 
-    /// The letters.
+    /// The letters: a name, in lower case.
     pub fn as_str(&self) -> &str
-        ensures { result.now ≡ self.now }
+        ensures letters { result.now ≡ self.now }
+        ensures lower { IsLowerName self.now }
     {
         self.letters.as_str()
     }

@@ -11,6 +11,7 @@ use Rattle.ssb_load.proofs.CatalogFaults.{fault-more}
 use Rattle.ssb_load.proofs.DraftFacts.{count-more, draft-more}
 use Rattle.ssb_load.proofs.GroupFacts.{tables-push}
 use Rattle.ssb_load.proofs.Reading.{IsReading, reading-more}
+use Rattle.ssb_load.proofs.ShortNames.{short-names}
 
 -- the tables are those of the records that were read, and all of these are good
 pub record IsGoing {R : Type 0} (rem : R → Option (List ℕ)) (known : Option (List ℕ)) (reader : Reader R) (accepted : ℕ) (tables : List TableShape) : Type 0 where
@@ -38,7 +39,7 @@ going-more rem known a b accepted old new f h r flexible ready none put =
       count = omega arith;
       clean = fault-more h.good f h.clean (rw (← h.tables_are) none);
       tables_are = put ∙ (rw h.tables_are (tables-push h.good f));
-      draft = rw put (draft-more old (table_in f) (column_in f) h.draft fault.1);
+      draft = rw put (draft-more old (table_in f) (column_in f) (short-names f fault.0) h.draft fault.1);
       columns = rw put (count-more old (table_in f) (column_in f) ∙ (rw h.columns refl));
       reading = reading-more rem known a b h.good f h.reading r flexible ready;
     }

@@ -19,9 +19,11 @@ use Rattle.ssb_load.specs.declared.catalog.ColumnDef.{ColumnDef}
 use Rattle.ssb_load.specs.declared.fault.CatalogFault.{CatalogFault}
 use Rattle.ssb_load.specs.declared.fault.CatalogFault.TheVariants as faults
 use Rattle.ssb_load.proofs.PlaceFacts.{columns-none, put-none}
+use Rattle.ssb_load.proofs.ShortNames.{AreShort}
 
 -- a column that these columns of a table let in
 record Fits (columns : List ColumnDef) (c : ColumnDef) : Type 0 where
+  short : length c.name ≤ 128
   fresh : list_any (is_column_named c.name) columns ≡ false
   one_key : (is_key_column c && list_any is_key_column columns) ≡ false
   int_key : (is_key_column c && not (is_int c.rule.kind)) ≡ false
@@ -64,17 +66,21 @@ table-put t c h f =
     record {
       some = omega arith;
       few = omega arith;
+      short_name = h.short_name;
+      short_columns = All-push (λ c. length c.name ≤ 128) t.columns c h.short_columns f.short;
       names = rw map-append (IsDistinct-push nat_list_eq_equiv (map (λ c. c.name) t.columns) c.name h.names (any-names c.name t.columns ∙ f.fresh));
       one_key = keys-put t.columns c h.one_key f.one_key;
       int_key = All-push (λ c. is_key_column c ≡ true → c.rule.kind ≡ kinds.Int) t.columns c h.int_key (int-of c f.int_key);
     }
 
-table-new : (name : List ℕ) (c : ColumnDef) → Fits [] c → IsTable (record { name = name; columns = c ∷ [] })
+table-new : (name : List ℕ) (c : ColumnDef) → length name ≤ 128 → Fits [] c → IsTable (record { name = name; columns = c ∷ [] })
 unfolding IsDistinct
-table-new name c f =
+table-new name c short f =
     record {
       some = omega arith;
       few = omega arith;
+      short_name = short;
+      short_columns = All-push (λ c. length c.name ≤ 128) [] c (All-nil (λ c. length c.name ≤ 128)) f.short;
       names = (tt, tt);
       one_key = keys-put [] c (omega arith) f.one_key;
       int_key = All-push (λ c. is_key_column c ≡ true → c.rule.kind ≡ kinds.Int) [] c (All-nil (λ c. is_key_column c ≡ true → c.rule.kind ≡ kinds.Int)) (int-of c f.int_key);
@@ -86,12 +92,12 @@ fits-here t ts name c here f = let e : columns_named (t ∷ ts) name ≡ t.colum
 fits-past : (t : TableShape) (ts : List TableShape) (name : List ℕ) (c : ColumnDef) → is_table_named name t ≡ false → Fits (columns_named (t ∷ ts) name) c → Fits (columns_named ts name) c
 fits-past t ts name c other f = let e : columns_named (t ∷ ts) name ≡ columns_named ts name = rw other refl in rw (← e) f
 
-each-put : (ts : List TableShape) (name : List ℕ) (c : ColumnDef) → AllByRecursion IsTable ts → Fits (columns_named ts name) c → AllByRecursion IsTable (with_column ts name c)
-each-put [] name c h f = (table-new name c f, tt)
-each-put (t ∷ ts) name c h f =
+each-put : (ts : List TableShape) (name : List ℕ) (c : ColumnDef) → length name ≤ 128 → AllByRecursion IsTable ts → Fits (columns_named ts name) c → AllByRecursion IsTable (with_column ts name c)
+each-put [] name c short h f = (table-new name c short f, tt)
+each-put (t ∷ ts) name c short h f =
     elim (cases_Bool (is_table_named name t)) [
       | inl here ↦ rw here (table-put t c h.0 (fits-here t ts name c here f), h.1)
-      | inr other ↦ rw other (h.0, each-put ts name c h.1 (fits-past t ts name c other f))
+      | inr other ↦ rw other (h.0, each-put ts name c short h.1 (fits-past t ts name c other f))
     ]
 
 or-none : (a b : Bool) → (a || b) ≡ false → (a ≡ false) × (b ≡ false)
@@ -146,12 +152,12 @@ room-left ts name e =
       | inr none ↦ rw (columns-none ts name none) (omega arith)
     ]
 
-fits : (ts : List TableShape) (name : List ℕ) (c : ColumnDef) → Passes ts name c → Fits (columns_named ts name) c
-fits ts name c p = record { fresh = p.fresh; one_key = p.one_key; int_key = p.int_key; room = room-left ts name p.room }
+fits : (ts : List TableShape) (name : List ℕ) (c : ColumnDef) → length c.name ≤ 128 → Passes ts name c → Fits (columns_named ts name) c
+fits ts name c short p = record { short = short; fresh = p.fresh; one_key = p.one_key; int_key = p.int_key; room = room-left ts name p.room }
 
-pub draft-more : (ts : List TableShape) (name : List ℕ) (c : ColumnDef) → IsDraft ts → column_fault ts name c ≡ None → IsDraft (with_column ts name c)
-draft-more ts name c h e =
-    let each = All-from_recursion IsTable (with_column ts name c) (each-put ts name c (recursion_from_All IsTable ts h.each) (fits ts name c (passes ts name c e))) in
+pub draft-more : (ts : List TableShape) (name : List ℕ) (c : ColumnDef) → AreShort name c → IsDraft ts → column_fault ts name c ≡ None → IsDraft (with_column ts name c)
+draft-more ts name c short h e =
+    let each = All-from_recursion IsTable (with_column ts name c) (each-put ts name c short.table (recursion_from_All IsTable ts h.each) (fits ts name c short.column (passes ts name c e))) in
     let full = (passes ts name c e).room in
     let few = h.few in
     elim (cases_Bool (list_any (is_table_named name) ts)) [

@@ -17,4 +17,5 @@ pub mod OneKey
 pub mod PlaceFacts
 pub mod Reading
 pub mod RuleFacts
+pub mod ShortNames
 pub mod Step

@@ -145,10 +145,12 @@ catalog_of rs = unless (first_catalog_fault [] rs) (with_one (fact_tables (table
 
 -- What each catalog keeps.
 
--- 1 to 64 columns of different names, at most one of them a key, and that one of numbers
+-- 1 to 64 columns of different names, at most one of them a key, and that one of numbers; each name of at most 128 bytes
 pub record IsTable (t : TableShape) : Type 0 where
   pub some : 0 < length t.columns
   pub few : length t.columns ≤ 64
+  pub short_name : length t.name ≤ 128
+  pub short_columns : All (λ c. length c.name ≤ 128) t.columns
   pub names : IsDistinct bytes_eq (map (λ c. c.name) t.columns)
   pub one_key : length (filter is_key_column t.columns) ≤ 1
   pub int_key : All (λ c. is_key_column c ≡ true → c.rule.kind ≡ kinds.Int) t.columns

@@ -14,6 +14,7 @@ pub mod SelectSound
 pub mod Shapes
 pub mod SpellsFacts
 pub mod StepFacts
+pub mod SumFacts
 pub mod TestSound
 pub mod TextUtf8
 pub mod TokenComplete

@@ -1,10 +1,11 @@
-use Rattle.std.proofs.Common.{sym}
+use Rattle.std.proofs.Common.{sym, arith}
 use Rattle.std.proofs.lemmas.Result.{err_from_is_err_and}
 use Rattle.ssb_sql.specs.declared.token.Sign.TheVariants as s
 use Rattle.ssb_sql.specs.Steps.{after, more_at}
 use Rattle.ssb_sql.specs.ReadExpressions.{factor_at, adding_at, step_at, expr_at}
 use Rattle.ssb_sql.proofs.Loop.{goes_on, is_done, turn_fails, shorter_by}
 use Rattle.ssb_sql.proofs.ExpressionSound.{factor_shrinks, step_shrinks}
+use Rattle.ssb_sql.proofs.SumFacts.{sum_reads, sum_stops}
 use Rattle.ssb_sql.proofs.read_expr.+expression.Goals as goal
 
 pub more_factors-returns-in_err-found : goal.more_factors-returns-in_err-found
@@ -36,3 +37,14 @@ more_terms-loop-adding-preserved t c =
 
 pub more_terms-returns : goal.more_terms-returns
 more_terms-returns t c = is_done adding_at (step_at (expr_at c.args.depth)) (step_shrinks c.args.depth) c.loop-adding.all c.loop-adding.rest.now (more_at adding_at (step_at (expr_at c.args.depth)) c.args.front c.args.tokens.now) (sym c.in_default.ensures) c.loop-adding.invariant
+
+pub expression-returns-in_err-steps : goal.expression-returns-in_err-steps
+expression-returns-in_err-steps t c =
+    let q = err_from_is_err_and c.from_residual-in_err-steps.result c.from_residual-in_err-steps.ensures.1 in
+    let more = rw c.new.ensures at c.in_err-steps.ensures in
+    rw (q.1, q.2) (sum_stops c.args.depth _ c.args.tokens.now _ _ c.in_err-steps.field-0.0 (omega (arith, c.if-depth-eq0.false)) c.in_ok-first.ensures more)
+
+pub expression-returns : goal.expression-returns
+expression-returns t c =
+    let more = rw c.new.ensures at c.in_ok-steps.ensures in
+    rw c.in_ok-sum_of.ensures (sum_reads c.args.depth _ c.args.tokens.now _ _ _ _ (omega (arith, c.if-depth-eq0.false)) c.in_ok-first.ensures more)

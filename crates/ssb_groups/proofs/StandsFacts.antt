@@ -2,6 +2,7 @@
 use Rattle.std.proofs.Common.{◌≡◌, ℕ, ◌+◌, ◌^◌, ◌<◌, true, false, true≢false, is_some, cond, List, [], ◌∷◌, ◌++◌, map, length, Option, None, Some, refl, sym, ap, subst, ◌∙◌, arith, length-append}
 use Rattle.std.specs.List.{IsDistinct}
 use Rattle.std.specs.Map.{lookup}
+use Rattle.ssb_job.specs.Kept.{JobShape}
 use Rattle.ssb_groups.specs.Joining.{FitEach, option_joined}
 use Rattle.ssb_groups.specs.Rows.{Key, key_eq, SeenRow}
 use Rattle.ssb_groups.specs.Stands.{GroupMap, Stands, has_over, overflows, least_of, least, totals, group, summary, EachRanged}
@@ -10,8 +11,8 @@ use Rattle.ssb_groups.proofs.RowFacts.{summary-append, group-append, overflows-a
 use Rattle.ssb_groups.proofs.Bounds.{summary_is, fit_row}
 
 -- the groups of one row
-abbrev pub of_row : ℕ → SeenRow → GroupMap
-of_row w r = record { width = w; entries = (r.key, totals w (r ∷ [])) ∷ []; overflow = least (overflows (r ∷ [])); counted = 1 }
+abbrev pub of_row : JobShape → ℕ → SeenRow → GroupMap
+of_row j w r = record { job = j; width = w; entries = (r.key, totals w (r ∷ [])) ∷ []; overflow = least (overflows (r ∷ [])); counted = 1 }
 
 -- n has at each key the aggregates of g and of h, joined
 abbrev pub JoinsAll : GroupMap → GroupMap → GroupMap → Type 0
@@ -46,8 +47,8 @@ Stands-join g h n A B p q width same counted overflow distinct joins = record {
   distinct = distinct;
 }
 
-Stands-of_row : (w : ℕ) (r : SeenRow) → EachRanged r.arguments → IsDistinct key_eq (r.key ∷ []) → Stands (of_row w r) (r ∷ [])
-Stands-of_row w r p d = record {
+Stands-of_row : (j : JobShape) (w : ℕ) (r : SeenRow) → EachRanged r.arguments → IsDistinct key_eq (r.key ∷ []) → Stands (of_row j w r) (r ∷ [])
+Stands-of_row j w r p d = record {
   ranged = (p, tt);
   counted = refl;
   overflow = refl;
@@ -74,7 +75,7 @@ Stands-nothing g counted overflow entries = record {
 pub Stands-over : (g n : GroupMap) (A : List SeenRow) (r : SeenRow) → has_over r ≡ true → EachRanged r.arguments → Stands g A → n.width ≡ g.width
     → n.counted ≡ g.counted + 1 → n.overflow ≡ least_of g.overflow (Some r.fact) → n.entries ≡ g.entries → Stands n (A ++ r ∷ [])
 Stands-over g n A r is_over ranged p width counted overflow entries =
-    Stands-join g (of_row g.width r) n A (r ∷ []) p (Stands-of_row g.width r ranged (alone r.key)) width refl counted (overflow ∙ ap (least_of g.overflow) (sym one))
+    Stands-join g (of_row g.job g.width r) n A (r ∷ []) p (Stands-of_row g.job g.width r ranged (alone r.key)) width refl counted (overflow ∙ ap (least_of g.overflow) (sym one))
     (subst (λ es. IsDistinct key_eq (map (λ e. e.0) es)) (sym entries) p.distinct)
     (λ none. absurd (some_none r.fact (none_right g.overflow (Some r.fact) (sym overflow ∙ none))))
   where
@@ -90,7 +91,7 @@ pub Stands-plain : (g n : GroupMap) (A : List SeenRow) (r : SeenRow) → has_ove
     → (n.overflow ≡ None → (q : Key) → lookup (key_eq q) n.entries ≡ option_joined (lookup (key_eq q) g.entries) (cond (key_eq q r.key) (Some (totals g.width (r ∷ []))) None))
     → Stands n (A ++ r ∷ [])
 Stands-plain g n A r plain ranged p width counted overflow distinct entries =
-    Stands-join g (of_row g.width r) n A (r ∷ []) p (Stands-of_row g.width r ranged (alone r.key)) width refl counted (overflow ∙ sym (right_none g.overflow) ∙ ap (least_of g.overflow) (sym none))
+    Stands-join g (of_row g.job g.width r) n A (r ∷ []) p (Stands-of_row g.job g.width r ranged (alone r.key)) width refl counted (overflow ∙ sym (right_none g.overflow) ∙ ap (least_of g.overflow) (sym none))
     distinct entries
   where
     none : least (overflows (r ∷ [])) ≡ None

@@ -6,6 +6,7 @@ use Rattle.std.specs.Int.RustNames.{FitsSigned}
 use Rattle.std.specs.Int.{w64}
 use Rattle.std.specs.Map.{lookup}
 use Rattle.ssb_cells.specs.Cell.{null, number, text}
+use Rattle.ssb_job.specs.Kept.{JobShape}
 use Rattle.ssb_groups.specs.Rows.{Key, key_eq, SeenRow}
 use Rattle.ssb_groups.specs.Value.{Outcome, over, known}
 use Rattle.ssb_groups.specs.declared.accumulator.Accumulator.{Accumulator}
@@ -80,8 +81,9 @@ abbrev pub summary : ℕ → List SeenRow → Option (List Accumulator)
 summary width [] = None
 summary width (r ∷ rs) = Some (totals width (r ∷ rs))
 
--- what a contract sees of groups: how many aggregates they have, the aggregates of each key, the least fact row of an overflow, and a count of rows
+-- what a contract sees of groups: their job, how many aggregates they have, the aggregates of each key, the least fact row of an overflow, and a count of rows
 pub record GroupMap : Type 0 where
+  pub job : JobShape
   pub width : ℕ
   pub entries : List (Key × List Accumulator)
   pub overflow : Option ℕ

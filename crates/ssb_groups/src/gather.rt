@@ -1,8 +1,8 @@
 // What the aggregates take of a row, and the key of its group.
 
-ghost use Rattle.std.specs.Prelude.{◌≡◌, ◌<◌, ◌^◌, map, IfOk, OnOk};
+ghost use Rattle.std.specs.Prelude.{◌≡◌, map, IfOk, OnOk};
 ghost use Rattle.ssb_cells.specs.Values.{cell_of};
-ghost use Rattle.ssb_job.specs.Kept.{column_value, from_tables};
+ghost use Rattle.ssb_job.specs.Kept.{IsCombination, column_value, from_tables};
 ghost use Rattle.ssb_groups.specs.Gathering.{IsGathered, set_or_push};
 ghost use Rattle.ssb_groups.specs.Keys.{cell_in, cells_in};
 ghost use Rattle.ssb_groups.specs.Seen.{argument, fact_of};
@@ -17,14 +17,13 @@ use std::alloc::{AllocError, Global};
 
 // The row of the fact table, from 1.
 pub(crate) fn fact_of(job: &Job, row: &JoinedRow) -> u32
-    requires { fact_of job.now row.now < 2 ^ 32 }
+    requires { IsCombination (from_tables job.now) row.now }
     ensures { result ≡ fact_of job.now row.now }
 {
     let parts = job.query().parts();
-    match row.as_slice().get(parts.fact) {
-        Some(number) => *number + 1,
-        None => 1,
-    }
+    // A reminder to the prover that the table has fewer than 2^32 rows.
+    let _rows = job.fact_rows();
+    row.row(parts.fact) + 1
 }
 
 // The accumulators over this row alone, and whether some argument is Over.

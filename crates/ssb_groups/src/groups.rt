@@ -2,9 +2,10 @@
 
 ghost use Rattle.std.specs.Prelude.{◌≡◌, ◌+◌, ◌<◌, ◌^◌, ◌∷◌, ◌++◌, [], ◌↔◌, List, length, Some, slice_get, IfSome, OnOk, OnErr};
 ghost use Rattle.std.specs.Option.{IsSome};
+ghost use Rattle.ssb_job.specs.Kept.{AreOneJob, IsCombination, from_tables};
 ghost use Rattle.ssb_groups.specs.Keys.{cells_in};
 ghost use Rattle.ssb_groups.specs.Rows.{SeenRow};
-ghost use Rattle.ssb_groups.specs.Seen.{fact_of, seen};
+ghost use Rattle.ssb_groups.specs.Seen.{seen};
 ghost use Rattle.ssb_groups.specs.Stands.{GroupMap, Stands};
 ghost use Rattle.std.specs.List.Sorted.{IsPermutation};
 
@@ -17,8 +18,8 @@ use ssb_job::{Job, JoinedRow};
 use std::alloc::{AllocError, Global};
 use std::marker::Model;
 
-/// The groups over some combinations of rows, seen as the aggregates of each key, the least fact row
-/// of an overflow and a count of rows.
+/// The groups over some combinations of a job's rows, seen as the job, the aggregates of each key, the
+/// least fact row of an overflow and a count of rows.
 ///
 /// What they stand for does not depend on the order in which the rows come.
 #[derive(Drop)]
@@ -35,36 +36,48 @@ impl Model for Groups {
 
     ghost Value = { GroupMap };
 
+    ghost use Rattle.ssb_bind.specs.contracts.condition.BoundCondition as condition;
+    ghost use Rattle.ssb_bind.specs.contracts.expr.BoundExpr as expr;
+    ghost use Rattle.std.specs.Coded.{codes};
+
+    ghost coded = { Prim.hlevel (codes, condition.the_row.coded, expr.the_row.coded) };
+
     ghost view = { λ g. g.store };
+
+    ghost use Rattle.std.specs.Prelude.{◌≡◌, length};
+
+    ghost invariant = { λ g. g.store.width ≡ length g.store.job.query.aggregates };
 }
 
 impl Groups {
     /// The groups over no row of a job. They take no memory.
     pub fn empty(alloc: Global, job: &Job) -> Groups
         ensures stands { Stands result [] }
+        ensures job { AreOneJob result.job job.now }
         ensures width { result.width ≡ length job.now.query.aggregates }
         ensures counted { result.counted ≡ 0 }
     {
-        let parts = job.query().parts();
         Groups {
             alloc,
-            store: Store::new(alloc, parts.aggregates.len()),
+            store: Store::new(alloc, job),
             key: GroupKey::new(alloc),
             more: Vec::new(alloc),
         }
     }
 
-    /// Adds a combination of rows of the job. Where an aggregate's argument leaves 64 bits there, the
-    /// least such row of the fact table is kept, and no sum any more.
+    /// Adds a combination of rows of the groups' own job, as [`Job::probe`] gives it. Where an
+    /// aggregate's argument leaves 64 bits there, the least such row of the fact table is kept, and no
+    /// sum any more. There may be 4,294,967,295 rows.
     ///
     /// # Errors
     ///
     /// Only where a growth was refused; the groups stand as before.
     pub fn add(&mut self, job: &Job, row: &JoinedRow) -> Result<(), AllocError>
-        requires one_job { self.old.width ≡ length job.now.query.aggregates }
-        requires numbered { fact_of job.now row.now < 2 ^ 32 }
+        requires one_job { AreOneJob self.old.job job.now }
+        requires row { IsCombination (from_tables job.now) row.now }
         requires few { self.old.counted + 1 < 2 ^ 32 }
         ensures stands { OnOk result ((A : List SeenRow) → Stands self.old A → Stands self.new (A ++ seen job.now row.now ∷ [])) }
+        ensures job { self.new.job ≡ self.old.job }
         ensures width { OnOk result (self.new.width ≡ self.old.width) }
         ensures counted { OnOk result (self.new.counted ≡ self.old.counted + 1) }
         ensures err { OnErr result (self.new ≡ self.old) }
@@ -80,9 +93,10 @@ impl Groups {
         Ok(())
     }
 
-    /// How many aggregates each group has.
+    /// How many aggregates each group has: those of the job's query.
     pub fn width(&self) -> usize
-        ensures { result ≡ self.now.width }
+        ensures width { result ≡ self.now.width }
+        ensures job { self.now.width ≡ length self.now.job.query.aggregates }
     {
         self.store.width()
     }

@@ -11,12 +11,16 @@ use crate::key::GroupKey;
 use crate::table::{Table, put};
 use crate::totals::Totals;
 use indexmap::IndexMap;
+use ssb_job::Job;
 use std::alloc::{AllocError, Global};
 use std::marker::Model;
+use std::snapshot::Snapshot;
 
-/// The aggregates of each key, the least fact row of an overflow, and a count of rows.
+/// The aggregates of each key of a job's rows, the least fact row of an overflow, and a count of rows.
 #[derive(Drop)]
 pub(crate) struct Store {
+    // What the job is, for contracts alone: it has no bytes.
+    job: Snapshot<Job>,
     width: usize,
     table: Table,
     overflow: Option<u32>,
@@ -31,7 +35,13 @@ impl Model for Store {
 
     ghost Value = { GroupMap };
 
-    ghost view = { λ s. record { width = s.width; entries = entries_of s.table.entries; overflow = s.overflow; counted = s.counted } };
+    ghost use Rattle.ssb_bind.specs.contracts.condition.BoundCondition as condition;
+    ghost use Rattle.ssb_bind.specs.contracts.expr.BoundExpr as expr;
+    ghost use Rattle.std.specs.Coded.{codes};
+
+    ghost coded = { Prim.hlevel (codes, condition.the_row.coded, expr.the_row.coded) };
+
+    ghost view = { λ s. record { job = s.job.value; width = s.width; entries = entries_of s.table.entries; overflow = s.overflow; counted = s.counted } };
 
     ghost invariant = { λ s. IsUnique keys.eq-value.it s.table };
 }
@@ -48,14 +58,17 @@ fn lesser(a: Option<u32>, b: Option<u32>) -> Option<u32>
 }
 
 impl Store {
-    // Over no row.
-    pub(crate) fn new(alloc: Global, width: usize) -> Store
+    // Over no row of a job.
+    pub(crate) fn new(alloc: Global, job: &Job) -> Store
         ensures stands { Stands result [] }
-        ensures width { result.width ≡ width }
+        ensures job { result.job ≡ job.now }
+        ensures width { result.width ≡ length job.now.query.aggregates }
         ensures counted { result.counted ≡ 0 }
     {
+        let parts = job.query().parts();
         Store {
-            width,
+            job: Snapshot::of(job),
+            width: parts.aggregates.len(),
             table: IndexMap::new(alloc),
             overflow: None,
             counted: 0,
@@ -66,6 +79,7 @@ impl Store {
     pub(crate) fn add_over(&mut self, fact: u32)
         requires { self.old.counted + 1 < 2 ^ 32 }
         ensures stands { (A : List SeenRow) (r : SeenRow) → has_over r ≡ true → r.fact ≡ fact → EachRanged r.arguments → Stands self.old A → Stands self.new (A ++ r ∷ []) }
+        ensures job { self.new.job ≡ self.old.job }
         ensures width { self.new.width ≡ self.old.width }
         ensures counted { self.new.counted ≡ self.old.counted + 1 }
     {
@@ -82,6 +96,7 @@ impl Store {
     ) -> Result<(), AllocError>
         requires { self.old.counted + 1 < 2 ^ 32 }
         ensures stands { OnOk result ((A : List SeenRow) (r : SeenRow) → has_over r ≡ false → cells_in key.now ≡ r.key → more.now ≡ totals self.old.width (r ∷ []) → EachRanged r.arguments → Stands self.old A → Stands self.new (A ++ r ∷ [])) }
+        ensures job { OnOk result (self.new.job ≡ self.old.job) }
         ensures width { OnOk result (self.new.width ≡ self.old.width) }
         ensures counted { OnOk result (self.new.counted ≡ self.old.counted + 1) }
         ensures err { OnErr result (self.new ≡ self.old) }

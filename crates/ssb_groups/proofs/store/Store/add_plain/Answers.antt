@@ -16,7 +16,7 @@ pub returns-clause-stands : goal.returns-clause-stands
 returns-clause-stands c = λ A r plain key more ranged before.
     let i : Inside = c.if-is_none.self-inside in
     let g : GroupMap = the_view c.self.inside in
-    let n : GroupMap = the_view (record { width = i.width; table = i.table; overflow = i.overflow; counted = i.counted + 1 }) in
+    let n : GroupMap = the_view (record { job = i.job; width = i.width; table = i.table; overflow = i.overflow; counted = i.counted + 1 }) in
     let p : Stands g A = subst (λ x. Stands x A) (sym c.self.view_is) before in
     let small : g.counted + 1 < 2 ^ 32 = subst (λ (x : GroupMap). x.counted + 1 < 2 ^ 32) (sym c.self.view_is) c.requires in
     let mine : c.args.more.now ≡ totals g.width (r ∷ []) = more ∙ ap (λ (x : GroupMap). totals x.width (r ∷ [])) (sym c.self.view_is) in

@@ -4,8 +4,7 @@ use Rattle.std.proofs.lemmas.List.{append-nil}
 use Rattle.ssb_load.specs.Records.{Fields}
 use Rattle.ssb_load.specs.Shapes.{TableShape}
 use Rattle.ssb_load.specs.Catalog.{at_record, catalog_fault_of, catalog_of, fact_tables, first_catalog_fault, tables_in, with_one}
-use Rattle.ssb_load.specs.CatalogReading.{ReadsCatalog, Refuses, RefusesCatalog, told}
-use Rattle.ssb_load.specs.Loader.{IsReadFault}
+use Rattle.ssb_load.specs.CatalogReading.{ReadsCatalog, told}
 use Rattle.ssb_load.specs.declared.fault.CatalogFault.{CatalogFault}
 use Rattle.ssb_load.specs.declared.fault.LoadFault.{LoadFault}
 use Rattle.ssb_load.specs.declared.fault.LoadFault.TheVariants as load
@@ -31,23 +30,9 @@ pub fault-more : (good : List Fields) (r : Fields) → first_catalog_fault [] go
 unfolding first_catalog_fault
 fault-more good r e n = rw (fault-append [] good (r ∷ []) e, n) refl
 
-fault-here : (good rest : List Fields) (r : Fields) (f : CatalogFault) → first_catalog_fault [] good ≡ None → catalog_fault_of good r ≡ Some f → first_catalog_fault [] (good ++ r ∷ rest) ≡ Some (f, length good + 1)
+pub fault-here : (good rest : List Fields) (r : Fields) (f : CatalogFault) → first_catalog_fault [] good ≡ None → catalog_fault_of good r ≡ Some f → first_catalog_fault [] (good ++ r ∷ rest) ≡ Some (f, length good + 1)
 unfolding first_catalog_fault
 fault-here good rest r f e n = rw (fault-append [] good (r ∷ rest) e, n) refl
-
--- a record that was refused
-pub refused-here : (good rest : List Fields) (r : Fields) (e : LoadFault) → first_catalog_fault [] good ≡ None → Refuses (catalog_fault_of good r) (length good + 1) e → RefusesCatalog ((good ++ r ∷ []) ++ rest) e
-refused-here good rest r (load.BadCatalog f n) clean is = rw (append_assoc, fault-here good rest r f clean is.0, is.1) refl
-refused-here good rest r load.Memory clean is = tt
-refused-here good rest r (load.Record f n) clean is = absurd is
-refused-here good rest r (load.Read n) clean is = absurd is
-
--- a read that failed behind good records
-pub failed-behind : (good rest : List Fields) (n : ℕ) (e : LoadFault) → first_catalog_fault [] good ≡ None → n ≡ length good + 1 → IsReadFault n e → RefusesCatalog (good ++ rest) e
-failed-behind good rest n (load.Read k) clean is at = (good, rest, refl, clean, at ∙ is)
-failed-behind good rest n load.Memory clean is at = tt
-failed-behind good rest n (load.Record f k) clean is at = absurd at
-failed-behind good rest n (load.BadCatalog f k) clean is at = absurd at
 
 tells : (records : List Fields) (r : Result (List TableShape) (CatalogFault × ℕ)) → catalog_of records ≡ r → ReadsCatalog records (told r)
 tells records (Ok ts) e = e

@@ -1,17 +1,23 @@
+pub mod Blocks
 pub mod BuiltInFacts
 pub mod CatalogFaults
-pub mod CatalogGoing
 pub mod CatalogLaws
+mod CatalogTaking
+mod Cutting
 pub mod DigitFacts
 pub mod DraftFacts
 pub mod EntryFacts
 pub mod FaultFacts
 pub mod FieldFacts
-pub mod Going
 pub mod GroupFacts
+mod Handing
 pub mod HoldsFacts
 pub mod LawfulFacts
+mod Left
+pub mod LineFacts
+mod LineRecords
 pub mod ListFacts
+mod Looking
 pub mod NumberFacts
 pub mod OneKey
 pub mod PlaceFacts
@@ -19,3 +25,7 @@ pub mod Reading
 pub mod RuleFacts
 pub mod ShortNames
 pub mod Step
+mod TableTaking
+mod Taking
+mod TakingAll
+mod Walks

@@ -3,7 +3,8 @@
 use Rattle.std.specs.Prelude.{◌≡◌, ◌≤◌, ◌+◌, ◌++◌, ◌∷◌, ℕ, List, [], length, map, Option, Some, None, Result, Ok, Err, ⊤, if◌then◌else◌}
 use Rattle.std.specs.List.{All, IsDistinct}
 use Rattle.std.specs.Str.{bytes_eq}
-use Rattle.ssb_load.specs.Records.{Fields}
+use Rattle.ssb_load.specs.Lines.{IsCutAtLf}
+use Rattle.ssb_load.specs.Records.{Fields, records_of}
 use Rattle.ssb_load.specs.Shapes.{TableShape}
 use Rattle.ssb_load.specs.Catalog.{IsTable, catalog_of, first_catalog_fault, is_table_named}
 use Rattle.ssb_load.specs.declared.catalog.ColumnDef.{ColumnDef}
@@ -56,3 +57,18 @@ RefusesCatalog records (load.Record f n) = ⊥
 abbrev pub ReadsCatalog : List Fields → Result (List TableShape) LoadFault → Type 0
 ReadsCatalog records (Ok tables) = catalog_of records ≡ Ok tables
 ReadsCatalog records (Err e) = RefusesCatalog records e
+
+-- a read failed: up to their last line feed the bytes given are one record fewer than this number, all good
+pub record IsCatalogCutShort (bytes : List ℕ) (n : ℕ) : Type 0 where
+  pub lines : List ℕ
+  pub rest : List ℕ
+  pub cut : IsCutAtLf bytes lines rest
+  pub good : first_catalog_fault [] (records_of lines) ≡ None
+  pub number : n ≡ length (records_of lines) + 1
+
+-- a fault that reading a catalog has
+abbrev pub IsCatalogFault : LoadFault → Type 0
+IsCatalogFault (load.Record f n) = ⊥
+IsCatalogFault (load.BadCatalog f n) = ⊤
+IsCatalogFault (load.Read n) = ⊤
+IsCatalogFault load.Memory = ⊤

@@ -2,7 +2,8 @@
 -- Source: own.
 use Rattle.std.specs.Prelude.{◌≡◌, ◌+◌, ◌++◌, ℕ, List, [], length, slice_get, Result, Ok, Err, Option, None, Some, ⊤}
 use Rattle.ssb_cells.specs.Cell.{Filled}
-use Rattle.ssb_load.specs.Records.{Fields}
+use Rattle.ssb_load.specs.Lines.{IsCutAtLf}
+use Rattle.ssb_load.specs.Records.{Fields, records_of}
 use Rattle.ssb_load.specs.Shapes.{TableShape, rules_of}
 use Rattle.ssb_load.specs.Tables.{first_fault, table_of}
 use Rattle.ssb_load.specs.declared.rule.Rule.{Rule}
@@ -32,6 +33,21 @@ Fails rules max_rows records load.Memory = ⊤
 abbrev pub Loads : List Rule → ℕ → List Fields → Result (List Filled) LoadFault → Type 0
 Loads rules max_rows records (Ok table) = table_of rules max_rows records ≡ Ok table
 Loads rules max_rows records (Err e) = Fails rules max_rows records e
+
+-- a read failed: up to their last line feed the bytes given are one record fewer than this number, all good
+pub record IsCutShort (rules : List Rule) (max_rows : ℕ) (bytes : List ℕ) (n : ℕ) : Type 0 where
+  pub lines : List ℕ
+  pub rest : List ℕ
+  pub cut : IsCutAtLf bytes lines rest
+  pub good : first_fault rules max_rows [] (records_of lines) ≡ None
+  pub number : n ≡ length (records_of lines) + 1
+
+-- what holds of the number of a failed read
+abbrev pub IfRead : LoadFault → (ℕ → Type 0) → Type 0
+IfRead (load.Record f n) P = ⊤
+IfRead (load.BadCatalog f n) P = ⊤
+IfRead (load.Read n) P = P n
+IfRead load.Memory P = ⊤
 
 -- a fault that loading a table has
 abbrev pub IsTableFault : LoadFault → Type 0

@@ -2,25 +2,36 @@
 //!
 //! A file is a list of records of fields between bars, as `csv` reads them. A catalog says which
 //! tables there are and what each of their columns takes; [`load`] gives the table of a file, or the
-//! first faulty record with the least fault that applies to it.
+//! first faulty record with the least fault that applies to it. [`load_from`] gives that of what a
+//! [`Source`] gives, and says so of any source, a file of the system among them.
 #![tactic(auto)]
 
 mod benchmark;
 mod built_in;
 pub mod catalog;
+mod catalog_intake;
 mod draft;
 mod entry;
 pub mod fault;
 mod field;
+pub mod history;
+mod intake;
 mod judge;
 mod loader;
 mod number;
+mod pieces;
 mod read_catalog;
 mod read_table;
+pub mod reader;
 pub mod rule;
+pub mod source;
+mod table_intake;
 mod value;
 
 pub use catalog::{Catalog, ColumnDef, TableDef};
 pub use fault::{CatalogFault, LoadFault, RecordFault};
-pub use read_table::load;
+pub use history::History;
+pub use read_table::{load, load_from, load_in_pieces};
+pub use reader::In;
 pub use rule::{Role, Rule};
+pub use source::{Source, SourceFault};

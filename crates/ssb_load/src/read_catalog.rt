@@ -1,75 +1,85 @@
-// Reading a catalog, record by record.
+// Reading a catalog, from what a source gives or from a reader.
 
-ghost use Rattle.std.specs.Prelude.{◌≡◌, IfSome, length};
+ghost use Rattle.std.specs.Prelude.{◌≡◌, ◌<◌, ◌++◌, ℕ, List, IfErr, IfSome, OnOk};
+ghost use Rattle.ssb_load.specs.CatalogReading.{IsCatalogFault, IsCatalogCutShort, ReadsCatalog};
+ghost use Rattle.ssb_load.specs.Giving.{given_since};
+ghost use Rattle.ssb_load.specs.Loading.{IfRead};
 ghost use Rattle.ssb_load.specs.Records.{records_of};
-ghost use Rattle.ssb_load.specs.Catalog.{fact_tables, with_one};
-ghost use Rattle.ssb_load.specs.CatalogReading.{IsDraft, ReadsCatalog, told};
 
-use crate::catalog::{Catalog, TableDef};
-use crate::draft::{accept, has_key};
-use crate::fault::{CatalogFault, LoadFault};
-use crate::read_table::read_fault;
-use csv::{ByteRecord, ReaderBuilder};
+use crate::catalog::Catalog;
+use crate::catalog_intake::CatalogIntake;
+use crate::fault::LoadFault;
+use crate::intake::take_all;
+use crate::read_table::PIECE_SIZE;
+use crate::reader::In;
+use crate::source::Source;
 use std::alloc::Global;
 use std::io::Read;
 
-// 16 tables of 64 columns.
-const MAX_RECORDS: u64 = 1024;
-
-fn fact_count(tables: &[TableDef]) -> usize
-    ensures { result ≡ length (fact_tables tables.now) }
-{
-    tables
-        .iter()
-        .filter(|table| !has_key(table.columns()))
-        .count()
-}
-
-// The catalog of these tables, if one of them alone has no key.
-fn finish(tables: Vec<TableDef>) -> Result<Catalog, LoadFault>
-    requires { IsDraft tables.items }
-    ensures { result ≡ told (with_one (fact_tables tables.items) tables.items) }
-{
-    match fact_count(tables.as_slice()) {
-        0 => Err(LoadFault::BadCatalog(CatalogFault::NoFact, 0)),
-        1 => Ok(Catalog::new(tables)),
-        _ => Err(LoadFault::BadCatalog(CatalogFault::TwoFacts, 0)),
-    }
-}
-
 impl Catalog {
-    /// The catalog that a file gives, read to its end.
+    /// The catalog that a file gives, read to its end. It is [`read_from`](Self::read_from) over the
+    /// reader.
+    ///
+    /// # Errors
+    ///
+    /// As of [`read_from`](Self::read_from).
+    pub fn read<R: Read + Drop>(alloc: Global, source: R) -> Result<Catalog, LoadFault>
+        ensures known { IfSome (R.remaining source) (λ bytes. ReadsCatalog (records_of bytes) result) }
+        ensures right { (bytes : List ℕ) × ReadsCatalog (records_of bytes) result }
+        ensures faults { IfErr result IsCatalogFault }
+    {
+        let mut source = In::new(source);
+        Catalog::read_from(alloc, &mut source)
+    }
+
+    /// The catalog of the bytes that a source gives from now on, to its end.
     ///
     /// A record is `table|column|type|role`, perhaps with a closing bar.
     ///
     /// # Errors
     ///
     /// `BadCatalog` with the least fault of the first faulty record and the record's number, from 1,
-    /// or with `NoFact` or `TwoFacts` and 0 where each record is good; `Read` only where `csv` answers
-    /// a fault of the reader, with the number of the record that was on its way; `Memory` where a
-    /// growth was refused.
-    pub fn read<R: Read + Drop>(alloc: Global, source: R) -> Result<Catalog, LoadFault>
-        ensures known { IfSome (R.remaining source) (λ bytes. ReadsCatalog (records_of bytes) result) }
+    /// or with `NoFact` or `TwoFacts` and 0 where each record is good; `Read` only where a read of the
+    /// source failed, with a number one above that of the whole lines' records, which are all good;
+    /// `Memory` where a growth was refused.
+    pub fn read_from<S: Source>(alloc: Global, source: &mut S) -> Result<Catalog, LoadFault>
+        ensures grows { S.given source.new ≡ S.given source.old ++ given_since (S.given source.old) (S.given source.new) }
+        ensures reads { ReadsCatalog (records_of (given_since (S.given source.old) (S.given source.new))) result }
+        ensures ended { OnOk result (S.ends source.old < S.ends source.new) }
+        ensures broken { IfErr result (λ e. IfRead e (λ n. S.failures source.old < S.failures source.new)) }
+        ensures short { IfErr result (λ e. IfRead e (IsCatalogCutShort (given_since (S.given source.old) (S.given source.new)))) }
+        ensures whole { S.whole source.new ≡ S.whole source.old }
+        ensures told { IfSome (S.whole source.old) (λ all. ReadsCatalog (records_of (given_since (S.given source.old) all)) result) }
+        ensures faults { IfErr result IsCatalogFault }
     {
-        let mut reader = ReaderBuilder::new()
-            .delimiter(b'|')
-            .has_headers(false)
-            .flexible(true)
-            .quoting(false)
-            .from_reader(alloc, source);
-        let mut row = ByteRecord::new(alloc);
-        let mut tables: Vec<TableDef> = Vec::new(alloc);
-        for accepted in 0..MAX_RECORDS + 1 {
-            match reader.read_byte_record(&mut row) {
-                Ok(true) => {}
-                Ok(false) => return finish(tables),
-                Err(error) => return Err(read_fault(error, accepted + 1)),
-            }
-            if let Err(fault) = accept(alloc, &mut tables, accepted + 1, &row) {
-                return Err(fault);
-            }
+        Catalog::read_in_pieces(alloc, source, PIECE_SIZE)
+    }
+
+    /// [`read_from`](Self::read_from) in pieces of this many bytes, where no line is longer. The size
+    /// changes no answer.
+    ///
+    /// # Errors
+    ///
+    /// As of [`read_from`](Self::read_from).
+    pub fn read_in_pieces<S: Source>(
+        alloc: Global,
+        source: &mut S,
+        size: usize,
+    ) -> Result<Catalog, LoadFault>
+        ensures grows { S.given source.new ≡ S.given source.old ++ given_since (S.given source.old) (S.given source.new) }
+        ensures reads { ReadsCatalog (records_of (given_since (S.given source.old) (S.given source.new))) result }
+        ensures ended { OnOk result (S.ends source.old < S.ends source.new) }
+        ensures broken { IfErr result (λ e. IfRead e (λ n. S.failures source.old < S.failures source.new)) }
+        ensures short { IfErr result (λ e. IfRead e (IsCatalogCutShort (given_since (S.given source.old) (S.given source.new)))) }
+        ensures whole { S.whole source.new ≡ S.whole source.old }
+        ensures told { IfSome (S.whole source.old) (λ all. ReadsCatalog (records_of (given_since (S.given source.old) all)) result) }
+        ensures faults { IfErr result IsCatalogFault }
+    {
+        let mut intake = CatalogIntake::new(alloc);
+        match take_all(alloc, source, size, &mut intake) {
+            Ok(()) => intake.finish(),
+            Err(fault) => Err(fault),
         }
-        unreachable!()
     }
 }
 

@@ -1,34 +1,24 @@
-// Reading a table, record by record.
+// Reading a table, from what a source gives or from a reader.
 
-ghost use Rattle.std.specs.Prelude.{◌≡◌, ◌<◌, ℕ, List, IfSome, IfOk, IfErr, length, map, OnOk, None};
+ghost use Rattle.std.specs.Prelude.{◌≡◌, ◌<◌, ◌++◌, ℕ, List, IfSome, IfOk, IfErr, OnOk, length, map};
+ghost use Rattle.ssb_load.specs.Giving.{given_since};
 ghost use Rattle.ssb_load.specs.Lawful.{HasOneKey, IsLawful};
-ghost use Rattle.ssb_load.specs.Loader.{IsIoOrMemory, IsReadFault, fault_of_read};
-ghost use Rattle.ssb_load.specs.Loading.{IsTableFault, Loads, rules_at};
+ghost use Rattle.ssb_load.specs.Loading.{IfRead, IsCutShort, IsTableFault, Loads, rules_at};
 ghost use Rattle.ssb_load.specs.Records.{records_of};
-ghost use Rattle.csv.specs.Reading.{error_kind};
 
 use crate::catalog::{Catalog, ColumnDef};
 use crate::fault::LoadFault;
-use crate::judge::key_place;
-use crate::loader::Loader;
+use crate::intake::take_all;
+use crate::reader::In;
 use crate::rule::Rule;
-use csv::{ByteRecord, Error, ErrorKind, ReaderBuilder};
+use crate::source::Source;
+use crate::table_intake::TableIntake;
 use ssb_cells::{Memory, Table};
 use std::alloc::Global;
 use std::io::Read;
 
-// What a failed read is to the caller: `Read` only for a fault of the reader underneath.
-pub(crate) fn read_fault(error: Error, number: u64) -> LoadFault
-    requires { IsIoOrMemory (error_kind error) }
-    ensures exact { result ≡ fault_of_read number (error_kind error) }
-    ensures kind { IsReadFault number result }
-{
-    match error.into_kind() {
-        ErrorKind::OutOfMemory => LoadFault::Memory,
-        ErrorKind::Io(_) => LoadFault::Read(number),
-        _ => unreachable!(),
-    }
-}
+/// How many bytes of a source are taken at once, where no line is longer.
+pub(crate) const PIECE_SIZE: usize = 262_144;
 
 // What these columns take.
 fn rules_of(alloc: Global, columns: &[ColumnDef]) -> Result<Vec<Rule>, Memory>
@@ -51,13 +41,11 @@ fn rules_at(alloc: Global, catalog: &Catalog, table: usize) -> Result<Vec<Rule>,
 
 /// The table that a file gives, read to its end, or the first faulty record with the least fault
 /// that applies to it. `table` is the number, from 0, of a table of the catalog; `max_rows` is how
-/// many records it may have at most.
+/// many records it may have at most. It is [`load_from`] over the reader.
 ///
 /// # Errors
 ///
-/// `Record` with a fault and the record's number, from 1; `Read` only where `csv` answers a fault of
-/// the reader, with the number of the record that was on its way; `Memory` where a growth was
-/// refused. Nothing is left of a table that was not loaded whole.
+/// As of [`load_from`].
 pub fn load<R: Read + Drop>(
     alloc: Global,
     catalog: &Catalog,
@@ -67,50 +55,78 @@ pub fn load<R: Read + Drop>(
 ) -> Result<Table, LoadFault>
     requires { table < length catalog.now }
     ensures known { IfSome (R.remaining source) (λ bytes. Loads (rules_at catalog.now table) max_rows (records_of bytes) result) }
+    ensures right { (bytes : List ℕ) × Loads (rules_at catalog.now table) max_rows (records_of bytes) result }
+    ensures lawful { IfOk result (λ t. IsLawful (rules_at catalog.now table) t) }
+    ensures faults { IfErr result IsTableFault }
+{
+    let mut source = In::new(source);
+    load_from(alloc, catalog, table, max_rows, &mut source)
+}
+
+/// The table of the bytes that a source gives from now on, to its end, or the first faulty record with
+/// the least fault that applies to it. `table` is the number, from 0, of a table of the catalog;
+/// `max_rows` is how many records it may have at most.
+///
+/// # Errors
+///
+/// `Record` with a fault and the record's number, from 1; `Read` only where a read of the source
+/// failed, with a number one above that of the whole lines' records, which are all good; `Memory` where
+/// a growth was refused. Nothing is left of a table that was not loaded whole.
+pub fn load_from<S: Source>(
+    alloc: Global,
+    catalog: &Catalog,
+    table: usize,
+    max_rows: u32,
+    source: &mut S,
+) -> Result<Table, LoadFault>
+    requires { table < length catalog.now }
+    ensures grows { S.given source.new ≡ S.given source.old ++ given_since (S.given source.old) (S.given source.new) }
+    ensures loads { Loads (rules_at catalog.now table) max_rows (records_of (given_since (S.given source.old) (S.given source.new))) result }
+    ensures ended { OnOk result (S.ends source.old < S.ends source.new) }
+    ensures broken { IfErr result (λ e. IfRead e (λ n. S.failures source.old < S.failures source.new)) }
+    ensures short { IfErr result (λ e. IfRead e (IsCutShort (rules_at catalog.now table) max_rows (given_since (S.given source.old) (S.given source.new)))) }
+    ensures whole { S.whole source.new ≡ S.whole source.old }
+    ensures told { IfSome (S.whole source.old) (λ all. Loads (rules_at catalog.now table) max_rows (records_of (given_since (S.given source.old) all)) result) }
+    ensures lawful { IfOk result (λ t. IsLawful (rules_at catalog.now table) t) }
+    ensures faults { IfErr result IsTableFault }
+{
+    load_in_pieces(alloc, catalog, table, max_rows, source, PIECE_SIZE)
+}
+
+/// [`load_from`] in pieces of this many bytes, where no line is longer. The size changes no answer.
+///
+/// # Errors
+///
+/// As of [`load_from`].
+pub fn load_in_pieces<S: Source>(
+    alloc: Global,
+    catalog: &Catalog,
+    table: usize,
+    max_rows: u32,
+    source: &mut S,
+    size: usize,
+) -> Result<Table, LoadFault>
+    requires { table < length catalog.now }
+    ensures grows { S.given source.new ≡ S.given source.old ++ given_since (S.given source.old) (S.given source.new) }
+    ensures loads { Loads (rules_at catalog.now table) max_rows (records_of (given_since (S.given source.old) (S.given source.new))) result }
+    ensures ended { OnOk result (S.ends source.old < S.ends source.new) }
+    ensures broken { IfErr result (λ e. IfRead e (λ n. S.failures source.old < S.failures source.new)) }
+    ensures short { IfErr result (λ e. IfRead e (IsCutShort (rules_at catalog.now table) max_rows (given_since (S.given source.old) (S.given source.new)))) }
+    ensures whole { S.whole source.new ≡ S.whole source.old }
+    ensures told { IfSome (S.whole source.old) (λ all. Loads (rules_at catalog.now table) max_rows (records_of (given_since (S.given source.old) all)) result) }
     ensures lawful { IfOk result (λ t. IsLawful (rules_at catalog.now table) t) }
     ensures faults { IfErr result IsTableFault }
 {
     let Ok(rules) = rules_at(alloc, catalog, table) else {
         return Err(LoadFault::Memory);
     };
-    load_by(alloc, &rules, max_rows, source)
-}
-
-// The table of a file under the rules of its columns.
-fn load_by<R: Read + Drop>(
-    alloc: Global,
-    plan: &[Rule],
-    max_rows: u32,
-    source: R,
-) -> Result<Table, LoadFault>
-    requires some { 0 < length plan.now }
-    requires key { HasOneKey plan.now }
-    ensures known { IfSome (R.remaining source) (λ bytes. Loads plan.now max_rows (records_of bytes) result) }
-    ensures lawful { IfOk result (λ t. IsLawful plan.now t) }
-    ensures faults { IfErr result IsTableFault }
-{
-    let mut reader = ReaderBuilder::new()
-        .delimiter(b'|')
-        .has_headers(false)
-        .flexible(true)
-        .quoting(false)
-        .from_reader(alloc, source);
-    let key = key_place(plan);
-    let mut row = ByteRecord::new(alloc);
-    let Ok(mut loader) = Loader::new(alloc, plan) else {
+    let Ok(mut intake) = TableIntake::new(alloc, rules, max_rows) else {
         return Err(LoadFault::Memory);
     };
-    for accepted in 0..u64::from(max_rows) + 1 {
-        match reader.read_byte_record(&mut row) {
-            Ok(true) => {}
-            Ok(false) => return Ok(loader.into_table()),
-            Err(error) => return Err(read_fault(error, accepted + 1)),
-        }
-        if let Err(fault) = loader.accept(plan, key, accepted, max_rows, &row) {
-            return Err(fault);
-        }
+    match take_all(alloc, source, size, &mut intake) {
+        Ok(()) => Ok(intake.into_table()),
+        Err(fault) => Err(fault),
     }
-    unreachable!()
 }
 
 #[cfg(test)]

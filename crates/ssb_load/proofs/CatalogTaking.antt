@@ -1,0 +1,91 @@
+-- One record more of a catalog on its way.
+use Rattle.std.proofs.Common.{◌≡◌, ◌∙◌, ◌+◌, ◌++◌, ℕ, List, [], ◌∷◌, length, Option, Some, None, Ok, Err, Result, IfErr, refl, sym, ap, subst, arith, length-append}
+use Rattle.ssb_load.specs.Catalog.{catalog_of, column_fault, column_in, fault_behind, first_catalog_fault, or_else, spelling_fault, table_in, tables_in}
+use Rattle.ssb_load.specs.CatalogIntake.{IsDrafting}
+use Rattle.ssb_load.specs.CatalogReading.{IsCatalogCutShort, IsCatalogFault, IsGoodCatalogBefore, Refuses, RefusesCatalog, told, with_column}
+use Rattle.ssb_load.specs.Loading.{IfRead}
+use Rattle.ssb_load.specs.Intake as intake
+use Rattle.ssb_load.specs.Records.{Fields, records_of}
+use Rattle.ssb_load.specs.declared.catalog_intake.CatalogIntake.{CatalogIntake}
+use Rattle.ssb_load.specs.declared.fault.CatalogFault.{CatalogFault}
+use Rattle.ssb_load.specs.declared.fault.LoadFault.{LoadFault}
+use Rattle.ssb_load.specs.declared.fault.LoadFault.TheVariants as load
+use Rattle.ssb_load.proofs.CatalogFaults.{fault-here, fault-more}
+use Rattle.ssb_load.proofs.DraftFacts.{count-more, draft-more}
+use Rattle.ssb_load.proofs.GroupFacts.{tables-push}
+use Rattle.ssb_load.proofs.LineRecords.{first-records}
+
+or-none : (a b : Option CatalogFault) → or_else a b ≡ None → (a ≡ None) × (b ≡ None)
+or-none None b e = (refl, e)
+or-none (Some f) b e = cc e
+
+-- a good record more
+pub drafts-more : (old now : CatalogIntake) (good : List Fields) (f : Fields) → IsDrafting old good → fault_behind old.tables.items f ≡ None → now.tables.items ≡ with_column old.tables.items (table_in f) (column_in f)
+    → now.accepted ≡ old.accepted + 1 → IsDrafting now (good ++ f ∷ [])
+drafts-more old now good f h none put counted =
+    let fault = or-none (spelling_fault f) (column_fault old.tables.items (table_in f) (column_in f)) none in
+    let n = length-append good (f ∷ []) in
+    let m = h.count in
+    record {
+      count = omega (arith, n, m, counted);
+      clean = fault-more good f h.clean (rw (← h.tables_are) none);
+      tables_are = put ∙ (rw h.tables_are (tables-push good f));
+      draft = rw put (draft-more old.tables.items (table_in f) (column_in f) h.draft fault.1);
+      columns = rw put (count-more old.tables.items (table_in f) (column_in f) ∙ (let k = h.columns in omega (arith, k, counted)));
+    }
+
+-- a faulty one
+refused-by : (good rest : List Fields) (r : Fields) (n : ℕ) (e : LoadFault) → first_catalog_fault [] good ≡ None → n ≡ length good + 1 → Refuses (fault_behind (tables_in good) r) n e → intake.Refuses intake.catalog (good ++ r ∷ rest) e
+refused-by good rest r n (load.BadCatalog f k) clean is h = rw (h.1, is) (fault-here good rest r f clean h.0)
+refused-by good rest r n load.Memory clean is h = tt
+refused-by good rest r n (load.Record f k) clean is h = absurd h
+refused-by good rest r n (load.Read k) clean is h = absurd h
+
+pub refuses-here : (t : CatalogIntake) (good rest : List Fields) (r : Fields) (e : LoadFault) → IsDrafting t good → Refuses (fault_behind t.tables.items r) (t.accepted + 1) e → intake.Refuses intake.catalog (good ++ r ∷ rest) e
+refuses-here t good rest r e h is = refused-by good rest r (t.accepted + 1) e h.clean (let m = h.count in omega (arith, m)) (rw h.tables_are at is)
+
+-- why no catalog came, of the bytes given
+good-lines : (bytes : List ℕ) (n : ℕ) → intake.StopsAt intake.catalog bytes n → IsGoodCatalogBefore (records_of bytes) n
+good-lines bytes n h =
+    let f = first-records h.lines h.rest h.cut.whole in
+    (records_of h.lines, f.0, ap records_of h.cut.split ∙ f.1, h.good, h.number)
+
+pub tells-given : (bytes : List ℕ) (e : LoadFault) → intake.StopsBy intake.catalog bytes e → RefusesCatalog (records_of bytes) e
+tells-given bytes (load.BadCatalog f n) h = rw h refl
+tells-given bytes (load.Read n) h = good-lines bytes n h
+tells-given bytes load.Memory h = tt
+tells-given bytes (load.Record f n) h = absurd h
+
+-- and of all bytes
+pub tells-all : (bytes : List ℕ) (e : LoadFault) → intake.StopsIn intake.catalog bytes e → RefusesCatalog (records_of bytes) e
+tells-all bytes (load.BadCatalog f n) h = rw h refl
+tells-all bytes (load.Read n) h = h
+tells-all bytes load.Memory h = tt
+tells-all bytes (load.Record f n) h = absurd h
+
+pub cut-short : (bytes : List ℕ) (e : LoadFault) → intake.StopsBy intake.catalog bytes e → IfRead e (IsCatalogCutShort bytes)
+cut-short bytes (load.BadCatalog f n) h = tt
+cut-short bytes (load.Read n) h = record { lines = h.lines; rest = h.rest; cut = h.cut; good = h.good; number = h.number }
+cut-short bytes load.Memory h = tt
+cut-short bytes (load.Record f n) h = tt
+
+pub catalog-kind : (bytes : List ℕ) (e : LoadFault) → intake.StopsBy intake.catalog bytes e → IsCatalogFault e
+catalog-kind bytes (load.BadCatalog f n) h = tt
+catalog-kind bytes (load.Read n) h = tt
+catalog-kind bytes load.Memory h = tt
+catalog-kind bytes (load.Record f n) h = absurd h
+
+-- the whole is judged by no read
+pub told-reads : {A : Type 0} (r : Result A (CatalogFault × ℕ)) → IfErr (told r) (λ e. IfRead e (λ n. ⊥))
+told-reads (Ok a) = tt
+told-reads (Err (f, n)) = tt
+
+pub read-none : (e : LoadFault) (P : ℕ → Type 0) → IfRead e (λ n. ⊥) → IfRead e P
+read-none (load.BadCatalog f n) P h = tt
+read-none (load.Read n) P h = absurd h
+read-none load.Memory P h = tt
+read-none (load.Record f n) P h = tt
+
+pub err-map : {T E : Type 0} (r : Result T E) (P Q : E → Type 0) → ((e : E) → P e → Q e) → IfErr r P → IfErr r Q
+err-map (Ok x) P Q f h = tt
+err-map (Err e) P Q f h = f e h

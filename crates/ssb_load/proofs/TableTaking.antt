@@ -1,0 +1,89 @@
+-- A table on its way: a record that is refused, and what the end says.
+use Rattle.std.proofs.Common.{◌≡◌, ◌∙◌, ◌+◌, ◌++◌, ℕ, List, [], ◌∷◌, length, Some, None, Ok, Err, refl, sym, ap, subst, arith}
+use Rattle.ssb_cells.specs.Cell.{Filled}
+use Rattle.ssb_load.specs.Intake as intake
+use Rattle.ssb_load.specs.Lawful.{HasOneKey, IsLawful}
+use Rattle.ssb_load.specs.Loader.{IsFaultBy}
+use Rattle.ssb_load.specs.Loading.{Fails, IfRead, IsCutShort, IsGoodBefore, IsTableFault, Loads}
+use Rattle.ssb_load.specs.Records.{Fields, records_of}
+use Rattle.ssb_load.specs.Rules.{columns_of}
+use Rattle.ssb_load.specs.TableIntake.{IsLoading, subject_of}
+use Rattle.ssb_load.specs.Tables.{first_fault}
+use Rattle.ssb_load.specs.declared.fault.LoadFault.{LoadFault}
+use Rattle.ssb_load.specs.declared.fault.LoadFault.TheVariants as load
+use Rattle.ssb_load.specs.declared.rule.Rule.{Rule}
+use Rattle.ssb_load.specs.declared.table_intake.TableIntake.{TableIntake}
+use Rattle.ssb_load.proofs.FaultFacts.{fault-here}
+use Rattle.ssb_load.proofs.HoldsFacts.{same-fault}
+use Rattle.ssb_load.proofs.LawfulFacts.{lawful}
+use Rattle.ssb_load.proofs.LineRecords.{first-records}
+
+-- a faulty record
+pub refuses-here : (t : TableIntake) (good rest : List Fields) (r : Fields) (e : LoadFault) → IsLoading t good → IsFaultBy t.rules.items t.max_rows t.accepted t.loader.seen.keys r e
+    → intake.Refuses (subject_of t) (good ++ r ∷ rest) e
+refuses-here t good rest r (load.Record f n) h is =
+    let faulty = sym (same-fault t.rules.items t.max_rows good t.loader.seen.keys t.loader.columns.items r h.holds) ∙ (rw h.count is.0) in
+    rw (is.1, ← h.count) (fault-here t.rules.items t.max_rows good rest r f h.clean faulty)
+refuses-here t good rest r load.Memory h is = tt
+refuses-here t good rest r (load.Read n) h is = absurd is
+refuses-here t good rest r (load.BadCatalog f n) h is = absurd is
+
+-- what a subject is of
+rules_in : intake.Subject → List Rule
+rules_in (intake.table rules m) = rules
+rules_in intake.catalog = []
+
+limit_in : intake.Subject → ℕ
+limit_in (intake.table rules m) = m
+limit_in intake.catalog = 0
+
+pub rules-are : (t : TableIntake) (rules : List Rule) (m : ℕ) → subject_of t ≡ intake.table rules m → t.rules.items ≡ rules
+unfolding rules_in
+rules-are t rules m e = ap rules_in e
+
+pub limit-is : (t : TableIntake) (rules : List Rule) (m : ℕ) → subject_of t ≡ intake.table rules m → t.max_rows ≡ m
+unfolding limit_in
+limit-is t rules m e = ap limit_in e
+
+-- why no table came, of the bytes given
+good-lines : (rules : List Rule) (m : ℕ) (bytes : List ℕ) (n : ℕ) → intake.StopsAt (intake.table rules m) bytes n → IsGoodBefore rules m (records_of bytes) n
+good-lines rules m bytes n h =
+    let f = first-records h.lines h.rest h.cut.whole in
+    (records_of h.lines, f.0, ap records_of h.cut.split ∙ f.1, h.good, h.number)
+
+pub fails-given : (s : intake.Subject) (rules : List Rule) (m : ℕ) (bytes : List ℕ) (e : LoadFault) → s ≡ intake.table rules m → intake.StopsBy s bytes e → Fails rules m (records_of bytes) e
+fails-given s rules m bytes (load.Record f n) is h = let k : intake.StopsBy (intake.table rules m) bytes (load.Record f n) = rw is at h in rw k refl
+fails-given s rules m bytes (load.BadCatalog f n) is h = let k : intake.StopsBy (intake.table rules m) bytes (load.BadCatalog f n) = rw is at h in absurd k
+fails-given s rules m bytes (load.Read n) is h = good-lines rules m bytes n (rw is at h)
+fails-given s rules m bytes load.Memory is h = tt
+
+-- and of all bytes
+pub fails-all : (s : intake.Subject) (rules : List Rule) (m : ℕ) (bytes : List ℕ) (e : LoadFault) → s ≡ intake.table rules m → intake.StopsIn s bytes e → Fails rules m (records_of bytes) e
+fails-all s rules m bytes (load.Record f n) is h = let k : intake.StopsIn (intake.table rules m) bytes (load.Record f n) = rw is at h in rw k refl
+fails-all s rules m bytes (load.BadCatalog f n) is h = let k : intake.StopsIn (intake.table rules m) bytes (load.BadCatalog f n) = rw is at h in absurd k
+fails-all s rules m bytes (load.Read n) is h = rw is at h
+fails-all s rules m bytes load.Memory is h = tt
+
+pub cut-short : (s : intake.Subject) (rules : List Rule) (m : ℕ) (bytes : List ℕ) (e : LoadFault) → s ≡ intake.table rules m → intake.StopsBy s bytes e → IfRead e (IsCutShort rules m bytes)
+cut-short s rules m bytes (load.Record f n) is h = tt
+cut-short s rules m bytes (load.BadCatalog f n) is h = tt
+cut-short s rules m bytes (load.Read n) is h =
+    let k : intake.StopsAt (intake.table rules m) bytes n = rw is at h in
+    record { lines = k.lines; rest = k.rest; cut = k.cut; good = k.good; number = k.number }
+cut-short s rules m bytes load.Memory is h = tt
+
+pub table-kind : (s : intake.Subject) (rules : List Rule) (m : ℕ) (bytes : List ℕ) (e : LoadFault) → s ≡ intake.table rules m → intake.StopsBy s bytes e → IsTableFault e
+table-kind s rules m bytes (load.Record f n) is h = tt
+table-kind s rules m bytes (load.BadCatalog f n) is h = let k : intake.StopsBy (intake.table rules m) bytes (load.BadCatalog f n) = rw is at h in absurd k
+table-kind s rules m bytes (load.Read n) is h = tt
+table-kind s rules m bytes load.Memory is h = tt
+
+-- the end: all records are good, and these are their columns
+pub all-loaded : (t : TableIntake) (rules : List Rule) (m : ℕ) (records : List Fields) (columns : List Filled) → subject_of t ≡ intake.table rules m → IsLoading t records → columns ≡ columns_of t.rules.items records → Loads rules m records (Ok columns)
+all-loaded t rules m records columns is h are =
+    let clean = rw (rules-are t rules m is, limit-is t rules m is) at h.clean in
+    rw (clean, ap (λ rs. columns_of rs records) (sym (rules-are t rules m is)), ← are) refl
+
+pub all-lawful : (t : TableIntake) (rules : List Rule) (m : ℕ) (records : List Fields) (columns : List Filled) → HasOneKey rules → subject_of t ≡ intake.table rules m → IsLoading t records → columns ≡ columns_of t.rules.items records → IsLawful rules columns
+all-lawful t rules m records columns one is h are =
+    lawful rules m records columns one (rw (rules-are t rules m is, limit-is t rules m is) at h.clean) (are ∙ ap (λ rs. columns_of rs records) (rules-are t rules m is))

@@ -1,0 +1,87 @@
+use Rattle.std.proofs.Common.{◌≡◌, ◌++◌, ◌∙◌, ◌+◌, [], List, ℕ, Bool, refl, sym, ap, subst, inl, inr, true, false}
+use Rattle.ssb_load.specs.Intake.{AreGood, Refuses, Subject}
+use Rattle.ssb_load.specs.Pieces.{handed, piece_of, rest_of, Hands}
+use Rattle.ssb_load.specs.Records.{Fields, records_of}
+use Rattle.ssb_load.proofs.Blocks.{no-records}
+use Rattle.ssb_load.proofs.LineRecords.{records-lead}
+use Rattle.ssb_load.proofs.TakingAll.{always, follows-start, good-before, holds-of, never-over, over-settled, piece-behind, refused-all, refused-fails, refused-given, refused-in, stops-at}
+use Rattle.ssb_load.proofs.intake.take_all.Goals as goal
+
+pub loop-init : goal.loop-init
+loop-init g c = record {
+  follows = follows-start g.S.Source.given g.S.Source.failures g.S.Source.ends c.new-pieces.result c.args.source.now c.new-pieces.ensures.handed c.new-pieces.ensures.rest c.new-pieces.ensures.stopped c.new-pieces.ensures.failed c.new-pieces.ensures.begun;
+  whole = refl;
+  begun = c.new-pieces.ensures.begun;
+  same = refl;
+  held = subst (g.T.Intake.stands c.args.intake.now) (sym (ap records_of c.new-pieces.ensures.handed ∙ no-records)) c.requires;
+  lead = inl (refl, c.new-pieces.ensures.handed);
+}
+
+pub returns-in-Ok-false-clause-fails : goal.returns-in-Ok-false-clause-fails
+returns-in-Ok-false-clause-fails g c =
+    let inv = c.loop.invariant in
+    let p = c.loop.pieces in
+    let q = c.fill.new.self in
+    let begun = ap (λ s. s.value) c.fill.ensures.begun ∙ inv.begun in
+    let told = c.fill.ensures.follows.told ∙ ap (λ s. g.S.Source.given s ++ (handed q ++ rest_of q)) begun in
+    let failed = sym c.has_failed.ensures ∙ c.if-has_failed.true in
+    let hands = let P : Bool → Type 0 = λ b. Hands b q in subst P c.in-Ok-false.field-0-test c.in-Ok-false.ensures.hands in
+    let good = let P : Subject → Type 0 = λ s. AreGood s (records_of (handed p)) in subst P inv.same (g.met.T.Intake.good c.loop.intake (records_of (handed p)) inv.held) in
+    stops-at (g.T.Intake.subject c.args.intake.now) p q c.loop.before.now _ _ _ inv.lead failed c.fill.ensures.stays hands c.fill.ensures.handed told good (ap (λ n. n + 1) (c.accepted.ensures.count _ inv.held))
+
+pub returns-in-Ok-false-clause-told : goal.returns-in-Ok-false-clause-told
+returns-in-Ok-false-clause-told g c =
+    let inv = c.loop.invariant in
+    let p = c.loop.pieces in
+    let q = c.fill.new.self in
+    let begun = ap (λ s. s.value) c.fill.ensures.begun ∙ inv.begun in
+    let told = c.fill.ensures.follows.told ∙ ap (λ s. g.S.Source.given s ++ (handed q ++ rest_of q)) begun in
+    let failed = sym c.has_failed.ensures ∙ c.if-has_failed.true in
+    let hands = let P : Bool → Type 0 = λ b. Hands b q in subst P c.in-Ok-false.field-0-test c.in-Ok-false.ensures.hands in
+    let good = let P : Subject → Type 0 = λ s. AreGood s (records_of (handed p)) in subst P inv.same (g.met.T.Intake.good c.loop.intake (records_of (handed p)) inv.held) in
+    always (g.S.Source.whole c.args.source.now) _ (λ all is.
+    let front = holds-of (g.S.Source.whole c.fill.new.source) _ all (c.fill.ensures.whole ∙ inv.whole ∙ is) (g.met.S.Source.begins c.fill.new.source) in
+    good-before (g.T.Intake.subject c.args.intake.now) p q c.loop.before.now _ _ all _ inv.lead failed c.fill.ensures.stays hands c.fill.ensures.handed told good (ap (λ n. n + 1) (c.accepted.ensures.count _ inv.held)) front)
+
+pub returns-in-Err-take_text-clause-fails : goal.returns-in-Err-take_text-clause-fails
+returns-in-Err-take_text-clause-fails g c =
+    let inv = c.loop.invariant in
+    let p = c.loop.pieces in
+    let q = c.fill.new.self in
+    let begun = ap (λ s. s.value) c.fill.ensures.begun ∙ inv.begun in
+    let told = c.fill.ensures.follows.told ∙ ap (λ s. g.S.Source.given s ++ (handed q ++ rest_of q)) begun in
+    let hands = let P : Bool → Type 0 = λ b. Hands b q in subst P c.in-Ok-true.field-0-test c.in-Ok-true.ensures.hands in
+    let refused = λ (rest : List Fields). rw (inv.same, c.piece.ensures) at (c.in-Err-take_text.ensures.refused (records_of (handed p)) rest inv.held) in
+    refused-fails _ _ _ (refused-given (g.T.Intake.subject c.args.intake.now) c.in-Err-take_text.fault p q c.loop.before.now _ _ inv.lead hands c.fill.ensures.over c.fill.ensures.handed told refused)
+
+pub returns-in-Err-take_text-clause-told : goal.returns-in-Err-take_text-clause-told
+returns-in-Err-take_text-clause-told g c =
+    let inv = c.loop.invariant in
+    let p = c.loop.pieces in
+    let q = c.fill.new.self in
+    let begun = ap (λ s. s.value) c.fill.ensures.begun ∙ inv.begun in
+    let told = c.fill.ensures.follows.told ∙ ap (λ s. g.S.Source.given s ++ (handed q ++ rest_of q)) begun in
+    let hands = let P : Bool → Type 0 = λ b. Hands b q in subst P c.in-Ok-true.field-0-test c.in-Ok-true.ensures.hands in
+    let refused = λ (rest : List Fields). rw (inv.same, c.piece.ensures) at (c.in-Err-take_text.ensures.refused (records_of (handed p)) rest inv.held) in
+    always (g.S.Source.whole c.args.source.now) _ (λ all is.
+    let known = c.fill.ensures.whole ∙ inv.whole ∙ is in
+    let front = holds-of (g.S.Source.whole c.fill.new.source) _ all known (g.met.S.Source.begins c.fill.new.source) in
+    refused-in _ c.in-Err-take_text.fault _ (refused-all (g.T.Intake.subject c.args.intake.now) c.in-Err-take_text.fault p q c.loop.before.now _ _ all inv.lead hands c.fill.ensures.over c.fill.ensures.handed told refused front
+    (λ o. holds-of (g.S.Source.whole c.fill.new.source) _ all known (g.met.S.Source.settled c.fill.new.source (over-settled _ _ _ q _ c.fill.ensures.follows o)))))
+
+pub loop-preserved : goal.loop-preserved
+loop-preserved g c =
+    let inv = c.loop.invariant in
+    let p = c.loop.pieces in
+    let q = c.fill.new.self in
+    let hands = let P : Bool → Type 0 = λ b. Hands b q in subst P c.in-Ok-true.field-0-test c.in-Ok-true.ensures.hands in
+    let taken = rw c.piece.ensures at (c.in_default.ensures.taken (records_of (handed p)) inv.held) in
+    record {
+      follows = c.fill.ensures.follows;
+      whole = c.fill.ensures.whole ∙ inv.whole;
+      begun = ap (λ s. s.value) c.fill.ensures.begun ∙ inv.begun;
+      same = c.take_text.ensures.subject ∙ inv.same;
+      held = subst (g.T.Intake.stands c.take_text.new.intake)
+          (sym (ap records_of c.fill.ensures.handed ∙ records-lead c.loop.before.now (handed p) (piece_of q) _ inv.lead (never-over _ (piece_of q) hands.0 c.fill.ensures.over))) taken;
+      lead = inr (refl, piece-behind p q c.fill.ensures.handed hands);
+    }

@@ -1,0 +1,21 @@
+-- What a table on its way stands for.
+-- For the contracts inside this crate.
+use Rattle.std.specs.Prelude.{◌≡◌, ◌≤◌, ◌<◌, ◌^◌, ℕ, List, [], length, None}
+use Rattle.ssb_load.specs.Intake.{Subject, table}
+use Rattle.ssb_load.specs.Loader.{Holds}
+use Rattle.ssb_load.specs.Records.{Fields}
+use Rattle.ssb_load.specs.Rules.{key_place}
+use Rattle.ssb_load.specs.Tables.{first_fault}
+use Rattle.ssb_load.specs.declared.table_intake.TableIntake.{TableIntake}
+
+abbrev pub subject_of : TableIntake → Subject
+subject_of t = table t.rules.items t.max_rows
+
+-- it has the rows of these records, all good
+pub record IsLoading (t : TableIntake) (good : List Fields) : Type 0 where
+  pub count : length good ≡ t.accepted
+  pub room : t.accepted ≤ t.max_rows
+  pub few : t.accepted < 2 ^ 32
+  pub clean : first_fault t.rules.items t.max_rows [] good ≡ None
+  pub holds : Holds t.rules.items good t.loader.seen.keys t.loader.columns.items
+  pub key : t.key ≡ key_place t.rules.items

@@ -1,0 +1,108 @@
+// The records of a source, piece by piece, and what takes them.
+
+ghost use Rattle.std.specs.Prelude.{◌≡◌, ◌+◌, ◌<◌, ◌^◌, ◌++◌, ◌∷◌, [], ℕ, List, length, OnOk, IfErr, IfSome};
+ghost use Rattle.csv.specs.Records.{fields_of};
+ghost use Rattle.ssb_load.specs.Giving.{given_since};
+ghost use Rattle.ssb_load.specs.Intake.{AreGood, Refuses, StopsBy, StopsIn, Subject};
+ghost use Rattle.ssb_load.specs.Loading.{IfRead};
+ghost use Rattle.ssb_load.specs.Records.{Fields, records_of};
+
+use crate::fault::LoadFault;
+use crate::pieces::Pieces;
+use crate::source::Source;
+use csv::{ByteRecord, ReaderBuilder};
+use std::alloc::Global;
+use std::io::Read;
+
+// What takes records one by one: a table on its way, or a catalog.
+pub(crate) trait Intake {
+    ghost subject: { Self → Subject };
+
+    // It took these records, and they are good.
+    ghost stands: { Self → List Fields → Type 0 };
+
+    // Takes one more record, or says why not.
+    fn take(&mut self, row: &ByteRecord) -> Result<(), LoadFault>
+        requires { (good : List Fields) × stands self.old good }
+        ensures subject { subject self.new ≡ subject self.old }
+        ensures taken { OnOk result ((good : List Fields) → stands self.old good → stands self.new (good ++ fields_of row.now ∷ [])) }
+        ensures refused { IfErr result (λ e. (good rest : List Fields) → stands self.old good → Refuses (subject self.old) (good ++ fields_of row.now ∷ rest) e) };
+
+    // How many records it took.
+    fn accepted(&self) -> u64
+        requires { (good : List Fields) × stands self.now good }
+        ensures count { (good : List Fields) → stands self.now good → result ≡ length good }
+        ensures room { result + 1 < 2 ^ 64 };
+
+    ghost good: { (t : Self) (records : List Fields) → stands t records → AreGood (subject t) records };
+}
+
+// Takes the records of a text, with these bytes before it.
+fn take_text<T: Intake>(
+    alloc: Global,
+    before: &[u8],
+    text: &[u8],
+    row: &mut ByteRecord,
+    intake: &mut T,
+) -> Result<(), LoadFault>
+    requires { (good : List Fields) × T.stands intake.old good }
+    ensures subject { T.subject intake.new ≡ T.subject intake.old }
+    ensures taken { OnOk result ((good : List Fields) → T.stands intake.old good → T.stands intake.new (good ++ records_of (before.now ++ text.now))) }
+    ensures refused { IfErr result (λ e. (good rest : List Fields) → T.stands intake.old good → Refuses (T.subject intake.old) (good ++ (records_of (before.now ++ text.now) ++ rest)) e) }
+{
+    let mut reader = ReaderBuilder::new()
+        .delimiter(b'|')
+        .has_headers(false)
+        .flexible(true)
+        .quoting(false)
+        .from_reader(alloc, before.chain(text));
+    for _ in 0..u64::MAX {
+        match reader.read_byte_record(row) {
+            Ok(true) => {}
+            Ok(false) => return Ok(()),
+            Err(_) => return Err(LoadFault::Memory),
+        }
+        if let Err(fault) = intake.take(row) {
+            return Err(fault);
+        }
+    }
+    Err(LoadFault::Memory)
+}
+
+// Takes all records of what a source gives from now on, in pieces of this size where no line is
+// longer.
+pub(crate) fn take_all<S: Source, T: Intake>(
+    alloc: Global,
+    source: &mut S,
+    size: usize,
+    intake: &mut T,
+) -> Result<(), LoadFault>
+    requires { T.stands intake.old [] }
+    ensures grows { S.given source.new ≡ S.given source.old ++ given_since (S.given source.old) (S.given source.new) }
+    ensures whole { S.whole source.new ≡ S.whole source.old }
+    ensures subject { T.subject intake.new ≡ T.subject intake.old }
+    ensures taken { OnOk result (T.stands intake.new (records_of (given_since (S.given source.old) (S.given source.new)))) }
+    ensures ended { OnOk result (S.ends source.old < S.ends source.new) }
+    ensures fails { IfErr result (StopsBy (T.subject intake.old) (given_since (S.given source.old) (S.given source.new))) }
+    ensures broken { IfErr result (λ e. IfRead e (λ n. S.failures source.old < S.failures source.new)) }
+    ensures told { IfErr result (λ e. IfSome (S.whole source.old) (λ all. StopsIn (T.subject intake.old) (given_since (S.given source.old) all) e)) }
+{
+    let mut pieces = Pieces::new(alloc, source, size);
+    let mut row = ByteRecord::new(alloc);
+    let mut before: &[u8] = b"";
+    for _ in 0..u64::MAX {
+        match pieces.fill(source) {
+            Ok(true) => {}
+            Ok(false) if pieces.has_failed() => {
+                return Err(LoadFault::Read(intake.accepted() + 1));
+            }
+            Ok(false) => return Ok(()),
+            Err(_) => return Err(LoadFault::Memory),
+        }
+        if let Err(fault) = take_text(alloc, before, pieces.piece(), &mut row, intake) {
+            return Err(fault);
+        }
+        before = b"\n";
+    }
+    Err(LoadFault::Memory)
+}

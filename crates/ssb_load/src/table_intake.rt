@@ -1,0 +1,82 @@
+// A table on its way, under the rules of its columns.
+
+ghost use Rattle.std.specs.Prelude.{◌≡◌, ◌<◌, [], List, IfOk, length, vec_len};
+
+use crate::fault::LoadFault;
+use crate::intake::Intake;
+use crate::judge::key_place;
+use crate::loader::Loader;
+use crate::rule::Rule;
+use csv::ByteRecord;
+use ssb_cells::Table;
+use std::alloc::{AllocError, Global};
+
+// The rules, how many rows there may be, and the rows so far.
+#[derive(Drop)]
+pub(crate) struct TableIntake {
+    rules: Vec<Rule>,
+    key: Option<usize>,
+    max_rows: u32,
+    accepted: u64,
+    loader: Loader,
+}
+
+impl TableIntake {
+    ghost use Rattle.ssb_load.specs.Intake.{Subject, table};
+    ghost use Rattle.ssb_load.specs.Lawful.{HasOneKey, IsLawful};
+    ghost use Rattle.ssb_load.specs.Records.{Fields};
+    ghost use Rattle.ssb_load.specs.Rules.{columns_of};
+    ghost use Rattle.ssb_load.specs.TableIntake.{IsLoading, subject_of};
+
+    // Of no row yet.
+    pub(crate) fn new(alloc: Global, rules: Vec<Rule>, max_rows: u32) -> Result<TableIntake, AllocError>
+        ensures subject { IfOk result (λ t. subject_of t ≡ table rules.items max_rows) }
+        ensures stands { IfOk result (λ t. IsLoading t []) }
+    {
+        let loader = Loader::new(alloc, &rules)?;
+        let key = key_place(&rules);
+        Ok(TableIntake {
+            rules,
+            key,
+            max_rows,
+            accepted: 0,
+            loader,
+        })
+    }
+
+    // The table of the records that were taken.
+    pub(crate) fn into_table(self) -> Table
+        requires some { 0 < vec_len self.rules }
+        requires stands { (good : List Fields) × IsLoading self good }
+        ensures { (good : List Fields) → IsLoading self good → result ≡ columns_of self.rules.items good }
+    {
+        self.loader.into_table()
+    }
+}
+
+impl Intake for TableIntake {
+    ghost use Rattle.ssb_load.specs.TableIntake.{IsLoading, subject_of};
+
+    ghost subject = { subject_of };
+
+    ghost stands = { IsLoading };
+
+    fn take(&mut self, row: &ByteRecord) -> Result<(), LoadFault> {
+        match self
+            .loader
+            .accept(&self.rules, self.key, self.accepted, self.max_rows, row)
+        {
+            Ok(()) => {
+                self.accepted += 1;
+                Ok(())
+            }
+            Err(fault) => Err(fault),
+        }
+    }
+
+    fn accepted(&self) -> u64 {
+        self.accepted
+    }
+
+    ghost good = { λ t records h. h.clean };
+}

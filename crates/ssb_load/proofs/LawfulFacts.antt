@@ -1,11 +1,14 @@
 -- Good records give a lawful table.
 use Rattle.std.proofs.Common.{◌≡◌, ◌≢◌, ◌∙◌, ◌+◌, ◌<◌, ◌++◌, ◌||◌, ◌&&◌, ℕ, ℤ, zero, suc, Bool, true, false, cond, not, List, [], ◌∷◌, length, map, take, get_or, slice_get, Option, Some, None, refl, sym, ap, subst, arith, append_assoc}
-use Rattle.std.specs.Prelude.{All, AllPairs, is_none}
+use Rattle.std.specs.Prelude.{All, AllPairs, is_none, nat_lt, unwrap_or, pos, neg_ℤ, drop, ◌^◌, ◌≤◌}
+use Rattle.std.specs.Str.{all_ascii_digits}
+use Rattle.std.specs.Str.Parse.{digits_value, starts_with_minus}
 use Rattle.std.specs.List.{list_any}
 use Rattle.std.specs.Ordering.{int_eq}
 use Rattle.std.proofs.lemmas.Bool.{false≢true}
-use Rattle.std.proofs.lemmas.Bool.Decides.{Decides-int_eq}
+use Rattle.std.proofs.lemmas.Bool.Decides.{Decides-int_eq, Decides-ltb, leb_tells, nat_tests}
 use Rattle.std.proofs.lemmas.List.{append-nil}
+use Rattle.std.proofs.lemmas.List.Elements.{All-cons, All-nil}
 use Rattle.ssb_cells.specs.Cell.{Cell, Filled, null, number}
 use Rattle.ssb_cells.specs.declared.value.ColType.{ColType}
 use Rattle.ssb_cells.specs.declared.value.ColType.TheVariants as kinds
@@ -13,7 +16,7 @@ use Rattle.ssb_load.specs.Records.{Fields, field}
 use Rattle.ssb_load.specs.Numbers.{number_of}
 use Rattle.ssb_load.specs.Rules.{any_from, fails, needs_value, is_key, is_int, is_empty, key_place, key_of, is_value, has_key, value_in, cell_in, columns_from, columns_of}
 use Rattle.ssb_load.specs.Tables.{fault_of, first_fault}
-use Rattle.ssb_load.specs.Lawful.{FitsType, EachObeys, HasOneKey, IsLawful}
+use Rattle.ssb_load.specs.Lawful.{FitsType, EachObeys, HasOneKey, IsGiven, IsInt64, IsLawful}
 use Rattle.ssb_load.specs.declared.rule.Role.{Role}
 use Rattle.ssb_load.specs.declared.rule.Role.TheVariants as roles
 use Rattle.ssb_load.specs.declared.rule.Rule.{Rule}
@@ -86,6 +89,47 @@ fits-cond kind false v h = h
 fits-cell : (kind : ColType) (f : List ℕ) → FitsType kind (cell_in kind f)
 fits-cell kind f = fits-cond kind (is_empty f) (value_in kind f) (fits-value kind f)
 
+-- the number that a field spells has 64 bits
+not-below : (a b : ℕ) → nat_lt a b ≡ false → b ≤ a
+not-below a b e = let h : a < b → ⊥ = λ lt. false≢true (sym e ∙ (Decides-ltb a b).1 lt) in omega arith
+
+int-plain : (n : ℕ) → nat_lt n (2 ^ 63) ≡ true → IsInt64 (pos n)
+int-plain n e = (Decides-ltb n (2 ^ 63)).0 e
+
+int-minus : (n : ℕ) → nat_lt n (2 ^ 63 + 1) ≡ true → IsInt64 (neg_ℤ (pos n))
+int-minus zero e = omega arith
+int-minus (suc n) e = let h = (Decides-ltb (suc n) (2 ^ 63 + 1)).0 e in omega arith
+
+last-true : (a b c : Bool) → (a && (b && c)) ≡ true → c ≡ true
+last-true true true c e = e
+last-true true false c e = cc e
+last-true false b c e = cc e
+
+int-or : (b : Bool) (z : ℤ) → (b ≡ true → IsInt64 z) → IsInt64 (unwrap_or (cond b (Some z) None) (pos 0))
+int-or true z h = h refl
+int-or false z h = omega arith
+
+int-by : (minus : Bool) (m n : ℕ) (am bm an bn : Bool)
+    → IsInt64 (unwrap_or (cond minus (cond (am && (bm && nat_lt m (2 ^ 63 + 1))) (Some (neg_ℤ (pos m))) None) (cond (an && (bn && nat_lt n (2 ^ 63))) (Some (pos n)) None)) (pos 0))
+int-by true m n am bm an bn = int-or (am && (bm && nat_lt m (2 ^ 63 + 1))) (neg_ℤ (pos m)) (λ e. int-minus m (last-true am bm _ e))
+int-by false m n am bm an bn = int-or (an && (bn && nat_lt n (2 ^ 63))) (pos n) (λ e. int-plain n (last-true an bn _ e))
+
+int-spelt : (f : List ℕ) → IsInt64 (unwrap_or (number_of f) (pos 0))
+int-spelt f =
+    int-by (starts_with_minus f) (digits_value 10 (drop 1 f)) (digits_value 10 f) (all_ascii_digits (drop 1 f)) (nat_lt 0 (length (drop 1 f))) (all_ascii_digits f) (nat_lt 0 (length f))
+
+-- a field that is not empty, and no longer than a text may be, is a value that a file can give
+given-value : (kind : ColType) (f : List ℕ) → is_empty f ≡ false → (not (is_int kind) && nat_lt 4096 (length f)) ≡ false → IsGiven (value_in kind f)
+given-value kinds.Int f full short = int-spelt f
+given-value kinds.Text f full short = (grind (arith, nat_tests), not-below 4096 (length f) short)
+
+given-cond : (kind : ColType) (f : List ℕ) (b : Bool) → is_empty f ≡ b → (not (is_int kind) && nat_lt 4096 (length f)) ≡ false → IsGiven (cond b null (value_in kind f))
+given-cond kind f true e short = tt
+given-cond kind f false e short = given-value kind f e short
+
+given-cell : (kind : ColType) (f : List ℕ) → (not (is_int kind) && nat_lt 4096 (length f)) ≡ false → IsGiven (cell_in kind f)
+given-cell kind f short = given-cond kind f (is_empty f) refl short
+
 value-some : (kind : ColType) (f : List ℕ) → value_in kind f ≢ null
 value-some kinds.Int f e = cc e
 value-some kinds.Text f e = cc e
@@ -99,7 +143,7 @@ cell-some kind f e = rw e (value-some kind f)
 
 -- each record passes the tests of a rule's fields
 abbrev pub PassesAt : ℕ → List Rule → List Fields → Type 0
-PassesAt at ps rs = (i : ℕ) → i < length rs → any_from (fails tests.Value) at ps (get_or rs i []) ≡ false
+PassesAt at ps rs = (i : ℕ) → i < length rs → (any_from (fails tests.Value) at ps (get_or rs i []) ≡ false) × (any_from (fails tests.Length) at ps (get_or rs i []) ≡ false)
 
 obeys : (at : ℕ) (ps : List Rule) (rs : List Fields) → PassesAt at ps rs → EachObeys ps (columns_from at ps rs)
 obeys at [] rs h = tt
@@ -107,9 +151,10 @@ obeys at (p ∷ ps) rs h = (
   record {
     kind = refl;
     typed = all-map (λ r. cell_in p.kind (field r at)) (FitsType p.kind) [] rs (λ i lt. fits-cell p.kind (field (get_or rs i []) at));
-    needed = λ needs. all-map (λ r. cell_in p.kind (field r at)) (λ v. v ≢ null) [] rs (λ i lt. cell-some p.kind (field (get_or rs i []) at) (and-true (needs_value p.role) _ needs (or-none _ _ (h i lt)).0));
+    given = all-map (λ r. cell_in p.kind (field r at)) IsGiven [] rs (λ i lt. given-cell p.kind (field (get_or rs i []) at) (or-none _ _ (h i lt).1).0);
+    needed = λ needs. all-map (λ r. cell_in p.kind (field r at)) (λ v. v ≢ null) [] rs (λ i lt. cell-some p.kind (field (get_or rs i []) at) (and-true (needs_value p.role) _ needs (or-none _ _ (h i lt).0).0));
   },
-  obeys (at + 1) ps rs (λ i lt. (or-none _ _ (h i lt)).1),
+  obeys (at + 1) ps rs (λ i lt. ((or-none _ _ (h i lt).0).1, (or-none _ _ (h i lt).1).1)),
 )
 
 -- no key of the records before is that of a record
@@ -193,10 +238,26 @@ pairs-map f a xs h i j d lt lj same =
     let small : j < length xs = omega arith in
     h i j lt small (sym (get-map f xs i a d (omega arith)) ∙ same ∙ get-map f xs j a d small)
 
+-- there are no more good records than rows allowed
+good-few : (rules : List Rule) (m : ℕ) (rs : List Fields) → first_fault rules m [] rs ≡ None → length rs ≤ m
+good-few rules m [] e = omega arith
+good-few rules m (r ∷ rs) e =
+    let j = length rs in
+    let p = good-at rules m (r ∷ rs) j e (omega arith) in
+    let n = length-take j (r ∷ rs) (omega arith) in
+    elim (leb_tells m (length (take j (r ∷ rs)))) [ inl x ↦ absurd (false≢true (sym p.room ∙ x.0)) | inr y ↦ (let lt = y.1 in omega (arith, n, lt)) ]
+
+few-rows : (m at : ℕ) (ps : List Rule) (rs : List Fields) → length rs ≤ m → All (λ c. length c.values ≤ m) (columns_from at ps rs)
+few-rows m at [] rs le = All-nil (λ (c : Filled). length c.values ≤ m)
+few-rows m at (p ∷ ps) rs le =
+    All-cons (λ (c : Filled). length c.values ≤ m) (record { kind = p.kind; values = map (λ r. cell_in p.kind (field r at)) rs }) (columns_from (at + 1) ps rs)
+    (let n = length-map (λ r. cell_in p.kind (field r at)) rs in omega (arith, n, le)) (few-rows m (at + 1) ps rs le)
+
 -- the columns of good records are a lawful table
-pub lawful : (rules : List Rule) (m : ℕ) (rs : List Fields) (columns : List Filled) → HasOneKey rules → first_fault rules m [] rs ≡ None → columns ≡ columns_of rules rs → IsLawful rules columns
+pub lawful : (rules : List Rule) (m : ℕ) (rs : List Fields) (columns : List Filled) → HasOneKey rules → first_fault rules m [] rs ≡ None → columns ≡ columns_of rules rs → IsLawful rules m columns
 lawful rules m rs columns one e is = rw is (record {
-  obeyed = obeys 0 rules rs (λ i lt. (good-at rules m rs i e lt).values);
+  obeyed = obeys 0 rules rs (λ i lt. let p = good-at rules m rs i e lt in (p.values, p.lengths));
+  few = few-rows m 0 rules rs (good-few rules m rs e);
   distinct = λ k p c at key got.
       let (int, place) = one k p at key in
       rw (column-at 0 k rules p rs c at got) (pairs-map (λ r. cell_in p.kind (field r (0 + k))) [] rs (keys-differ rules m rs k p e at key int place));

@@ -84,6 +84,6 @@ all-loaded t rules m records columns is h are =
     let clean = rw (rules-are t rules m is, limit-is t rules m is) at h.clean in
     rw (clean, ap (λ rs. columns_of rs records) (sym (rules-are t rules m is)), ← are) refl
 
-pub all-lawful : (t : TableIntake) (rules : List Rule) (m : ℕ) (records : List Fields) (columns : List Filled) → HasOneKey rules → subject_of t ≡ intake.table rules m → IsLoading t records → columns ≡ columns_of t.rules.items records → IsLawful rules columns
+pub all-lawful : (t : TableIntake) (rules : List Rule) (m : ℕ) (records : List Fields) (columns : List Filled) → HasOneKey rules → subject_of t ≡ intake.table rules m → IsLoading t records → columns ≡ columns_of t.rules.items records → IsLawful rules m columns
 all-lawful t rules m records columns one is h are =
     lawful rules m records columns one (rw (rules-are t rules m is, limit-is t rules m is) at h.clean) (are ∙ ap (λ rs. columns_of rs records) (rules-are t rules m is))

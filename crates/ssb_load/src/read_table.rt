@@ -56,7 +56,7 @@ pub fn load<R: Read + Drop>(
     requires { table < length catalog.now }
     ensures known { IfSome (R.remaining source) (λ bytes. Loads (rules_at catalog.now table) max_rows (records_of bytes) result) }
     ensures right { (bytes : List ℕ) × Loads (rules_at catalog.now table) max_rows (records_of bytes) result }
-    ensures lawful { IfOk result (λ t. IsLawful (rules_at catalog.now table) t) }
+    ensures lawful { IfOk result (λ t. IsLawful (rules_at catalog.now table) max_rows t) }
     ensures faults { IfErr result IsTableFault }
 {
     let mut source = In::new(source);
@@ -87,7 +87,7 @@ pub fn load_from<S: Source>(
     ensures short { IfErr result (λ e. IfRead e (IsCutShort (rules_at catalog.now table) max_rows (given_since (S.given source.old) (S.given source.new)))) }
     ensures whole { S.whole source.new ≡ S.whole source.old }
     ensures told { IfSome (S.whole source.old) (λ all. Loads (rules_at catalog.now table) max_rows (records_of (given_since (S.given source.old) all)) result) }
-    ensures lawful { IfOk result (λ t. IsLawful (rules_at catalog.now table) t) }
+    ensures lawful { IfOk result (λ t. IsLawful (rules_at catalog.now table) max_rows t) }
     ensures faults { IfErr result IsTableFault }
 {
     load_in_pieces(alloc, catalog, table, max_rows, source, PIECE_SIZE)
@@ -114,7 +114,7 @@ pub fn load_in_pieces<S: Source>(
     ensures short { IfErr result (λ e. IfRead e (IsCutShort (rules_at catalog.now table) max_rows (given_since (S.given source.old) (S.given source.new)))) }
     ensures whole { S.whole source.new ≡ S.whole source.old }
     ensures told { IfSome (S.whole source.old) (λ all. Loads (rules_at catalog.now table) max_rows (records_of (given_since (S.given source.old) all)) result) }
-    ensures lawful { IfOk result (λ t. IsLawful (rules_at catalog.now table) t) }
+    ensures lawful { IfOk result (λ t. IsLawful (rules_at catalog.now table) max_rows t) }
     ensures faults { IfErr result IsTableFault }
 {
     let Ok(rules) = rules_at(alloc, catalog, table) else {

@@ -1,5 +1,5 @@
 -- Good records give a lawful table.
-use Rattle.std.proofs.Common.{◌≡◌, ◌≢◌, ◌∙◌, ◌+◌, ◌<◌, ◌++◌, ◌||◌, ◌&&◌, ℕ, ℤ, zero, suc, Bool, true, false, cond, not, List, [], ◌∷◌, length, map, take, get_or, slice_get, Option, Some, None, refl, sym, ap, subst, arith, append_assoc}
+use Rattle.std.proofs.Common.{◌≡◌, ◌≢◌, ◌∙◌, ◌+◌, ◌<◌, ◌++◌, ◌||◌, ◌&&◌, ℕ, ℤ, zero, suc, Bool, true, false, cond, not, List, [], ◌∷◌, length, map, take, get_or, slice_get, Option, Some, None, inl, inr, refl, sym, ap, subst, arith, append_assoc}
 use Rattle.std.specs.Prelude.{All, AllPairs, is_none, nat_lt, unwrap_or, pos, neg_ℤ, drop, ◌^◌, ◌≤◌}
 use Rattle.std.specs.Str.{all_ascii_digits}
 use Rattle.std.specs.Str.Parse.{digits_value, starts_with_minus}

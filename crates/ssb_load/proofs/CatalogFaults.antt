@@ -1,5 +1,5 @@
 -- The first faulty record of a catalog.
-use Rattle.std.proofs.Common.{◌≡◌, ◌∙◌, ◌+◌, ◌++◌, ℕ, List, [], ◌∷◌, length, Option, Some, None, Result, Ok, Err, refl, append_assoc}
+use Rattle.std.proofs.Common.{◌≡◌, ◌+◌, ◌++◌, ℕ, List, [], ◌∷◌, length, Option, Some, None, Result, Ok, Err, refl, append_assoc}
 use Rattle.std.proofs.lemmas.List.{append-nil}
 use Rattle.ssb_load.specs.Records.{Fields}
 use Rattle.ssb_load.specs.Shapes.{TableShape}
@@ -7,7 +7,6 @@ use Rattle.ssb_load.specs.Catalog.{at_record, catalog_fault_of, catalog_of, fact
 use Rattle.ssb_load.specs.CatalogReading.{ReadsCatalog, told}
 use Rattle.ssb_load.specs.declared.fault.CatalogFault.{CatalogFault}
 use Rattle.ssb_load.specs.declared.fault.LoadFault.{LoadFault}
-use Rattle.ssb_load.specs.declared.fault.LoadFault.TheVariants as load
 
 later-none : (o : Option CatalogFault) (n : ℕ) (later : Option (CatalogFault × ℕ)) → at_record o n later ≡ None → (o ≡ None) × (later ≡ None)
 later-none None n later e = (refl, e)

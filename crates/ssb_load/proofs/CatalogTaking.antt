@@ -1,6 +1,6 @@
 -- One record more of a catalog on its way.
-use Rattle.std.proofs.Common.{◌≡◌, ◌∙◌, ◌+◌, ◌++◌, ℕ, List, [], ◌∷◌, length, Option, Some, None, Ok, Err, Result, IfErr, refl, sym, ap, subst, arith, length-append}
-use Rattle.ssb_load.specs.Catalog.{catalog_of, column_fault, column_in, fault_behind, first_catalog_fault, or_else, spelling_fault, table_in, tables_in}
+use Rattle.std.proofs.Common.{◌≡◌, ◌∙◌, ◌+◌, ◌++◌, ℕ, List, [], ◌∷◌, length, Option, Some, None, Ok, Err, Result, IfErr, refl, ap, arith, length-append}
+use Rattle.ssb_load.specs.Catalog.{column_fault, column_in, fault_behind, first_catalog_fault, or_else, spelling_fault, table_in, tables_in}
 use Rattle.ssb_load.specs.CatalogIntake.{IsDrafting}
 use Rattle.ssb_load.specs.CatalogReading.{IsCatalogCutShort, IsCatalogFault, IsGoodCatalogBefore, Refuses, RefusesCatalog, told, with_column}
 use Rattle.ssb_load.specs.Loading.{IfRead}
@@ -14,6 +14,7 @@ use Rattle.ssb_load.proofs.CatalogFaults.{fault-here, fault-more}
 use Rattle.ssb_load.proofs.DraftFacts.{count-more, draft-more}
 use Rattle.ssb_load.proofs.GroupFacts.{tables-push}
 use Rattle.ssb_load.proofs.LineRecords.{first-records}
+use Rattle.ssb_load.proofs.ShortNames.{short-names}
 
 or-none : (a b : Option CatalogFault) → or_else a b ≡ None → (a ≡ None) × (b ≡ None)
 or-none None b e = (refl, e)
@@ -30,7 +31,7 @@ drafts-more old now good f h none put counted =
       count = omega (arith, n, m, counted);
       clean = fault-more good f h.clean (rw (← h.tables_are) none);
       tables_are = put ∙ (rw h.tables_are (tables-push good f));
-      draft = rw put (draft-more old.tables.items (table_in f) (column_in f) h.draft fault.1);
+      draft = rw put (draft-more old.tables.items (table_in f) (column_in f) (short-names f fault.0) h.draft fault.1);
       columns = rw put (count-more old.tables.items (table_in f) (column_in f) ∙ (let k = h.columns in omega (arith, k, counted)));
     }
 

@@ -1,9 +1,9 @@
 -- What a piece is that is cut where it may be.
-use Rattle.std.proofs.Common.{◌≡◌, ◌++◌, ◌∙◌, ◌<◌, ◌≤◌, ℕ, zero, suc, true, false, List, [], ◌∷◌, ◌⊎◌, inl, inr, length, take, drop, nat_lt, refl, sym, ap, subst, arith, rules, length-append}
+use Rattle.std.proofs.Common.{◌≡◌, ◌++◌, ◌∙◌, ◌<◌, ◌≤◌, ℕ, zero, suc, true, false, List, [], ◌∷◌, inl, inr, length, take, drop, nat_lt, refl, sym, ap, subst, arith, rules, length-append}
 use Rattle.std.proofs.lemmas.Grind.{common_steps}
 use Rattle.std.proofs.lemmas.List.{length-take-le, drop_all}
 use Rattle.ssb_load.specs.Lines.{EndsInLf, IsPartOfLine}
-use Rattle.ssb_load.specs.Pieces.{Hands, IsCut, IsOver, IsBroken, IsPlace, handed, piece_of, rest_of}
+use Rattle.ssb_load.specs.Pieces.{Hands, IsCut, IsPlace, piece_of, rest_of}
 use Rattle.ssb_load.specs.declared.pieces.Pieces.{Pieces}
 
 pub front-none : (xs ys : List ℕ) → [] ≡ xs ++ ys → xs ≡ []

@@ -1,5 +1,5 @@
 -- Lines of a text.
-use Rattle.std.proofs.Common.{◌≡◌, ◌==◌, ◌<◌, ◌||◌, ℕ, zero, suc, Bool, true, false, List, [], ◌∷◌, length, get_or, refl, arith}
+use Rattle.std.proofs.Common.{◌≡◌, ◌==◌, ◌<◌, ◌||◌, ℕ, suc, Bool, true, false, List, [], ◌∷◌, length, get_or, refl, arith}
 use Rattle.std.specs.List.{list_any}
 
 or-none : (b : Bool) (a : Bool) → (b ≡ true → ⊥) → a ≡ false → (b || a) ≡ false

@@ -1,6 +1,5 @@
 -- The records of a text that is cut behind a line feed.
-use Rattle.std.proofs.Common.{◌≡◌, ◌≢◌, ◌++◌, ◌∙◌, ◌<◌, ℕ, List, [], ◌∷◌, ◌⊎◌, inl, inr, length, refl, sym, ap, subst, append_assoc}
-use Rattle.std.proofs.lemmas.List.{append-nil}
+use Rattle.std.proofs.Common.{◌≡◌, ◌++◌, ◌∙◌, ℕ, List, [], ◌∷◌, ◌⊎◌, inl, inr, refl, sym, ap, subst, append_assoc}
 use Rattle.ssb_load.specs.Lines.{AreLines, EndsInLf}
 use Rattle.ssb_load.specs.Records.{Fields, records_of}
 use Rattle.ssb_load.proofs.Blocks.{EndsLf, no-records, records-of-append}

@@ -1,5 +1,5 @@
 -- What stays while more is read.
-use Rattle.std.proofs.Common.{◌≡◌, ◌≤◌, ℕ, List, Option, length, true}
+use Rattle.std.proofs.Common.{◌≡◌, ℕ, List, Option, true}
 use Rattle.ssb_load.specs.Pieces.{Follows, handed, rest_of}
 use Rattle.ssb_load.specs.declared.pieces.Pieces.{Pieces}
 

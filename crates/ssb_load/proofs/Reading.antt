@@ -1,17 +1,13 @@
 -- A reader of records between bars: which records it has read, and what is left.
-use Rattle.std.proofs.Common.{◌≡◌, ◌∙◌, ◌+◌, ◌<◌, ◌++◌, ℕ, true, false, List, [], ◌∷◌, length, Option, Some, None, IfSome, refl, sym, arith, append_assoc}
+use Rattle.std.proofs.Common.{◌≡◌, ◌∙◌, ◌+◌, ◌<◌, ◌++◌, ℕ, true, false, List, [], ◌∷◌, length, Option, Some, None, IfSome, refl, arith, append_assoc}
 use Rattle.std.specs.Prelude.{option_map}
-use Rattle.std.proofs.lemmas.Bool.{false≢true}
 use Rattle.std.proofs.lemmas.List.{append-nil}
 use Rattle.csv.specs.Machine.{ends_at_end}
-use Rattle.csv.specs.Reading.{records_from, source_of, strip_bom, ExplainsRead, ReadRecord, Ready}
-use Rattle.csv.specs.declared.error.ErrorKind.{ErrorKind}
-use Rattle.csv.specs.declared.error.ErrorKind.TheVariants as kind
+use Rattle.csv.specs.Reading.{records_from, source_of, strip_bom, ReadRecord, Ready}
 use Rattle.csv.specs.declared.reader.Reader.{Reader}
 use Rattle.csv.specs.declared.reader.Trim.TheVariants as trim
 use Rattle.csv.specs.declared.parser.State.TheVariants as st
 use Rattle.ssb_load.specs.Records.{Fields, bar_config, records_of}
-use Rattle.ssb_load.specs.Loader.{IsIoOrMemory}
 use Rattle.ssb_load.proofs.Step.{read-more, read-none}
 
 -- the text begins with these records, and the reader has the rest of it
@@ -92,12 +88,3 @@ pub reading-begins : {R : Type 0} (rem : R → Option (List ℕ)) (known : Optio
 reading-begins rem known a good P inv p =
     some-map known (Left rem a good) (λ bytes. P (records_of bytes)) (λ (bytes : List ℕ) (l : Left rem a good bytes).
     rw l.records (p (records_from bar_config l.fuel a.state l.text))) inv.left
-
--- a flexible reader of bytes fails for the reader underneath or for memory alone
-pub explains : {R : Type 0} (rem : R → Option (List ℕ)) (a b : Reader R) (k : ErrorKind) → a.flexible ≡ true → ExplainsRead rem a b false k → IsIoOrMemory k
-explains rem a b (kind.Io e) flexible h = tt
-explains rem a b kind.OutOfMemory flexible h = tt
-explains rem a b (kind.UnequalLengths pos expected len) flexible h = absurd (false≢true (sym h.0 ∙ flexible))
-explains rem a b (kind.Utf8 pos err) flexible h = absurd (false≢true h.0)
-explains rem a b (kind.Serialize why) flexible h = h
-explains rem a b (kind.Deserialize pos err) flexible h = h

@@ -1,5 +1,5 @@
 -- A table on its way: a record that is refused, and what the end says.
-use Rattle.std.proofs.Common.{◌≡◌, ◌∙◌, ◌+◌, ◌++◌, ℕ, List, [], ◌∷◌, length, Some, None, Ok, Err, refl, sym, ap, subst, arith}
+use Rattle.std.proofs.Common.{◌≡◌, ◌∙◌, ◌++◌, ℕ, List, [], ◌∷◌, Ok, refl, sym, ap}
 use Rattle.ssb_cells.specs.Cell.{Filled}
 use Rattle.ssb_load.specs.Intake as intake
 use Rattle.ssb_load.specs.Lawful.{HasOneKey, IsLawful}
@@ -8,7 +8,6 @@ use Rattle.ssb_load.specs.Loading.{Fails, IfRead, IsCutShort, IsGoodBefore, IsTa
 use Rattle.ssb_load.specs.Records.{Fields, records_of}
 use Rattle.ssb_load.specs.Rules.{columns_of}
 use Rattle.ssb_load.specs.TableIntake.{IsLoading, subject_of}
-use Rattle.ssb_load.specs.Tables.{first_fault}
 use Rattle.ssb_load.specs.declared.fault.LoadFault.{LoadFault}
 use Rattle.ssb_load.specs.declared.fault.LoadFault.TheVariants as load
 use Rattle.ssb_load.specs.declared.rule.Rule.{Rule}

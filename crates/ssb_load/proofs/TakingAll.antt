@@ -1,5 +1,5 @@
 -- A source on its way, piece by piece.
-use Rattle.std.proofs.Common.{◌≡◌, ◌++◌, ◌∙◌, ◌+◌, ◌<◌, ◌≤◌, ℕ, Bool, true, false, List, [], ◌∷◌, ◌⊎◌, inl, inr, length, take, drop, refl, sym, ap, subst, arith, append_assoc, Option, None, Some, IfSome}
+use Rattle.std.proofs.Common.{◌≡◌, ◌++◌, ◌∙◌, ◌+◌, ◌<◌, ℕ, Bool, true, false, List, [], ◌⊎◌, inl, inr, length, take, drop, refl, sym, ap, subst, arith, append_assoc, Option, None, Some, IfSome}
 use Rattle.std.proofs.lemmas.Bool.{false≢true}
 use Rattle.std.proofs.Math.Seq.{drop-length}
 use Rattle.std.proofs.lemmas.List.{append-nil, drop_at, take-append-drop}

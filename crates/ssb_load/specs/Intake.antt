@@ -1,6 +1,6 @@
 -- What records are taken for, and what is wrong with them: a table under its rules, or a catalog.
 -- For the contracts inside this crate.
-use Rattle.std.specs.Prelude.{◌≡◌, ◌+◌, ◌++◌, ℕ, List, [], length, Option, None, Some, ⊤}
+use Rattle.std.specs.Prelude.{◌≡◌, ◌+◌, ◌++◌, ℕ, List, [], length, None, Some, ⊤}
 use Rattle.ssb_load.specs.Catalog.{first_catalog_fault}
 use Rattle.ssb_load.specs.Lines.{IsCutAtLf}
 use Rattle.ssb_load.specs.Records.{Fields, records_of}

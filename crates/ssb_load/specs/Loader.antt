@@ -6,8 +6,6 @@ use Rattle.ssb_cells.specs.Cell.{Cell, Filled}
 use Rattle.ssb_load.specs.Records.{Fields, field}
 use Rattle.ssb_load.specs.Rules.{cell_in, columns_of, has_key, fails}
 use Rattle.ssb_load.specs.Tables.{fault_by}
-use Rattle.csv.specs.declared.error.ErrorKind.{ErrorKind}
-use Rattle.csv.specs.declared.error.ErrorKind.TheVariants as kind
 use Rattle.ssb_load.specs.declared.rule.Rule.{Rule}
 use Rattle.ssb_load.specs.declared.rule.Test.TheVariants as tests
 use Rattle.ssb_load.specs.declared.fault.LoadFault.{LoadFault}
@@ -57,27 +55,3 @@ IsFaultBy rules max_rows count seen r (load.BadCatalog f n) = ⊥
 -- a field fails some test
 abbrev pub fails_some : Rule → List ℕ → Bool
 fails_some p f = fails tests.Number p f || (fails tests.Value p f || fails tests.Length p f)
-
--- the reader failed, or memory did
-abbrev pub IsIoOrMemory : ErrorKind → Type 0
-IsIoOrMemory (kind.Io e) = ⊤
-IsIoOrMemory kind.OutOfMemory = ⊤
-IsIoOrMemory (kind.UnequalLengths pos expected len) = ⊥
-IsIoOrMemory (kind.Utf8 pos err) = ⊥
-IsIoOrMemory (kind.Serialize why) = ⊥
-IsIoOrMemory (kind.Deserialize pos err) = ⊥
-
--- only a fault of the reader underneath is told as one
-abbrev pub fault_of_read : ℕ → ErrorKind → LoadFault
-fault_of_read n (kind.Io e) = load.Read n
-fault_of_read n kind.OutOfMemory = load.Memory
-fault_of_read n (kind.UnequalLengths pos expected len) = load.Memory
-fault_of_read n (kind.Utf8 pos err) = load.Memory
-fault_of_read n (kind.Serialize why) = load.Memory
-fault_of_read n (kind.Deserialize pos err) = load.Memory
-
-abbrev pub IsReadFault : ℕ → LoadFault → Type 0
-IsReadFault n (load.Read k) = k ≡ n
-IsReadFault n load.Memory = ⊤
-IsReadFault n (load.Record f k) = ⊥
-IsReadFault n (load.BadCatalog f k) = ⊥

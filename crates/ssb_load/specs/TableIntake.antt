@@ -1,6 +1,6 @@
 -- What a table on its way stands for.
 -- For the contracts inside this crate.
-use Rattle.std.specs.Prelude.{◌≡◌, ◌≤◌, ◌<◌, ◌^◌, ℕ, List, [], length, None}
+use Rattle.std.specs.Prelude.{◌≡◌, ◌≤◌, ◌<◌, ◌^◌, List, [], length, None}
 use Rattle.ssb_load.specs.Intake.{Subject, table}
 use Rattle.ssb_load.specs.Loader.{Holds}
 use Rattle.ssb_load.specs.Records.{Fields}

@@ -1,5 +1,5 @@
-use Rattle.std.proofs.Common.{◌≡◌, ◌++◌, ◌∙◌, ◌+◌, [], List, ℕ, Bool, refl, sym, ap, subst, inl, inr, true, false}
-use Rattle.ssb_load.specs.Intake.{AreGood, Refuses, Subject}
+use Rattle.std.proofs.Common.{◌++◌, ◌∙◌, ◌+◌, List, Bool, refl, sym, ap, subst, inl, inr}
+use Rattle.ssb_load.specs.Intake.{AreGood, Subject}
 use Rattle.ssb_load.specs.Pieces.{handed, piece_of, rest_of, Hands}
 use Rattle.ssb_load.specs.Records.{Fields, records_of}
 use Rattle.ssb_load.proofs.Blocks.{no-records}

@@ -1,4 +1,4 @@
-use Rattle.std.proofs.Common.{◌++◌, ℕ, List, Some}
+use Rattle.std.proofs.Common.{◌++◌, Some}
 use Rattle.ssb_load.proofs.Taking.{Takes, text_left}
 use Rattle.ssb_load.proofs.intake.take_text.Given as goal
 

@@ -1,4 +1,4 @@
-use Rattle.std.proofs.Common.{◌∙◌, sym, ap, subst}
+use Rattle.std.proofs.Common.{◌∙◌, ap, subst}
 use Rattle.ssb_load.specs.Intake.{table}
 use Rattle.ssb_load.specs.Lawful.{HasOneKey}
 use Rattle.ssb_load.proofs.TableTaking.{all-lawful, fails-given}

@@ -1,7 +1,7 @@
 use Rattle.std.proofs.Common.{ℕ}
 use Rattle.ssb_load.specs.Loading.{IfRead}
 use Rattle.ssb_load.specs.declared.fault.LoadFault.{LoadFault}
-use Rattle.ssb_load.proofs.CatalogTaking.{cut-short, err-map, read-none, tells-given}
+use Rattle.ssb_load.proofs.CatalogTaking.{err-map, read-none, tells-given}
 use Rattle.ssb_load.proofs.catalog.Catalog.read_in_pieces.Goals as goal
 
 pub returns-in-Ok-clause-broken : goal.returns-in-Ok-clause-broken

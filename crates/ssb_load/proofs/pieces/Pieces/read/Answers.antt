@@ -1,4 +1,4 @@
-use Rattle.std.proofs.Common.{◌≡◌, ◌-◌, ◌++◌, ◌∙◌, ◌<◌, ◌≤◌, sym, ap, take, true, false, drop, arith, length, length-append, length-drop, append_assoc}
+use Rattle.std.proofs.Common.{◌≡◌, ◌-◌, ◌++◌, ◌∙◌, ◌<◌, ◌≤◌, sym, ap, take, true, drop, arith, length, length-append, length-drop}
 use Rattle.std.proofs.lemmas.Bool.{false≢true}
 use Rattle.std.proofs.lemmas.List.{length-take, with_items_is}
 use Rattle.ssb_load.proofs.Cutting.{read-since, ended-more}

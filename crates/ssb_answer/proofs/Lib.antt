@@ -7,5 +7,4 @@ pub mod Loading
 pub mod Members
 pub mod Orders
 pub mod Probing
-pub mod Walks
 pub mod Written

@@ -1,7 +1,10 @@
 -- The tables of a catalog's files, or the first fault.
 -- Source: own. A file is a table of its catalog entry's columns, with at most 4,294,967,295 rows.
-use Rattle.std.specs.Prelude.{◌≡◌, ◌+◌, ◌∷◌, ℕ, List, [], Result, Ok, Err, ⊤, Vec}
+use Rattle.std.specs.Prelude.{◌≡◌, ◌+◌, ◌<◌, ◌++◌, ◌∷◌, ℕ, List, [], take, slice_get, slice_index, unwrap_or, Result, Ok, Err, ⊤, Vec}
 use Rattle.std.specs.declared.alloc.Global.{Global}
+use Rattle.ssb_load.specs.Giving.{given_since}
+use Rattle.ssb_load.specs.Lawful.{most_rows}
+use Rattle.ssb_load.specs.Loading.{IsCutShort, rules_at}
 use Rattle.ssb_load.specs.Records.{records_of}
 use Rattle.ssb_load.specs.Shapes.{TableShape, rules_of}
 use Rattle.ssb_load.specs.Tables.{table_of}
@@ -16,7 +19,7 @@ abbrev pub Bytes : Type 0
 Bytes = List ℕ
 
 abbrev pub file_table : TableShape → Bytes → Result Columns (RecordFault × ℕ)
-file_table shape bytes = table_of (rules_of shape) 4294967295 (records_of bytes)
+file_table shape bytes = table_of (rules_of shape) most_rows (records_of bytes)
 
 -- the table of this number before the later ones, or the first fault
 abbrev pub with_table : ℕ → Result Columns (RecordFault × ℕ) → Result (List Columns) RunFault → Result (List Columns) RunFault
@@ -65,3 +68,44 @@ told n load.Memory = run.Memory
 abbrev pub shown_tables : {E : Type 0} → Result (Vec Columns Global) E → Result (List Columns) E
 shown_tables (Ok v) = Ok v.items
 shown_tables (Err e) = Err e
+
+-- ---- of sources
+
+-- of the bytes of each source, those behind the ones that it had given before
+abbrev pub given_each : List Bytes → List Bytes → List Bytes
+given_each [] all = []
+given_each (b ∷ bs) [] = []
+given_each (b ∷ bs) (a ∷ later) = given_since b a ∷ given_each bs later
+
+-- each source has given what it had given before, and some bytes more
+abbrev pub GrewEach : List Bytes → List Bytes → Type 0
+GrewEach [] [] = ⊤
+GrewEach [] (a ∷ later) = ⊥
+GrewEach (b ∷ bs) [] = ⊥
+GrewEach (b ∷ bs) (a ∷ later) = (a ≡ b ++ given_since b a) × GrewEach bs later
+
+-- each count has risen
+abbrev pub RoseEach : List ℕ → List ℕ → Type 0
+RoseEach [] [] = ⊤
+RoseEach [] (n ∷ ns) = ⊥
+RoseEach (m ∷ ms) [] = ⊥
+RoseEach (m ∷ ms) (n ∷ ns) = (m < n) × RoseEach ms ns
+
+-- A read of the t-th source failed, which its count of failures shows: the files before it are tables, and up to its last line feed the t-th is n - 1
+-- records, all good.
+pub record FailedAt (catalog : List TableShape) (files : List Bytes) (failures_before failures_after : List ℕ) (t n : ℕ) : Type 0 where
+  pub tables : List Columns
+  pub loads : loaded (take t catalog) (take t files) ≡ Ok tables
+  pub rose : slice_index failures_before t < slice_index failures_after t
+  pub short : IsCutShort (rules_at catalog t) most_rows (unwrap_or (slice_get files t) []) n
+
+-- what holds of a read that failed: the number of its table and of the record on its way
+abbrev pub IfReadOf : RunFault → (ℕ → ℕ → Type 0) → Type 0
+IfReadOf (run.Load t (load.Record f n)) P = ⊤
+IfReadOf (run.Load t (load.BadCatalog f n)) P = ⊤
+IfReadOf (run.Load t (load.Read n)) P = P t n
+IfReadOf (run.Load t load.Memory) P = ⊤
+IfReadOf (run.Sql e) P = ⊤
+IfReadOf (run.Bind e) P = ⊤
+IfReadOf (run.Answer e) P = ⊤
+IfReadOf run.Memory P = ⊤

@@ -79,3 +79,12 @@ IsSilentBut failed silent (run.Load t f) = silent
 IsSilentBut failed silent (run.Sql e) = silent
 IsSilentBut failed silent (run.Bind e) = silent
 IsSilentBut failed silent run.Memory = silent
+
+-- what holds where all tables were loaded: an answer, and the faults of text, binding and answer, come only then
+abbrev pub IfLoaded : Result (Unit {0}) RunFault → Type 0 → Type 0
+IfLoaded (Ok u) P = P
+IfLoaded (Err (run.Load t f)) P = ⊤
+IfLoaded (Err (run.Sql e)) P = P
+IfLoaded (Err (run.Bind e)) P = P
+IfLoaded (Err (run.Answer e)) P = P
+IfLoaded (Err run.Memory) P = ⊤

@@ -4,7 +4,6 @@
 pub mod answer;
 pub mod fault;
 mod grouping;
-mod history;
 mod load_all;
 mod order;
 mod page;
@@ -25,6 +24,6 @@ pub use order::one_order;
 pub use rows_of::rows;
 pub use run_fault::RunFault;
 pub use sink::{Sink, SinkFault};
-pub use whole::run_plain;
+pub use whole::{run_from, run_in_pieces};
 pub use write::write_answer;
 pub use writer::Out;

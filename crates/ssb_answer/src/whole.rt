@@ -1,12 +1,12 @@
 // The whole path, from the bytes of files to the bytes of the answer.
 
-ghost use Rattle.std.specs.Prelude.{◌≡◌, ◌<◌, IfErr, List, OnOk, Some, length, map, vec_len};
+ghost use Rattle.std.specs.Prelude.{◌≡◌, ◌<◌, IfErr, List, OnOk, Some, length, map};
 ghost use Rattle.ssb_load.specs.Catalog.{IsCatalog};
 ghost use Rattle.ssb_bind.specs.Star.{IsStar};
 ghost use Rattle.ssb_job.specs.Loaded.{AreLawful};
 ghost use Rattle.ssb_answer.specs.Asking.{Asked, AnswersText, told_answer, told_bind, told_sql};
-ghost use Rattle.ssb_answer.specs.Loaded.{Bytes};
-ghost use Rattle.ssb_answer.specs.Reply.{IsSilentBut, Replies, seen_rows};
+ghost use Rattle.ssb_answer.specs.Loaded.{Bytes, FailedAt, GrewEach, IfReadOf, RoseEach, given_each};
+ghost use Rattle.ssb_answer.specs.Reply.{IfLoaded, IsSilentBut, Replies, seen_rows};
 ghost use Rattle.ssb_answer.specs.Result.{Answers};
 
 use crate::answer::Answer;
@@ -20,10 +20,9 @@ use crate::write::write_answer;
 use ssb_bind::{BindFault, Query, bind};
 use ssb_cells::Table;
 use ssb_job::Job;
-use ssb_load::Catalog;
+use ssb_load::{Catalog, Source};
 use ssb_sql::{SqlFault, read};
 use std::alloc::Global;
-use std::io::Read;
 
 fn sql_fault(fault: SqlFault) -> RunFault
     ensures { result ≡ told_sql fault }
@@ -120,28 +119,62 @@ fn answer_text(
     }
 }
 
-/// Answers a query over the tables of a catalog, each read from its reader in the catalog's order,
+/// How many bytes of a source are taken at once, where no line is longer.
+const PIECE_SIZE: usize = 262_144;
+
+/// Answers a query over the tables of a catalog, each of what its source gives, in the catalog's order,
 /// and writes the answer's rows. It loads all tables, reads the query, binds it, answers and writes;
 /// the first fault ends it, and nothing is written before the answer is complete.
 ///
 /// # Errors
 ///
-/// `Load` with the number of the table, from 0; `Sql`, `Bind` and `Answer` as the query has it;
-/// `Answer(Write)` only where the sink failed, and then what it took is a beginning of the answer;
-/// `Memory` where a growth was refused.
-pub fn run_plain<R: Read + Drop, W: Sink>(
+/// `Load` with the number of the table, from 0; `Sql`, `Bind` and `Answer` as the query has it; a
+/// `Load` with `Read` only where a read of that table's source failed, and `Answer(Write)` only where
+/// the sink failed, and then what it took is a beginning of the answer; `Memory` where a growth was
+/// refused.
+pub fn run_from<S: Source, W: Sink>(
     alloc: Global,
     catalog: Catalog,
-    readers: Vec<R>,
+    sources: &mut [S],
     text: &str,
     out: &mut W,
 ) -> Result<(), RunFault>
-    requires { vec_len readers ≡ length catalog }
-    ensures replies { (files : List Bytes) → map R.remaining readers.items ≡ map Some files → Replies catalog files text.now result (W.taken out.old) (W.taken out.new) }
+    requires { length sources.old ≡ length catalog }
+    ensures grows { GrewEach (map S.given sources.old) (map S.given sources.new) }
+    ensures replies { Replies catalog (given_each (map S.given sources.old) (map S.given sources.new)) text.now result (W.taken out.old) (W.taken out.new) }
+    ensures ended { IfLoaded result (RoseEach (map S.ends sources.old) (map S.ends sources.new)) }
+    ensures failed { IfErr result (λ e. IfReadOf e (FailedAt catalog (given_each (map S.given sources.old) (map S.given sources.new)) (map S.failures sources.old) (map S.failures sources.new))) }
+    ensures told { (files : List Bytes) → map S.whole sources.old ≡ map Some files → Replies catalog (given_each (map S.given sources.old) files) text.now result (W.taken out.old) (W.taken out.new) }
     ensures silent { IfErr result (IsSilentBut (W.failures out.old < W.failures out.new) (W.taken out.new ≡ W.taken out.old)) }
     ensures clean { OnOk result (W.failures out.new ≡ W.failures out.old) }
 {
-    let tables = match load_all(alloc, &catalog, readers) {
+    run_in_pieces(alloc, catalog, sources, text, out, PIECE_SIZE)
+}
+
+/// [`run_from`] with sources read in pieces of this many bytes, where no line is longer. The size
+/// changes no answer.
+///
+/// # Errors
+///
+/// As of [`run_from`].
+pub fn run_in_pieces<S: Source, W: Sink>(
+    alloc: Global,
+    catalog: Catalog,
+    sources: &mut [S],
+    text: &str,
+    out: &mut W,
+    piece_size: usize,
+) -> Result<(), RunFault>
+    requires { length sources.old ≡ length catalog }
+    ensures grows { GrewEach (map S.given sources.old) (map S.given sources.new) }
+    ensures replies { Replies catalog (given_each (map S.given sources.old) (map S.given sources.new)) text.now result (W.taken out.old) (W.taken out.new) }
+    ensures ended { IfLoaded result (RoseEach (map S.ends sources.old) (map S.ends sources.new)) }
+    ensures failed { IfErr result (λ e. IfReadOf e (FailedAt catalog (given_each (map S.given sources.old) (map S.given sources.new)) (map S.failures sources.old) (map S.failures sources.new))) }
+    ensures told { (files : List Bytes) → map S.whole sources.old ≡ map Some files → Replies catalog (given_each (map S.given sources.old) files) text.now result (W.taken out.old) (W.taken out.new) }
+    ensures silent { IfErr result (IsSilentBut (W.failures out.old < W.failures out.new) (W.taken out.new ≡ W.taken out.old)) }
+    ensures clean { OnOk result (W.failures out.new ≡ W.failures out.old) }
+{
+    let tables = match load_all(alloc, &catalog, sources, piece_size) {
         Ok(tables) => tables,
         Err(fault) => return Err(fault),
     };

@@ -2,7 +2,7 @@
 ghost use Rattle.std.specs.Prelude.{◌≡◌, [], length};
 ghost use Rattle.std.specs.Io.KnownBytes.{Appends};
 
-use crate::history::History;
+use ssb_load::History;
 use crate::sink::{Sink, SinkFault};
 use std::io::Write;
 use std::mem;

@@ -43,6 +43,10 @@ EachObeys (p ∷ ps) (c ∷ cs) = Obeys p c × EachObeys ps cs
 abbrev pub HasOneKey : List Rule → Type 0
 HasOneKey rules = (k : ℕ) (p : Rule) → slice_get rules k ≡ Some p → is_key p.role ≡ true → (p.kind ≡ kinds.Int) × (key_place rules ≡ Some k)
 
+-- how many rows a table has at most, as many as 32 bits count
+abbrev pub most_rows : ℕ
+most_rows = 4294967295
+
 -- each column obeys its rule, there are at most so many rows, and the values of a key are all different
 pub record IsLawful (rules : List Rule) (max_rows : ℕ) (columns : List Filled) : Type 0 where
   pub obeyed : EachObeys rules columns

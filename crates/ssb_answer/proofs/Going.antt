@@ -3,7 +3,7 @@ use Rattle.std.proofs.Common.{◌≡◌, ◌∙◌, ◌++◌, ◌∷◌, [], ℕ
 use Rattle.std.proofs.lemmas.List.{append-nil}
 use Rattle.std.specs.List.{join_with_byte}
 use Rattle.ssb_answer.specs.Taking.{IsBeginning, IsPut}
-use Rattle.ssb_answer.proofs.Written.{puts-more, puts-began, begins-more, puts-end, puts-end_began}
+use Rattle.ssb_answer.proofs.Written.{grew-none, grew-both, puts-more, puts-began, begins-more, puts-end, puts-end_began}
 use Rattle.ssb_answer.specs.Text.{barred, cell_text, line, text_of}
 use Rattle.ssb_answer.specs.Order.{Row}
 use Rattle.ssb_groups.specs.Keys.{cell_in}
@@ -17,16 +17,16 @@ pub record Going (old now : Desk) (text left : List ℕ) : Type 0 where
   pub puts : Puts old now done
 
 pub nothing-put : (d : Desk) → Puts d d []
-nothing-put d = record { put = record { gone = []; split = append-nil d.waits; taken = sym (append-nil d.taken) }; clean = refl }
+nothing-put d = record { put = record { gone = []; split = append-nil d.waits; taken = sym (append-nil d.taken) }; clean = refl; grew = grew-none d.taken d.contents }
 
 pub puts-both : (a b c : Desk) (x y : List ℕ) → Puts a b x → Puts b c y → Puts a c (x ++ y)
-puts-both a b c x y p q = record { put = puts-more a.taken b.taken c.taken a.waits x b.waits y c.waits p.put q.put; clean = q.clean ∙ p.clean }
+puts-both a b c x y p q = record { put = puts-more a.taken b.taken c.taken a.waits x b.waits y c.waits p.put q.put; clean = q.clean ∙ p.clean; grew = grew-both _ _ _ _ _ _ p.grew q.grew }
 
 pub puts-then-breaks : (a b c : Desk) (x y : List ℕ) → Puts a b x → Breaks b c y → Breaks a c (x ++ y)
-puts-then-breaks a b c x y p q = record { began = puts-began a.taken b.taken c.taken a.waits x b.waits y p.put q.began; failed = let e = p.clean in let h = q.failed in omega (arith, e, h) }
+puts-then-breaks a b c x y p q = record { began = puts-began a.taken b.taken c.taken a.waits x b.waits y p.put q.began; failed = let e = p.clean in let h = q.failed in omega (arith, e, h); grew = grew-both _ _ _ _ _ _ p.grew q.grew }
 
 pub breaks-front : (a c : Desk) (x y : List ℕ) → Breaks a c x → Breaks a c (x ++ y)
-breaks-front a c x y q = record { began = begins-more a.taken c.taken a.waits x y q.began; failed = q.failed }
+breaks-front a c x y q = record { began = begins-more a.taken c.taken a.waits x y q.began; failed = q.failed; grew = q.grew }
 
 pub going-start : (d : Desk) (text : List ℕ) → Going d d text text
 going-start d text = record { done = []; split = refl; puts = nothing-put d }

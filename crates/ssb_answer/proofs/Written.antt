@@ -1,9 +1,11 @@
 -- How far a write of a text has come.
-use Rattle.std.proofs.Common.{◌≡◌, ◌∙◌, ◌++◌, ◌<◌, ◌+◌, ◌≤◌, [], ℕ, List, length, take, drop, refl, sym, ap, arith, append_assoc, length-append, rules}
+use Rattle.std.proofs.Common.{◌≡◌, ◌∙◌, ◌++◌, ◌<◌, ◌+◌, ◌≤◌, [], ℕ, List, Option, length, take, drop, refl, sym, ap, subst, arith, append_assoc, length-append, rules}
 use Rattle.std.proofs.lemmas.List.{append-nil, take-append-drop, take-append-le}
 use Rattle.std.proofs.lemmas.Bool.Decides.{nat_tests}
 use Rattle.std.proofs.lemmas.Grind.{common_steps}
-use Rattle.ssb_answer.specs.Taking.{IsBeginning, IsPut, refusals}
+use Rattle.std.proofs.KnownBytes.{Appends-nil, Appends-trans}
+use Rattle.std.specs.Io.KnownBytes.{Appends}
+use Rattle.ssb_answer.specs.Taking.{GrewAlike, IsBeginning, IsPut, refusals}
 
 -- these bytes are taken, and those are left
 pub record Written (old new gone rest text : List ℕ) (failed_old failed_new : ℕ) : Type 0 where
@@ -20,6 +22,10 @@ written-more old now next gone rest text n f g h pos w e k = record {
   taken = e ∙ ap (λ t. t ++ take n rest) w.taken ∙ append_assoc old gone (take n rest);
   clean = let c = w.clean in grind (arith, nat_tests, k, c);
 }
+
+-- of what is left, as a slice of it
+pub written-slice : (old now next gone rest left text : List ℕ) (n f g h : ℕ) → 0 < n → Written old now gone rest text f g → next ≡ now ++ take n rest → h ≡ g + refusals n rest → left ≡ drop n rest → Written old next (gone ++ take n rest) left text f h
+written-slice old now next gone rest left text n f g h pos w e k s = subst (λ l. Written old next (gone ++ take n rest) l text f h) (sym s) (written-more old now next gone rest text n f g h pos w e k)
 
 pub written-all : (old now gone text : List ℕ) (f g : ℕ) → Written old now gone [] text f g → now ≡ old ++ text
 written-all old now gone text f g w = w.taken ∙ ap (λ t. old ++ t) (sym (append-nil gone) ∙ sym w.split)
@@ -83,4 +89,20 @@ puts-end_began a b c t q f g = record {
   taken = g.taken ∙ ap (λ u. u ++ g.gone) f.taken ∙ append_assoc a f.gone g.gone;
 }
 
-pub ruleset page_lemmas = (append_assoc, append-nil, begins-front, begins-back, puts-none, puts-front, puts-all)
+-- nothing taken, and nothing more held
+pub grew-none : (t : List ℕ) (c : Option (List ℕ)) → GrewAlike t t c c
+grew-none t c = record { gone = []; taken = sym (append-nil t); contents = Appends-nil c }
+
+-- one growth after another
+pub grew-both : (t u v : List ℕ) (a b c : Option (List ℕ)) → GrewAlike t u a b → GrewAlike u v b c → GrewAlike t v a c
+grew-both t u v a b c g h = record {
+  gone = g.gone ++ h.gone;
+  taken = h.taken ∙ ap (λ l. l ++ h.gone) g.taken ∙ append_assoc t g.gone h.gone;
+  contents = Appends-trans a b c g.gone h.gone g.contents h.contents;
+}
+
+-- a growth, and then a write
+pub grew-more : (t u v x : List ℕ) (a b c : Option (List ℕ)) → GrewAlike t u a b → v ≡ u ++ x → Appends b c x → GrewAlike t v a c
+grew-more t u v x a b c g e h = grew-both t u v a b c g (record { gone = x; taken = e; contents = h })
+
+pub ruleset page_lemmas = (append_assoc, append-nil, begins-front, begins-back, puts-none, puts-front, puts-all, grew-none, grew-both)

@@ -1,6 +1,7 @@
 -- What a write did.
 -- Source: own, in the terms of std's `Write`.
-use Rattle.std.specs.Prelude.{◌≡◌, ◌++◌, [], ℕ, List, length, take, Result, Ok, Err, ◌==◌, ◌&&◌, nat_lt, if◌then◌else◌}
+use Rattle.std.specs.Prelude.{◌≡◌, ◌++◌, [], ℕ, List, Option, length, take, Result, Ok, Err, ◌==◌, ◌&&◌, nat_lt, if◌then◌else◌}
+use Rattle.std.specs.Io.KnownBytes.{Appends}
 
 -- the bytes that it took
 abbrev pub taken_of : {E : Type 0} → Result ℕ E → List ℕ → List ℕ
@@ -28,3 +29,9 @@ pub record IsBeginning (old new text : List ℕ) : Type 0 where
   pub left : List ℕ
   pub split : text ≡ gone ++ left
   pub taken : new ≡ old ++ gone
+
+-- what a sink took, and what it holds where that is known, have grown by the same bytes
+pub record GrewAlike (taken_old taken_new : List ℕ) (contents_old contents_new : Option (List ℕ)) : Type 0 where
+  pub gone : List ℕ
+  pub taken : taken_new ≡ taken_old ++ gone
+  pub contents : Appends contents_old contents_new gone

@@ -1,26 +1,29 @@
 -- What a call that writes did, to a sink and to the page before it.
 -- For the contracts inside this crate.
-use Rattle.std.specs.Prelude.{◌≡◌, ◌<◌, ◌++◌, ℕ, List, Result, Ok, Err}
-use Rattle.ssb_answer.specs.Taking.{IsBeginning, IsPut}
+use Rattle.std.specs.Prelude.{◌≡◌, ◌<◌, ◌++◌, ℕ, List, Option, Result, Ok, Err}
+use Rattle.ssb_answer.specs.Taking.{GrewAlike, IsBeginning, IsPut}
 
--- the bytes taken, those that wait, and the count of failures
+-- the bytes taken, those that wait, the count of failures, and what the sink holds where that is known
 pub record Desk : Type 0 where
   pub taken : List ℕ
   pub waits : List ℕ
   pub failures : ℕ
+  pub contents : Option (List ℕ)
 
-abbrev pub desk : List ℕ → List ℕ → ℕ → Desk
-desk taken waits failures = record { taken = taken; waits = waits; failures = failures }
+abbrev pub desk : List ℕ → List ℕ → ℕ → Option (List ℕ) → Desk
+desk taken waits failures contents = record { taken = taken; waits = waits; failures = failures; contents = contents }
 
 -- the bytes were put behind those that waited, with no failure
 pub record Puts (old new : Desk) (bytes : List ℕ) : Type 0 where
   pub put : IsPut old.taken new.taken (old.waits ++ bytes) new.waits
   pub clean : new.failures ≡ old.failures
+  pub grew : GrewAlike old.taken new.taken old.contents new.contents
 
 -- a write failed, and what went out is a beginning of them
 pub record Breaks (old new : Desk) (bytes : List ℕ) : Type 0 where
   pub began : IsBeginning old.taken new.taken (old.waits ++ bytes)
   pub failed : old.failures < new.failures
+  pub grew : GrewAlike old.taken new.taken old.contents new.contents
 
 -- either
 abbrev pub Writes : {E : Type 0} → Result (Unit {0}) E → Desk → Desk → List ℕ → Type 0

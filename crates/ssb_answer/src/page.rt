@@ -1,6 +1,6 @@
 // Bytes kept together before they are written.
 ghost use Rattle.std.specs.Prelude.{◌≡◌, ◌≤◌, ◌+◌, ◌<◌, ◌++◌, [], length, OnOk, OnErr};
-ghost use Rattle.ssb_answer.specs.Taking.{IsBeginning, IsPut};
+ghost use Rattle.ssb_answer.specs.Taking.{GrewAlike, IsBeginning, IsPut};
 
 use crate::sink::{Sink, SinkFault, write_all};
 use std::marker::Model;
@@ -68,6 +68,7 @@ impl Page {
         ensures failed { OnErr result (W.failures out.old < W.failures out.new) }
         ensures began { OnErr result (IsBeginning (W.taken out.old) (W.taken out.new) self.old) }
         ensures kept { OnErr result (self.new ≡ self.old) }
+        ensures holds { GrewAlike (W.taken out.old) (W.taken out.new) (W.contents out.old) (W.contents out.new) }
     {
         write_all(out, self.as_slice())?;
         self.clear();
@@ -81,6 +82,7 @@ impl Page {
         ensures clean { OnOk result (W.failures out.new ≡ W.failures out.old) }
         ensures failed { OnErr result (W.failures out.old < W.failures out.new) }
         ensures began { OnErr result (IsBeginning (W.taken out.old) (W.taken out.new) (self.old ++ bytes.now)) }
+        ensures holds { GrewAlike (W.taken out.old) (W.taken out.new) (W.contents out.old) (W.contents out.new) }
     {
         if bytes.len() <= self.room() {
             self.keep(bytes);

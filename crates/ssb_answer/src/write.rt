@@ -1,7 +1,7 @@
 // Writing an answer.
 ghost use Rattle.std.specs.Prelude.{◌≡◌, ◌<◌, ◌++◌, ◌∷◌, [], IfErr, OnOk, OnErr, map};
 ghost use Rattle.std.specs.List.{join_with_byte};
-ghost use Rattle.ssb_answer.specs.Taking.{IsBeginning};
+ghost use Rattle.ssb_answer.specs.Taking.{GrewAlike, IsBeginning};
 ghost use Rattle.ssb_groups.specs.Keys.{cell_in};
 ghost use Rattle.ssb_answer.specs.Text.{cell_text, line, text_of, barred};
 ghost use Rattle.ssb_answer.specs.Writing.{Writes, desk};
@@ -15,7 +15,7 @@ use itoa::Buffer;
 use ssb_groups::OwnedValue;
 
 fn put<W: Sink>(page: &mut Page, out: &mut W, bytes: &[u8]) -> Result<(), SinkFault>
-    ensures { Writes result (desk (W.taken out.old) page.old (W.failures out.old)) (desk (W.taken out.new) page.new (W.failures out.new)) bytes.now }
+    ensures { Writes result (desk (W.taken out.old) page.old (W.failures out.old) (W.contents out.old)) (desk (W.taken out.new) page.new (W.failures out.new) (W.contents out.new)) bytes.now }
 {
     match page.put(out, bytes) {
         Ok(()) => Ok(()),
@@ -24,7 +24,7 @@ fn put<W: Sink>(page: &mut Page, out: &mut W, bytes: &[u8]) -> Result<(), SinkFa
 }
 
 fn put_field<W: Sink>(page: &mut Page, out: &mut W, field: &OwnedValue) -> Result<(), SinkFault>
-    ensures { Writes result (desk (W.taken out.old) page.old (W.failures out.old)) (desk (W.taken out.new) page.new (W.failures out.new)) (cell_text (cell_in field.now)) }
+    ensures { Writes result (desk (W.taken out.old) page.old (W.failures out.old) (W.contents out.old)) (desk (W.taken out.new) page.new (W.failures out.new) (W.contents out.new)) (cell_text (cell_in field.now)) }
 {
     let mut buffer = Buffer::new();
     put(page, out, shown(field, &mut buffer))
@@ -32,7 +32,7 @@ fn put_field<W: Sink>(page: &mut Page, out: &mut W, field: &OwnedValue) -> Resul
 
 // Each field behind a bar.
 fn put_barred<W: Sink>(page: &mut Page, out: &mut W, fields: &[OwnedValue]) -> Result<(), SinkFault>
-    ensures { Writes result (desk (W.taken out.old) page.old (W.failures out.old)) (desk (W.taken out.new) page.new (W.failures out.new)) (barred (map cell_text (map cell_in fields.now))) }
+    ensures { Writes result (desk (W.taken out.old) page.old (W.failures out.old) (W.contents out.old)) (desk (W.taken out.new) page.new (W.failures out.new) (W.contents out.new)) (barred (map cell_text (map cell_in fields.now))) }
 {
     let mut rest = fields;
     while let Some((field, fields)) = rest.split_first() {
@@ -49,7 +49,7 @@ fn put_barred<W: Sink>(page: &mut Page, out: &mut W, fields: &[OwnedValue]) -> R
 
 // Fields joined by bars.
 fn put_fields<W: Sink>(page: &mut Page, out: &mut W, fields: &[OwnedValue]) -> Result<(), SinkFault>
-    ensures { Writes result (desk (W.taken out.old) page.old (W.failures out.old)) (desk (W.taken out.new) page.new (W.failures out.new)) (join_with_byte 124 (map cell_text (map cell_in fields.now))) }
+    ensures { Writes result (desk (W.taken out.old) page.old (W.failures out.old) (W.contents out.old)) (desk (W.taken out.new) page.new (W.failures out.new) (W.contents out.new)) (join_with_byte 124 (map cell_text (map cell_in fields.now))) }
 {
     let Some((first, rest)) = fields.split_first() else {
         return Ok(());
@@ -61,7 +61,7 @@ fn put_fields<W: Sink>(page: &mut Page, out: &mut W, fields: &[OwnedValue]) -> R
 }
 
 fn put_row<W: Sink>(page: &mut Page, out: &mut W, fields: &[OwnedValue]) -> Result<(), SinkFault>
-    ensures { Writes result (desk (W.taken out.old) page.old (W.failures out.old)) (desk (W.taken out.new) page.new (W.failures out.new)) (line (map cell_in fields.now)) }
+    ensures { Writes result (desk (W.taken out.old) page.old (W.failures out.old) (W.contents out.old)) (desk (W.taken out.new) page.new (W.failures out.new) (W.contents out.new)) (line (map cell_in fields.now)) }
 {
     let Ok(()) = put_fields(page, out, fields) else {
         return Err(SinkFault);
@@ -70,13 +70,13 @@ fn put_row<W: Sink>(page: &mut Page, out: &mut W, fields: &[OwnedValue]) -> Resu
 }
 
 fn put_line<W: Sink>(page: &mut Page, out: &mut W, row: &AnswerRow) -> Result<(), SinkFault>
-    ensures { Writes result (desk (W.taken out.old) page.old (W.failures out.old)) (desk (W.taken out.new) page.new (W.failures out.new)) (line row.now) }
+    ensures { Writes result (desk (W.taken out.old) page.old (W.failures out.old) (W.contents out.old)) (desk (W.taken out.new) page.new (W.failures out.new) (W.contents out.new)) (line row.now) }
 {
     put_row(page, out, row.fields())
 }
 
 fn put_rows<W: Sink>(page: &mut Page, out: &mut W, rows: &[AnswerRow]) -> Result<(), SinkFault>
-    ensures { Writes result (desk (W.taken out.old) page.old (W.failures out.old)) (desk (W.taken out.new) page.new (W.failures out.new)) (text_of rows.now) }
+    ensures { Writes result (desk (W.taken out.old) page.old (W.failures out.old) (W.contents out.old)) (desk (W.taken out.new) page.new (W.failures out.new) (W.contents out.new)) (text_of rows.now) }
 {
     let mut rest = rows;
     while let Some((row, rows)) = rest.split_first() {
@@ -94,6 +94,7 @@ fn write_rows<W: Sink>(rows: &[AnswerRow], out: &mut W) -> Result<(), SinkFault>
     ensures clean { OnOk result (W.failures out.new ≡ W.failures out.old) }
     ensures failed { OnErr result (W.failures out.old < W.failures out.new) }
     ensures began { OnErr result (IsBeginning (W.taken out.old) (W.taken out.new) (text_of rows.now)) }
+    ensures holds { GrewAlike (W.taken out.old) (W.taken out.new) (W.contents out.old) (W.contents out.new) }
 {
     let mut page = Page::new();
     let Ok(()) = put_rows(&mut page, out, rows) else {
@@ -116,6 +117,7 @@ pub fn write_answer<W: Sink>(answer: &Answer, out: &mut W) -> Result<(), AnswerF
     ensures fault { IfErr result (λ e. e ≡ AnswerFault.Write) }
     ensures failed { OnErr result (W.failures out.old < W.failures out.new) }
     ensures began { OnErr result (IsBeginning (W.taken out.old) (W.taken out.new) (text_of answer.now)) }
+    ensures holds { GrewAlike (W.taken out.old) (W.taken out.new) (W.contents out.old) (W.contents out.new) }
 {
     match write_rows(answer.rows(), out) {
         Ok(()) => Ok(()),

@@ -2,8 +2,8 @@
 ghost use Rattle.std.specs.Prelude.{◌≡◌, [], length};
 ghost use Rattle.std.specs.Io.KnownBytes.{Appends};
 
-use ssb_load::History;
 use crate::sink::{Sink, SinkFault};
+use ssb_load::History;
 use std::io::Write;
 use std::mem;
 use std::snapshot::Snapshot;
@@ -25,6 +25,7 @@ impl<W: Write> Out<W> {
         ensures taken { result.taken.items ≡ [] }
         ensures failed { result.failed.items ≡ [] }
         ensures begun { result.begun.value ≡ writer }
+        ensures writer { result.writer ≡ writer }
     {
         let begun = Snapshot::of(&writer);
         Out {
@@ -53,6 +54,8 @@ impl<W: Write> Sink for Out<W> {
     ghost taken = { λ out. out.taken.items };
 
     ghost failures = { λ out. length out.failed.items };
+
+    ghost contents = { λ out. W.contents out.writer };
 
     fn write(&mut self, bytes: &[u8]) -> Result<usize, SinkFault> {
         match self.writer.write(bytes) {

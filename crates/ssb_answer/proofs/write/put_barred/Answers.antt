@@ -1,6 +1,9 @@
 use Rattle.std.proofs.Common.{◌∷◌, []}
-use Rattle.ssb_answer.proofs.Going.{field-on, going-more, going-breaks}
+use Rattle.ssb_answer.proofs.Going.{going-start, field-on, going-more, going-breaks}
 use Rattle.ssb_answer.proofs.write.put_barred.Goals as goal
+
+pub loop-field-init : goal.loop-field-init
+loop-field-init g c = going-start _ _
 
 pub returns-in_default-put : goal.returns-in_default-put
 returns-in_default-put g c =

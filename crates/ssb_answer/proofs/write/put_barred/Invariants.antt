@@ -7,7 +7,7 @@ use Rattle.ssb_answer.proofs.write.put_barred.Given as goal
 
 abbrev pub invariant-loop-field : goal.invariant-loop-field
 invariant-loop-field g l =
-    Going (desk (g.W.Sink.taken l.fn.out) l.fn.page (g.W.Sink.failures l.fn.out)) (desk (g.W.Sink.taken l.out) l.page (g.W.Sink.failures l.out))
+    Going (desk (g.W.Sink.taken l.fn.out) l.fn.page (g.W.Sink.failures l.fn.out) (g.W.Sink.contents l.fn.out)) (desk (g.W.Sink.taken l.out) l.page (g.W.Sink.failures l.out) (g.W.Sink.contents l.out))
     (barred (map cell_text (map cell_in l.fields))) (barred (map cell_text (map cell_in l.rest)))
 
 abbrev pub decreases-loop-field : goal.decreases-loop-field

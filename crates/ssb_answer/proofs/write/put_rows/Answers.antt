@@ -1,5 +1,8 @@
-use Rattle.ssb_answer.proofs.Going.{row-on, going-more, going-breaks}
+use Rattle.ssb_answer.proofs.Going.{going-start, row-on, going-more, going-breaks}
 use Rattle.ssb_answer.proofs.write.put_rows.Goals as goal
+
+pub loop-row-init : goal.loop-row-init
+loop-row-init g c = going-start _ _
 
 pub returns-in_default-put_line : goal.returns-in_default-put_line
 returns-in_default-put_line g c = going-breaks _ _ _ _ _ _ (row-on _ _ _ _ _ _ c.loop-row.invariant c.in-Some.ensures.cases.0) c.in_default-put_line.ensures

@@ -5,6 +5,7 @@ pub mod Going
 pub mod KnownLemmas
 pub mod Loading
 pub mod Members
+pub mod OneReply
 pub mod Orders
 pub mod Probing
 pub mod Written

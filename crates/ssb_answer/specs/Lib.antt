@@ -4,6 +4,7 @@ pub mod Loaded
 pub mod Order
 pub mod Reply
 pub mod Result
+pub mod Settled
 pub mod Taking
 pub mod Text
 pub mod Writing

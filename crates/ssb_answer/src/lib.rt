@@ -4,6 +4,7 @@
 pub mod answer;
 pub mod fault;
 mod grouping;
+mod law;
 mod load_all;
 mod order;
 mod page;
@@ -20,6 +21,7 @@ pub mod writer;
 pub use answer::{Answer, AnswerRow};
 pub use fault::AnswerFault;
 pub use grouping::group_all;
+pub use law::one_reply;
 pub use order::one_order;
 pub use rows_of::rows;
 pub use run_fault::RunFault;

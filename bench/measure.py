@@ -15,9 +15,10 @@ BENCH = CRATES / "ssb_bench" / "out" / "ssb_bench"
 
 
 class Run(NamedTuple):
-    """One run of a program: its seconds, its peak memory in bytes, and what it printed."""
+    """One run of a program: its seconds, those of processors, its peak memory in bytes, and what it printed."""
 
     seconds: float
+    processor: float
     peak: int
     output: str
 
@@ -39,7 +40,7 @@ def run(command):
     child.returncode = os.waitstatus_to_exitcode(status)
     if child.returncode != 0:
         raise SystemExit(f"{' '.join(map(str, command))}: ended with status {child.returncode}")
-    return Run(seconds, usage.ru_maxrss * 1024, output)
+    return Run(seconds, usage.ru_utime + usage.ru_stime, usage.ru_maxrss * 1024, output)
 
 
 def run_all(commands, times):

@@ -302,8 +302,6 @@ def judge(query):
     for tokens, _ in query.items:
         if len(tokens) == 1 and tokens[0] not in query.groups:
             raise Refused(f"{tokens[0]} is not grouped")
-    if len(set(query.groups)) < len(query.groups):
-        raise Refused("a group column twice")
     for key in query.order:
         if key.name not in query.names():
             raise Refused(f"no select column {key.name}")
@@ -424,13 +422,14 @@ def answer_or_none(base, query):
 
 
 def is_as_told(program, case, query, told):
-    """Whether a program answers a query as SQLite told, or refuses to bind it."""
+    """Whether a program answers a query as SQLite told, or refuses it: to read only what has no answer."""
     path = case.folder / "query.sql"
     path.write_text(query.whole_text(), encoding="utf-8")
     ended = subprocess.run(
         [program, "run", "--data", case.folder, "--query", path], capture_output=True, text=True, check=False
     )
-    if ended.returncode == 1 and ended.stderr.startswith("ssb: B"):
+    refusals = "ssb: B" if told is not None else ("ssb: B", "ssb: S1")
+    if ended.returncode == 1 and ended.stderr.startswith(refusals):
         return not ended.stdout
     return ended.returncode == 0 and ended.stdout == told
 

@@ -1,3 +1,4 @@
 pub mod Benchmark
 pub mod Checking
 pub mod Faults
+pub mod Files

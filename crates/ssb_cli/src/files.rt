@@ -3,7 +3,7 @@
 ghost use Rattle.std.specs.Prelude.{◌≡◌, ◌≤◌, ◌<◌, IfOk, IfErr, IsNone, IsOk, IsErrAnd, IsUtf8, length, vec_len, string_bytes};
 ghost use Rattle.ssb_load.specs.BuiltIn.{ssb_tables};
 ghost use Rattle.ssb_cli.specs.Faults.{IsOpenFault, IsQueryFault};
-ghost use Rattle.ssb_cli.specs.declared.files.TheConstants.{MAX_QUERY_BYTES};
+ghost use Rattle.ssb_cli.specs.Files.{longest_query};
 
 use crate::fault::{ProgramFault, RunFault, SqlFault};
 use ssb_load::Catalog;
@@ -70,9 +70,9 @@ fn query_fault(alloc: Global, fault: SqlFault) -> ProgramFault
 // The text that the bytes of a query are.
 fn text_of(alloc: Global, bytes: Vec<u8>) -> Result<String, ProgramFault>
     ensures text { IfOk result (λ text. string_bytes text ≡ bytes.items) }
-    ensures succeeds { IsUtf8 bytes.items → vec_len bytes ≤ MAX_QUERY_BYTES → IsOk result }
-    ensures too_long { MAX_QUERY_BYTES < vec_len bytes → IsErrAnd result (IsQueryFault SqlFault.TooLong) }
-    ensures no_text { vec_len bytes ≤ MAX_QUERY_BYTES → IfErr result (IsQueryFault SqlFault.Syntax) }
+    ensures succeeds { IsUtf8 bytes.items → vec_len bytes ≤ longest_query → IsOk result }
+    ensures too_long { longest_query < vec_len bytes → IsErrAnd result (IsQueryFault SqlFault.TooLong) }
+    ensures no_text { vec_len bytes ≤ longest_query → IfErr result (IsQueryFault SqlFault.Syntax) }
 {
     if bytes.len() > MAX_QUERY_BYTES {
         return Err(query_fault(alloc, SqlFault::TooLong));

@@ -2,7 +2,7 @@
 
 ghost use Rattle.std.specs.Prelude.{◌≡◌, IfOk, length, map};
 ghost use Rattle.std.specs.List.{range_with_len};
-ghost use Rattle.ssb_job.specs.Kept.{fact_rows, joined};
+ghost use Rattle.ssb_job.specs.Kept.{AreOneJob, fact_rows, joined};
 ghost use Rattle.ssb_groups.specs.Seen.{seen};
 ghost use Rattle.ssb_groups.specs.Stands.{Stands};
 ghost use Rattle.ssb_answer.specs.Result.{AreKeyed};
@@ -19,6 +19,7 @@ use std::alloc::{AllocError, Global};
 pub fn group_all(alloc: Global, job: &Job) -> Result<Groups, AllocError>
     ensures stands { IfOk result (λ g. Stands g (map (seen job.now) (joined job.now (range_with_len 0 (fact_rows job.now))))) }
     ensures keyed { IfOk result (λ g. AreKeyed job.now.query (map (seen job.now) (joined job.now (range_with_len 0 (fact_rows job.now))))) }
+    ensures job { IfOk result (λ g. AreOneJob g.job job.now) }
     ensures width { IfOk result (λ g. g.width ≡ length job.now.query.aggregates) }
 {
     let mut groups = Groups::empty(alloc, job);

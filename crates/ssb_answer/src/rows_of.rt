@@ -243,7 +243,8 @@ fn answer_of(alloc: Global, parts: &QueryParts, groups: &Groups) -> Result<Answe
     Ok(Answer::new(found))
 }
 
-/// The rows of a query's answer in order, of the groups over the rows that it keeps.
+/// The rows of a query's answer in order, of the groups over the rows that it keeps. The query is that
+/// of the groups' job.
 ///
 /// # Errors
 ///
@@ -251,8 +252,10 @@ fn answer_of(alloc: Global, parts: &QueryParts, groups: &Groups) -> Result<Answe
 /// else `SumOutOfRange` where the exact sum of a group leaves them; `Memory` where a growth was
 /// refused.
 pub fn rows(alloc: Global, groups: Groups, query: &Query) -> Result<Answer, AnswerFault>
-    requires { groups.width ≡ length query.now.aggregates }
+    requires { groups.job.query ≡ query.now }
     ensures { (R : List SeenRow) → Stands groups R → AreKeyed query.now R → Answers query.now R result }
 {
+    // A reminder to the prover that groups have as many aggregates as their job's query.
+    let _width = groups.width();
     answer_of(alloc, query.parts(), &groups)
 }

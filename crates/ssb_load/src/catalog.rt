@@ -35,7 +35,8 @@ impl Model for TableDef {
 /// Tables in the order of the catalog's records, seen as their list.
 ///
 /// There are 1 to 16 of them, with different names, and 1 to 64 columns in each, with different
-/// names. A table has at most one key, and it is `int`. One table has none: the fact table.
+/// names, each of at most 128 bytes. A table has at most one key, and it is `int`. One table has none:
+/// the fact table.
 #[derive(Drop)]
 pub struct Catalog {
     tables: Vec<TableDef>,

@@ -1,5 +1,5 @@
 -- Tables loaded one after another, each of what its source gives.
-use Rattle.std.proofs.Common.{◌≡◌, ◌∙◌, ◌++◌, ◌∷◌, [], ◌+◌, ◌<◌, ◌≤◌, zero, suc, get_or, take, drop, ℕ, List, length, map, Option, None, Some, Ok, Err, Result, refl, sym, ap, subst, arith, append_assoc, length-append, IfSome}
+use Rattle.std.proofs.Common.{◌≡◌, ◌∙◌, ◌++◌, ◌∷◌, [], ◌+◌, ◌<◌, ◌≤◌, zero, suc, get_or, take, drop, ℕ, List, length, map, Option, None, Some, Ok, Err, Result, refl, sym, ap, subst, arith, add-one, IfSome}
 use Rattle.std.specs.Prelude.{slice_get, slice_index, slice_set, unwrap_or, ⊤}
 use Rattle.std.proofs.Math.Seq.{drop-length}
 use Rattle.std.proofs.lemmas.List.{append-nil, take_all}
@@ -247,7 +247,7 @@ at (s ∷ ss) zero lt = record { shape = s; rest = ss; split = refl; rules = ref
 at (s ∷ ss) (suc k) lt =
     let a = at ss k (omega arith) in
     let n = a.long in
-    record { shape = a.shape; rest = a.rest; split = ap (λ t. s ∷ t) a.split; rules = a.rules; next = ap (λ t. s ∷ t) a.next; long = omega (arith, n) }
+    record { shape = a.shape; rest = a.rest; split = ap (λ t. s ∷ t) a.split; rules = a.rules; next = (rw (add-one (suc k)) (ap (λ t. s ∷ t) (rw (add-one k) at a.next))); long = omega (arith, n) }
 
 take-none : {A : Type 0} (xs : List A) → take 0 xs ≡ []
 take-none [] = refl
@@ -264,7 +264,7 @@ next-done m c k before now ts d after t lt long h here turn ended lawful =
     let gave : Gave m a.shape d after t = record { turn = subst (λ rules. Turn m rules d after (Ok t)) a.rules turn; ended = ended; lawful = subst (λ rules. IsLawful rules most_rows t) a.rules lawful } in
     let placed : Gave m a.shape (get_or now (length (take k c)) d) after t = rw (n, ← here) gave in
     let more = done-more m (take k c) a.shape before now ts d after t h (omega (arith, n, lt, long)) placed in
-    rw (a.next, ← n) more
+    subst (λ ss. Done m ss before (slice_set now k after) (ts ++ t ∷ [])) (sym a.next) (rw n at more)
 
 -- the fault of the run where a load failed
 pub stop-loads : {S : Type 0} (m : Members S) (c : List TableShape) (k : ℕ) (before now : List S) (ts : List Columns) (d after : S) (e : LoadFault) → k < length c → length before ≡ length c → Done m (take k c) before now ts

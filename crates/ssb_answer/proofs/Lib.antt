@@ -1,6 +1,7 @@
 pub mod Asking
 pub mod Bridge
 pub mod EntryFacts
+pub mod Fresh
 pub mod Going
 pub mod KnownLemmas
 pub mod Loading

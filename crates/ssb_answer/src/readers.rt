@@ -1,0 +1,49 @@
+// The whole path over readers of std.
+
+ghost use Rattle.std.specs.Prelude.{◌≡◌, ◌<◌, [], IfErr, IfOk, List, OnOk, Some, length, map, vec_len};
+ghost use Rattle.ssb_answer.specs.Loaded.{Bytes};
+ghost use Rattle.ssb_answer.specs.Reply.{IsSilentBut, Replies};
+
+use crate::run_fault::RunFault;
+use crate::sink::Sink;
+use crate::whole::run_from;
+use ssb_load::{Catalog, In, Source};
+use std::alloc::{AllocError, Global};
+use std::io::Read;
+
+// Each reader as a source that gave nothing yet.
+fn sources_of<R: Read + Drop>(alloc: Global, readers: Vec<R>) -> Result<Vec<In<R>>, AllocError>
+    ensures whole { IfOk result (λ sources. map ⟦<In<R> as Source>⟧.whole sources.items ≡ map R.remaining readers.items) }
+    ensures given { IfOk result (λ sources. map ⟦<In<R> as Source>⟧.given sources.items ≡ map (λ r. []) readers.items) }
+{
+    let mut sources = Vec::new(alloc);
+    for reader in readers {
+        sources.push(In::new(reader))?;
+    }
+    Ok(sources)
+}
+
+/// Answers a query over the tables of a catalog, each read from its reader in the catalog's order, and
+/// writes the answer's rows: [`run_from`] over the readers.
+///
+/// # Errors
+///
+/// As of [`run_from`].
+pub fn run_plain<R: Read + Drop, W: Sink>(
+    alloc: Global,
+    catalog: Catalog,
+    readers: Vec<R>,
+    text: &str,
+    out: &mut W,
+) -> Result<(), RunFault>
+    requires { vec_len readers ≡ length catalog }
+    ensures replies { (files : List Bytes) → map R.remaining readers.items ≡ map Some files → Replies catalog files text.now result (W.taken out.old) (W.taken out.new) }
+    ensures right { (files : List Bytes) × Replies catalog files text.now result (W.taken out.old) (W.taken out.new) }
+    ensures silent { IfErr result (IsSilentBut (W.failures out.old < W.failures out.new) (W.taken out.new ≡ W.taken out.old)) }
+    ensures clean { OnOk result (W.failures out.new ≡ W.failures out.old) }
+{
+    let Ok(mut sources) = sources_of(alloc, readers) else {
+        return Err(RunFault::Memory);
+    };
+    run_from(alloc, catalog, &mut sources, text, out)
+}

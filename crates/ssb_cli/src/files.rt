@@ -6,7 +6,7 @@ ghost use Rattle.ssb_cli.specs.Faults.{IsOpenFault, IsQueryFault};
 ghost use Rattle.ssb_cli.specs.Files.{longest_query};
 
 use crate::fault::{ProgramFault, RunFault, SqlFault};
-use ssb_load::Catalog;
+use ssb_load::{Catalog, In};
 use std::alloc::{AllocError, Global};
 use std::io::Read;
 use std::rt::Files;
@@ -108,22 +108,22 @@ fn path_of(alloc: Global, data: &str, table: &str) -> Result<String, AllocError>
     format!(in alloc; "{data}/{table}.tbl")
 }
 
-/// The files of the tables, in the catalog's order.
+/// The files of the tables as sources, in the catalog's order.
 pub fn open_all<R: Files + AllocGlobal>(
     rt: &R,
     data: &str,
     catalog: &Catalog,
-) -> Result<Vec<R::File>, ProgramFault>
-    ensures readers { IfOk result (λ readers. vec_len readers ≡ length catalog.now) }
+) -> Result<Vec<In<R::File>>, ProgramFault>
+    ensures sources { IfOk result (λ sources. vec_len sources ≡ length catalog.now) }
     ensures fault { IfErr result IsOpenFault }
 {
-    let mut readers = Vec::new(rt.alloc());
+    let mut sources = Vec::new(rt.alloc());
     for table in catalog.tables() {
         let path = path_of(rt.alloc(), data, table.name())?;
         let file = open(rt, path.as_str())?;
-        let Ok(()) = readers.push(file) else {
+        let Ok(()) = sources.push(In::new(file)) else {
             return Err(ProgramFault::Memory);
         };
     }
-    Ok(readers)
+    Ok(sources)
 }

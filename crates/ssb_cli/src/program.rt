@@ -8,7 +8,7 @@ use crate::fault::{AnswerFault, ProgramFault, RunFault};
 use crate::files::{catalog_of, names_of, open_all, read_query};
 use crate::report::{MEMORY_LINE, OUT_OF_MEMORY, program_line, program_status_of};
 use crate::words::{QuerySource, Task, WordsFault, task_of};
-use ssb_answer::{Out, run_plain};
+use ssb_answer::{Out, run_from};
 use std::alloc::{AllocError, Global};
 use std::io::{BufWriter, Write};
 use std::rt::{Env, Files};
@@ -39,12 +39,12 @@ fn run<R: Files + Print + AllocGlobal>(
     let catalog = catalog_of(rt, catalog)?;
     let text = text_of(rt, query)?;
     let names = names_of(rt.alloc(), &catalog)?;
-    let readers = open_all(rt, data, &catalog)?;
+    let mut sources = open_all(rt, data, &catalog)?;
     let Ok(writer) = BufWriter::new(rt.alloc(), io::writer(rt)) else {
         return Err(ProgramFault::Memory);
     };
     let mut out = Out::new(writer);
-    if let Err(fault) = run_plain(rt.alloc(), catalog, readers, text.as_str(), &mut out) {
+    if let Err(fault) = run_from(rt.alloc(), catalog, &mut sources, text.as_str(), &mut out) {
         return Err(ProgramFault::Run { names, fault });
     }
     match out.into_writer().flush() {

@@ -2,4 +2,4 @@ use Rattle.std.proofs.Common.{◌≡◌, vec_len}
 use Rattle.ssb_cli.proofs.files.open_all.Given as goal
 
 abbrev pub invariant-loop-table : goal.invariant-loop-table
-invariant-loop-table g l = vec_len l.readers ≡ l.table-index
+invariant-loop-table g l = vec_len l.sources ≡ l.table-index

@@ -3,6 +3,7 @@ pub mod Bridge
 pub mod EntryFacts
 pub mod Fresh
 pub mod Going
+pub mod InMemory
 pub mod KnownLemmas
 pub mod Loading
 pub mod Members

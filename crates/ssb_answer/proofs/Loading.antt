@@ -1,5 +1,5 @@
 -- Tables loaded one after another, each of what its source gives.
-use Rattle.std.proofs.Common.{◌≡◌, ◌∙◌, ◌++◌, ◌∷◌, [], ◌+◌, ◌<◌, ◌≤◌, zero, suc, get_or, take, drop, ℕ, List, length, map, Option, None, Some, Ok, Err, Result, refl, sym, ap, subst, arith, add-one, IfSome}
+use Rattle.std.proofs.Common.{◌≡◌, ◌∙◌, ◌++◌, ◌∷◌, [], ◌+◌, ◌<◌, ◌≤◌, zero, suc, get_or, take, ℕ, List, length, map, Option, None, Some, Ok, Err, Result, refl, sym, ap, subst, arith, add-one, IfSome}
 use Rattle.std.specs.Prelude.{slice_get, slice_index, slice_set, unwrap_or, ⊤}
 use Rattle.std.proofs.Math.Seq.{drop-length}
 use Rattle.std.proofs.lemmas.List.{append-nil, take_all}
@@ -14,8 +14,7 @@ use Rattle.ssb_load.specs.declared.fault.LoadFault.TheVariants as load
 use Rattle.ssb_load.specs.declared.rule.Rule.{Rule}
 use Rattle.ssb_job.specs.Kept.{Columns}
 use Rattle.ssb_job.specs.Loaded.{AreLawful}
-use Rattle.ssb_answer.specs.Loaded.{Bytes, FailedAt, GrewEach, IfReadOf, IsLoadFault, LoadsAll, RoseEach, file_table, given_each, told, loaded_from, loaded, with_table}
-use Rattle.ssb_answer.specs.declared.run_fault.RunFault.{RunFault}
+use Rattle.ssb_answer.specs.Loaded.{Bytes, FailedAt, GrewEach, IfReadOf, IsLoadFault, LoadsAll, RoseEach, file_table, given_each, told, loaded_from, loaded}
 use Rattle.ssb_answer.specs.declared.run_fault.RunFault.TheVariants as run
 
 -- what a source tells of itself

@@ -88,3 +88,17 @@ IfLoaded (Err (run.Sql e)) P = P
 IfLoaded (Err (run.Bind e)) P = P
 IfLoaded (Err (run.Answer e)) P = P
 IfLoaded (Err run.Memory) P = ⊤
+
+-- a fault of the files, of the text or of the data, or memory: no failed read or write
+abbrev pub IsOfContent : RunFault → Type 0
+IsOfContent (run.Load t (load.Record f n)) = ⊤
+IsOfContent (run.Load t (load.BadCatalog f n)) = ⊥
+IsOfContent (run.Load t (load.Read n)) = ⊥
+IsOfContent (run.Load t load.Memory) = ⊥
+IsOfContent (run.Sql e) = ⊤
+IsOfContent (run.Bind e) = ⊤
+IsOfContent (run.Answer (answer.RowOverflow n)) = ⊤
+IsOfContent (run.Answer answer.SumOutOfRange) = ⊤
+IsOfContent (run.Answer answer.Memory) = ⊥
+IsOfContent (run.Answer answer.Write) = ⊥
+IsOfContent run.Memory = ⊤

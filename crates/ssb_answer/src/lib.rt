@@ -2,6 +2,7 @@
 #![tactic(auto)]
 
 pub mod answer;
+mod bytes;
 pub mod fault;
 mod grouping;
 mod law;
@@ -20,6 +21,7 @@ mod write;
 pub mod writer;
 
 pub use answer::{Answer, AnswerRow};
+pub use bytes::answer_bytes;
 pub use fault::AnswerFault;
 pub use grouping::group_all;
 pub use law::one_reply;

@@ -3,6 +3,7 @@
 ghost use Rattle.std.specs.Prelude.{◌≡◌, ◌<◌, [], IfErr, IfOk, List, OnOk, Some, length, map, vec_len};
 ghost use Rattle.ssb_answer.specs.Loaded.{Bytes};
 ghost use Rattle.ssb_answer.specs.Reply.{IsSilentBut, Replies};
+ghost use Rattle.ssb_answer.specs.Taking.{GrewAlike};
 
 use crate::run_fault::RunFault;
 use crate::sink::Sink;
@@ -41,6 +42,7 @@ pub fn run_plain<R: Read + Drop, W: Sink>(
     ensures right { (files : List Bytes) × Replies catalog files text.now result (W.taken out.old) (W.taken out.new) }
     ensures silent { IfErr result (IsSilentBut (W.failures out.old < W.failures out.new) (W.taken out.new ≡ W.taken out.old)) }
     ensures clean { OnOk result (W.failures out.new ≡ W.failures out.old) }
+    ensures holds { GrewAlike (W.taken out.old) (W.taken out.new) (W.contents out.old) (W.contents out.new) }
 {
     let Ok(mut sources) = sources_of(alloc, readers) else {
         return Err(RunFault::Memory);

@@ -8,6 +8,7 @@ ghost use Rattle.ssb_answer.specs.Asking.{Asked, AnswersText, told_answer, told_
 ghost use Rattle.ssb_answer.specs.Loaded.{Bytes, FailedAt, GrewEach, IfReadOf, RoseEach, given_each};
 ghost use Rattle.ssb_answer.specs.Reply.{IfLoaded, IsSilentBut, Replies, seen_rows};
 ghost use Rattle.ssb_answer.specs.Result.{Answers};
+ghost use Rattle.ssb_answer.specs.Taking.{GrewAlike};
 
 use crate::answer::Answer;
 use crate::fault::AnswerFault;
@@ -147,6 +148,7 @@ pub fn run_from<S: Source, W: Sink>(
     ensures told { (files : List Bytes) → map S.whole sources.old ≡ map Some files → Replies catalog (given_each (map S.given sources.old) files) text.now result (W.taken out.old) (W.taken out.new) }
     ensures silent { IfErr result (IsSilentBut (W.failures out.old < W.failures out.new) (W.taken out.new ≡ W.taken out.old)) }
     ensures clean { OnOk result (W.failures out.new ≡ W.failures out.old) }
+    ensures holds { GrewAlike (W.taken out.old) (W.taken out.new) (W.contents out.old) (W.contents out.new) }
 {
     run_in_pieces(alloc, catalog, sources, text, out, PIECE_SIZE)
 }
@@ -173,6 +175,7 @@ pub fn run_in_pieces<S: Source, W: Sink>(
     ensures told { (files : List Bytes) → map S.whole sources.old ≡ map Some files → Replies catalog (given_each (map S.given sources.old) files) text.now result (W.taken out.old) (W.taken out.new) }
     ensures silent { IfErr result (IsSilentBut (W.failures out.old < W.failures out.new) (W.taken out.new ≡ W.taken out.old)) }
     ensures clean { OnOk result (W.failures out.new ≡ W.failures out.old) }
+    ensures holds { GrewAlike (W.taken out.old) (W.taken out.new) (W.contents out.old) (W.contents out.new) }
 {
     let tables = match load_all(alloc, &catalog, sources, piece_size) {
         Ok(tables) => tables,

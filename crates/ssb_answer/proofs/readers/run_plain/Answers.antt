@@ -1,4 +1,4 @@
-use Rattle.std.proofs.Common.{◌≡◌, ◌∙◌, [], List, ap, map, subst}
+use Rattle.std.proofs.Common.{◌≡◌, ◌∙◌, List, ap, map, subst}
 use Rattle.ssb_answer.specs.Loaded.{Bytes, given_each}
 use Rattle.ssb_answer.specs.Reply.{Replies}
 use Rattle.ssb_answer.proofs.Fresh.{fresh-each}

@@ -37,16 +37,18 @@ some old now n p c cut =
     let room = c.long in
     let e = ap length c.piece in
     let m = length-take-le (suc n) old.buffer.items (omega (arith, inside, room)) in
-    let long : 0 < length (piece_of now) = omega (arith, e, m) in
-    (long, elim cut [
-      | inl l ↦ inl (let P : List ℕ → Type 0 = EndsInLf in subst P (sym c.piece) l)
-      | inr (inl a) ↦ inr (record {
-        stopped = c.stopped ∙ a.0;
-        failed = c.failed ∙ a.1;
-        rest = c.rest ∙ drop_all (suc n) (take old.filled old.buffer.items) (let k = length-take-le old.filled old.buffer.items room in let is = a.2 in omega (arith, k, is));
-      })
-      | inr (inr b) ↦ absurd (let z = b.1 in omega (arith, z))
-    ])
+    let long : 0 < length (piece_of now) = omega (arith, e, m) in (
+      long,
+      elim cut [
+        | inl l ↦ inl (let P : List ℕ → Type 0 = EndsInLf in subst P (sym c.piece) l)
+        | inr (inl a) ↦ inr (record {
+          stopped = c.stopped ∙ a.0;
+          failed = c.failed ∙ a.1;
+          rest = c.rest ∙ drop_all (suc n) (take old.filled old.buffer.items) (let k = length-take-le old.filled old.buffer.items room in let is = a.2 in omega (arith, k, is));
+        })
+        | inr (inr b) ↦ absurd (let z = b.1 in omega (arith, z))
+      ],
+    )
 
 pub hands : {S : Type 0} (old now : Pieces S) (n : ℕ) → IsPlace n old → IsCutOff old now n → Hands (nat_lt 0 n) now
 hands old now zero p c = nothing old now p c p.cut

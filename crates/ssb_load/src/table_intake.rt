@@ -29,7 +29,11 @@ impl TableIntake {
     ghost use Rattle.ssb_load.specs.TableIntake.{IsLoading, subject_of};
 
     // Of no row yet.
-    pub(crate) fn new(alloc: Global, rules: Vec<Rule>, max_rows: u32) -> Result<TableIntake, AllocError>
+    pub(crate) fn new(
+        alloc: Global,
+        rules: Vec<Rule>,
+        max_rows: u32,
+    ) -> Result<TableIntake, AllocError>
         ensures subject { IfOk result (λ t. subject_of t ≡ table rules.items max_rows) }
         ensures stands { IfOk result (λ t. IsLoading t []) }
     {

@@ -2,6 +2,7 @@
 
 use crate::catalog::Catalog;
 use crate::fault::{CatalogFault, LoadFault};
+use crate::reader::In;
 use crate::rule::Role;
 use ssb_cells::ColType;
 use std::alloc::Global;
@@ -170,4 +171,79 @@ fn tells_where_the_reader_failed(rt: HostRuntime) -> Result<(), Fail> {
     let fault = Catalog::read(rt.alloc(), Failing { given: 0 }).err();
     assert_eq!(rt; fault, Some(LoadFault::Read(3)));
     Ok(())
+}
+
+// Whether a catalog's table of this number has this name and so many columns.
+fn is_table(catalog: &Catalog, number: usize, name: &str, columns: usize) -> bool {
+    match catalog.tables().get(number) {
+        Some(table) => table.name() == name && table.columns().len() == columns,
+        None => false,
+    }
+}
+
+// In pieces of 1 to 40 bytes. One growth may be refused, as `rt try --test --fail-alloc N` does.
+#[test]
+fn reads_the_small_catalog_in_pieces(rt: HostRuntime) {
+    let mut refused = 0usize;
+    for size in 1..41 {
+        let mut source = In::new(SMALL.as_bytes());
+        match Catalog::read_in_pieces(rt.alloc(), &mut source, size) {
+            Ok(catalog) => {
+                assert!(rt;
+                    is_table(&catalog, 0, "lineorder", 6),
+                    "in pieces of {size}"
+                );
+                assert!(rt; is_table(&catalog, 1, "date", 2), "in pieces of {size}");
+                assert!(rt; is_table(&catalog, 2, "supplier", 3), "in pieces of {size}");
+            }
+            Err(LoadFault::Memory) => refused = refused.saturating_add(1),
+            Err(fault) => assert!(rt; false, "{fault:?} in pieces of {size}"),
+        }
+    }
+    assert!(rt; refused <= 1, "{refused} times out of memory");
+}
+
+#[test]
+fn tells_the_same_record_in_pieces(rt: HostRuntime) {
+    let cases = [
+        // The third record's column stands in the first one, in upper case.
+        (
+            "\u{feff}f|a|int|null\r\nd|k|int|key\r\n\r\nF|A|text|key",
+            LoadFault::BadCatalog(CatalogFault::ColumnTwice, 3),
+        ),
+        // No record is faulty here, but each table has a key.
+        (
+            "d|k|int|key\n\ne|k|int|key\n",
+            LoadFault::BadCatalog(CatalogFault::NoFact, 0),
+        ),
+    ];
+    let mut refused = 0usize;
+    for (text, wanted) in cases {
+        for size in 1..41 {
+            let mut source = In::new(text.as_bytes());
+            let fault = Catalog::read_in_pieces(rt.alloc(), &mut source, size).err();
+            if let Some(LoadFault::Memory) = fault {
+                refused = refused.saturating_add(1);
+            } else {
+                assert_eq!(rt; fault, Some(wanted), "in pieces of {size}");
+            }
+        }
+    }
+    assert!(rt; refused <= 1, "{refused} times out of memory");
+}
+
+// Two whole lines came, and no end of the third.
+#[test]
+fn tells_where_the_reader_failed_in_pieces(rt: HostRuntime) {
+    let mut refused = 0usize;
+    for size in 1..41 {
+        let mut source = In::new(Failing { given: 0 });
+        let fault = Catalog::read_in_pieces(rt.alloc(), &mut source, size).err();
+        if let Some(LoadFault::Memory) = fault {
+            refused = refused.saturating_add(1);
+        } else {
+            assert_eq!(rt; fault, Some(LoadFault::Read(3)), "in pieces of {size}");
+        }
+    }
+    assert!(rt; refused <= 1, "{refused} times out of memory");
 }

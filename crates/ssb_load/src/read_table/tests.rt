@@ -2,7 +2,8 @@
 
 use crate::catalog::Catalog;
 use crate::fault::{LoadFault, RecordFault};
-use crate::read_table::load;
+use crate::read_table::{load, load_in_pieces};
+use crate::reader::In;
 use ssb_cells::{Table, Value};
 use std::alloc::Global;
 use std::io;
@@ -82,6 +83,54 @@ fn loads_seven_rows(rt: HostRuntime) -> Result<(), Fail> {
     assert!(rt; is_text(&table, 2, 0, "CHINA    1"));
     assert!(rt; is_text(&table, 2, 2, "é"));
     Ok(())
+}
+
+// The suppliers in pieces of this size.
+fn suppliers_in_pieces(alloc: Global, max_rows: u32, size: usize) -> Result<Table, LoadFault> {
+    let catalog = Catalog::read(alloc, CATALOG)?;
+    if catalog.tables().is_empty() {
+        return Err(LoadFault::Memory);
+    }
+    let mut source = In::new(Trickle {
+        rest: SUPPLIERS,
+        reads: usize::MAX,
+    });
+    load_in_pieces(alloc, &catalog, 0, max_rows, &mut source, size)
+}
+
+// In pieces of 1 to 40 bytes. One growth may be refused, as `rt try --test --fail-alloc N` does.
+#[test]
+fn loads_seven_rows_in_pieces(rt: HostRuntime) {
+    let mut refused = 0usize;
+    for size in 1..41 {
+        match suppliers_in_pieces(rt.alloc(), 7, size) {
+            Ok(table) => {
+                assert_eq!(rt; table.row_count(), 7);
+                assert!(rt; is_number(&table, 0, 1, -2), "in pieces of {size}");
+                assert!(rt; is_text(&table, 2, 0, "CHINA    1"), "in pieces of {size}");
+                assert!(rt; is_text(&table, 2, 2, "é"), "in pieces of {size}");
+                assert!(rt; is_text(&table, 2, 6, "B"), "in pieces of {size}");
+            }
+            Err(LoadFault::Memory) => refused = refused.saturating_add(1),
+            Err(fault) => assert!(rt; false, "{fault:?} in pieces of {size}"),
+        }
+    }
+    assert!(rt; refused <= 1, "{refused} times out of memory");
+}
+
+#[test]
+fn refuses_a_seventh_row_in_pieces(rt: HostRuntime) {
+    let mut refused = 0usize;
+    for size in 1..41 {
+        let fault = suppliers_in_pieces(rt.alloc(), 6, size).err();
+        if let Some(LoadFault::Memory) = fault {
+            refused = refused.saturating_add(1);
+        } else {
+            let wanted = LoadFault::Record(RecordFault::TooManyRows, 7);
+            assert_eq!(rt; fault, Some(wanted), "in pieces of {size}");
+        }
+    }
+    assert!(rt; refused <= 1, "{refused} times out of memory");
 }
 
 #[test]

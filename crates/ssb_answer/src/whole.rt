@@ -21,7 +21,7 @@ use crate::write::write_answer;
 use ssb_bind::{BindFault, Query, bind};
 use ssb_cells::Table;
 use ssb_job::Job;
-use ssb_load::{Catalog, Source};
+use ssb_load::{Catalog, PIECE_SIZE, Source};
 use ssb_sql::{SqlFault, read};
 use std::alloc::Global;
 
@@ -119,9 +119,6 @@ fn answer_text(
         Err(fault) => Err(answer_fault(fault)),
     }
 }
-
-/// How many bytes of a source are taken at once, where no line is longer.
-const PIECE_SIZE: usize = 262_144;
 
 /// Answers a query over the tables of a catalog, each of what its source gives, in the catalog's order,
 /// and writes the answer's rows. It loads all tables, reads the query, binds it, answers and writes;

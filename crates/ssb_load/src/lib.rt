@@ -31,7 +31,7 @@ mod value;
 pub use catalog::{Catalog, ColumnDef, TableDef};
 pub use fault::{CatalogFault, LoadFault, RecordFault};
 pub use history::History;
-pub use read_table::{load, load_from, load_in_pieces};
+pub use read_table::{PIECE_SIZE, load, load_from, load_in_pieces};
 pub use reader::In;
 pub use rule::{Role, Rule};
 pub use source::{Source, SourceFault};

@@ -18,7 +18,7 @@ use std::alloc::Global;
 use std::io::Read;
 
 /// How many bytes of a source are taken at once, where no line is longer.
-pub(crate) const PIECE_SIZE: usize = 262_144;
+pub const PIECE_SIZE: usize = 262_144;
 
 // What these columns take.
 fn rules_of(alloc: Global, columns: &[ColumnDef]) -> Result<Vec<Rule>, Memory>

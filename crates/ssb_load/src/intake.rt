@@ -16,6 +16,7 @@ use std::io::Read;
 
 // What takes records one by one: a table on its way, or a catalog.
 pub(crate) trait Intake {
+    // What the records are taken for.
     ghost subject: { Self → Subject };
 
     // It took these records, and they are good.
@@ -34,6 +35,7 @@ pub(crate) trait Intake {
         ensures count { (good : List Fields) → stands self.now good → result ≡ length good }
         ensures room { result + 1 < 2 ^ 64 };
 
+    // What it took is good.
     ghost good: { (t : Self) (records : List Fields) → stands t records → AreGood (subject t) records };
 }
 
@@ -60,12 +62,14 @@ fn take_text<T: Intake>(
         match reader.read_byte_record(row) {
             Ok(true) => {}
             Ok(false) => return Ok(()),
+            // A slice has no read that fails, so this is memory.
             Err(_) => return Err(LoadFault::Memory),
         }
         if let Err(fault) = intake.take(row) {
             return Err(fault);
         }
     }
+    // No text has as many records.
     Err(LoadFault::Memory)
 }
 
@@ -102,7 +106,9 @@ pub(crate) fn take_all<S: Source, T: Intake>(
         if let Err(fault) = take_text(alloc, before, pieces.piece(), &mut row, intake) {
             return Err(fault);
         }
+        // An empty line is no record, and `csv` looks for a byte order mark at the head alone.
         before = b"\n";
     }
+    // No source gives as many pieces.
     Err(LoadFault::Memory)
 }

@@ -2,7 +2,7 @@
 use Rattle.std.proofs.Common.{◌≡◌, ◌∙◌, ◌+◌, ◌++◌, ℕ, List, [], ◌∷◌, length, Option, Some, None, Ok, Err, Result, IfErr, refl, ap, arith, length-append}
 use Rattle.ssb_load.specs.Catalog.{column_fault, column_in, fault_behind, first_catalog_fault, or_else, spelling_fault, table_in, tables_in}
 use Rattle.ssb_load.specs.CatalogIntake.{IsDrafting}
-use Rattle.ssb_load.specs.CatalogReading.{IsCatalogCutShort, IsCatalogFault, IsGoodCatalogBefore, Refuses, RefusesCatalog, told, with_column}
+use Rattle.ssb_load.specs.CatalogReading.{IsCatalogCutShort, IsGoodCatalogBefore, Refuses, RefusesCatalog, told, with_column}
 use Rattle.ssb_load.specs.Loading.{IfRead}
 use Rattle.ssb_load.specs.Intake as intake
 use Rattle.ssb_load.specs.Records.{Fields, records_of}
@@ -57,24 +57,11 @@ tells-given bytes (load.Read n) h = good-lines bytes n h
 tells-given bytes load.Memory h = tt
 tells-given bytes (load.Record f n) h = absurd h
 
--- and of all bytes
-pub tells-all : (bytes : List ℕ) (e : LoadFault) → intake.StopsIn intake.catalog bytes e → RefusesCatalog (records_of bytes) e
-tells-all bytes (load.BadCatalog f n) h = rw h refl
-tells-all bytes (load.Read n) h = h
-tells-all bytes load.Memory h = tt
-tells-all bytes (load.Record f n) h = absurd h
-
 pub cut-short : (bytes : List ℕ) (e : LoadFault) → intake.StopsBy intake.catalog bytes e → IfRead e (IsCatalogCutShort bytes)
 cut-short bytes (load.BadCatalog f n) h = tt
 cut-short bytes (load.Read n) h = record { lines = h.lines; rest = h.rest; cut = h.cut; good = h.good; number = h.number }
 cut-short bytes load.Memory h = tt
 cut-short bytes (load.Record f n) h = tt
-
-pub catalog-kind : (bytes : List ℕ) (e : LoadFault) → intake.StopsBy intake.catalog bytes e → IsCatalogFault e
-catalog-kind bytes (load.BadCatalog f n) h = tt
-catalog-kind bytes (load.Read n) h = tt
-catalog-kind bytes load.Memory h = tt
-catalog-kind bytes (load.Record f n) h = absurd h
 
 -- the whole is judged by no read
 pub told-reads : {A : Type 0} (r : Result A (CatalogFault × ℕ)) → IfErr (told r) (λ e. IfRead e (λ n. ⊥))

@@ -4,7 +4,6 @@ use Rattle.std.proofs.Math.Seq.{take-add}
 use Rattle.std.proofs.lemmas.List.{set_at, drop_more, get_or-append_right, get_or-drop, take_at, drop_at, take-append-le, take-append-drop, take-take, take_more, length-take-le}
 use Rattle.std.proofs.lemmas.Grind.{common_steps}
 use Rattle.ssb_load.specs.Giving.{ends_at}
-use Rattle.ssb_load.specs.Lines.{EndsInLf}
 
 pub slid-more : (b s : List ℕ) (i from : ℕ) → from + i < length s → b ≡ take i (drop from s) ++ drop i s
     → slice_set b i (slice_index b (from + i)) ≡ take (i + 1) (drop from s) ++ drop (i + 1) s
@@ -41,11 +40,6 @@ read-on b room post now done given later c f n z inside fits told more is =
 
 pub cut-at : (b : List ℕ) (c end f : ℕ) → c ≡ 0 → end ≤ f → drop c (take f b) ≡ take end b ++ drop end (take f b)
 cut-at b c end f z l = rw z (sym (take-append-drop end (take f b)) ∙ ap (λ w. w ++ drop end (take f b)) (take-take end f b l))
-
-pub ends-here : (b : List ℕ) (k : ℕ) → k < length b → (slice_index b k == 10) ≡ true → EndsInLf (take (k + 1) b)
-ends-here b k h e =
-    let is : slice_index b k ≡ 10 = grind arith in
-    record { front = take k b; split = take_more b k 0 h ∙ ap (λ x. take k b ++ x ∷ []) is }
 
 -- the same of what was given since some bytes
 pub read-since : (b room post now base done given later : List ℕ) (c f n : ℕ) → c ≡ 0 → f ≤ length b → n ≤ length room → given ≡ base ++ (done ++ drop c (take f b)) → later ≡ given ++ take n room

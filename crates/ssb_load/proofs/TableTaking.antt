@@ -1,10 +1,10 @@
 -- A table on its way: a record that is refused, and what the end says.
-use Rattle.std.proofs.Common.{◌≡◌, ◌∙◌, ◌++◌, ℕ, List, [], ◌∷◌, Ok, refl, sym, ap}
+use Rattle.std.proofs.Common.{◌≡◌, ◌∙◌, ◌++◌, ℕ, List, [], ◌∷◌, refl, sym, ap}
 use Rattle.ssb_cells.specs.Cell.{Filled}
 use Rattle.ssb_load.specs.Intake as intake
 use Rattle.ssb_load.specs.Lawful.{HasOneKey, IsLawful}
 use Rattle.ssb_load.specs.Loader.{IsFaultBy}
-use Rattle.ssb_load.specs.Loading.{Fails, IfRead, IsCutShort, IsGoodBefore, IsTableFault, Loads}
+use Rattle.ssb_load.specs.Loading.{Fails, IfRead, IsCutShort, IsGoodBefore}
 use Rattle.ssb_load.specs.Records.{Fields, records_of}
 use Rattle.ssb_load.specs.Rules.{columns_of}
 use Rattle.ssb_load.specs.TableIntake.{IsLoading, subject_of}
@@ -56,13 +56,6 @@ fails-given s rules m bytes (load.BadCatalog f n) is h = let k : intake.StopsBy 
 fails-given s rules m bytes (load.Read n) is h = good-lines rules m bytes n (rw is at h)
 fails-given s rules m bytes load.Memory is h = tt
 
--- and of all bytes
-pub fails-all : (s : intake.Subject) (rules : List Rule) (m : ℕ) (bytes : List ℕ) (e : LoadFault) → s ≡ intake.table rules m → intake.StopsIn s bytes e → Fails rules m (records_of bytes) e
-fails-all s rules m bytes (load.Record f n) is h = let k : intake.StopsIn (intake.table rules m) bytes (load.Record f n) = rw is at h in rw k refl
-fails-all s rules m bytes (load.BadCatalog f n) is h = let k : intake.StopsIn (intake.table rules m) bytes (load.BadCatalog f n) = rw is at h in absurd k
-fails-all s rules m bytes (load.Read n) is h = rw is at h
-fails-all s rules m bytes load.Memory is h = tt
-
 pub cut-short : (s : intake.Subject) (rules : List Rule) (m : ℕ) (bytes : List ℕ) (e : LoadFault) → s ≡ intake.table rules m → intake.StopsBy s bytes e → IfRead e (IsCutShort rules m bytes)
 cut-short s rules m bytes (load.Record f n) is h = tt
 cut-short s rules m bytes (load.BadCatalog f n) is h = tt
@@ -70,18 +63,6 @@ cut-short s rules m bytes (load.Read n) is h =
     let k : intake.StopsAt (intake.table rules m) bytes n = rw is at h in
     record { lines = k.lines; rest = k.rest; cut = k.cut; good = k.good; number = k.number }
 cut-short s rules m bytes load.Memory is h = tt
-
-pub table-kind : (s : intake.Subject) (rules : List Rule) (m : ℕ) (bytes : List ℕ) (e : LoadFault) → s ≡ intake.table rules m → intake.StopsBy s bytes e → IsTableFault e
-table-kind s rules m bytes (load.Record f n) is h = tt
-table-kind s rules m bytes (load.BadCatalog f n) is h = let k : intake.StopsBy (intake.table rules m) bytes (load.BadCatalog f n) = rw is at h in absurd k
-table-kind s rules m bytes (load.Read n) is h = tt
-table-kind s rules m bytes load.Memory is h = tt
-
--- the end: all records are good, and these are their columns
-pub all-loaded : (t : TableIntake) (rules : List Rule) (m : ℕ) (records : List Fields) (columns : List Filled) → subject_of t ≡ intake.table rules m → IsLoading t records → columns ≡ columns_of t.rules.items records → Loads rules m records (Ok columns)
-all-loaded t rules m records columns is h are =
-    let clean = rw (rules-are t rules m is, limit-is t rules m is) at h.clean in
-    rw (clean, ap (λ rs. columns_of rs records) (sym (rules-are t rules m is)), ← are) refl
 
 pub all-lawful : (t : TableIntake) (rules : List Rule) (m : ℕ) (records : List Fields) (columns : List Filled) → HasOneKey rules → subject_of t ≡ intake.table rules m → IsLoading t records → columns ≡ columns_of t.rules.items records → IsLawful rules m columns
 all-lawful t rules m records columns one is h are =

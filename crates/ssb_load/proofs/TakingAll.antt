@@ -5,7 +5,6 @@ use Rattle.std.proofs.Math.Seq.{drop-length}
 use Rattle.std.proofs.lemmas.List.{append-nil, drop_at, take-append-drop}
 use Rattle.ssb_load.specs.Giving.{given_since}
 use Rattle.ssb_load.specs.Intake.{AreGood, AreGoodBefore, Refuses, StopsBy, StopsIn, StopsAt, Subject}
-use Rattle.ssb_load.specs.Loading.{IfRead}
 use Rattle.ssb_load.specs.Lines.{AreLines, EndsInLf, IsPartOfLine}
 use Rattle.ssb_load.specs.Pieces.{Follows, Hands, IsOver, IsBroken, handed, piece_of, rest_of}
 use Rattle.ssb_load.specs.Records.{Fields, records_of}
@@ -65,12 +64,6 @@ refused-in s (load.Record f n) bytes h = h
 refused-in s (load.BadCatalog f n) bytes h = h
 refused-in s (load.Read n) bytes h = absurd h
 refused-in s load.Memory bytes h = tt
-
-pub refused-reads : (s : Subject) (e : LoadFault) (records : List Fields) (P : ℕ → Type 0) → Refuses s records e → IfRead e P
-refused-reads s (load.Record f n) records P h = tt
-refused-reads s (load.BadCatalog f n) records P h = tt
-refused-reads s (load.Read n) records P h = absurd h
-refused-reads s load.Memory records P h = tt
 
 -- ---- all bytes, where they are told
 
@@ -135,10 +128,6 @@ broken-of : {S : Type 0} (q : Pieces S) → q.failed ≡ true → (IsOver q ⊎ 
 broken-of q failed (inl o) = absurd (clash failed o.failed)
 broken-of q failed (inr b) = b.rest
 
-pub over-of : {S : Type 0} (q : Pieces S) → q.failed ≡ false → (IsOver q ⊎ IsBroken q) → IsOver q
-over-of q whole (inl o) = o
-over-of q whole (inr b) = absurd (clash b.failed whole)
-
 same-front : (old piece done : List ℕ) → done ≡ old ++ piece → piece ≡ [] → done ≡ old
 same-front old piece done e none = e ∙ ap (λ t. old ++ t) none ∙ append-nil old
 
@@ -163,13 +152,6 @@ good-before s p q before base now all n lead failed same hands split told good n
     let f = first-records (handed p) (rest_of q ++ drop (length now) all) (lines-of p q before lead failed same) in
     let is = all-is base (handed q) (rest_of q) now all told front ∙ ap (λ t. t ++ (rest_of q ++ drop (length now) all)) (same-front (handed p) (piece_of q) (handed q) split hands.0) in
     (records_of (handed p), f.0, ap records_of is ∙ f.1, good, number)
-
--- ---- the end
-
-pub all-taken : {S : Type 0} (P : List ℕ → Type 0) (p q : Pieces S) (base now : List ℕ) → q.failed ≡ false → Hands false q → handed q ≡ handed p ++ piece_of q → now ≡ base ++ (handed q ++ rest_of q) → P (handed p) → P (given_since base now)
-all-taken P p q base now whole hands split told h =
-    let o = over-of q whole hands.1 in
-    subst P (sym (since-is base (handed q ++ rest_of q) now told ∙ ap (λ t. handed q ++ t) o.rest ∙ append-nil (handed q) ∙ same-front (handed p) (piece_of q) (handed q) split hands.0)) h
 
 -- ---- one piece more
 

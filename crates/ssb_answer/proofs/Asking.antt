@@ -7,10 +7,12 @@ use Rattle.ssb_sql.specs.declared.fault.SqlFault.TheVariants as sql
 use Rattle.ssb_bind.specs.Star.{IsStar}
 use Rattle.ssb_bind.specs.declared.query.QueryParts.{QueryParts}
 use Rattle.ssb_job.specs.Kept.{Columns, JobShape}
-use Rattle.ssb_job.specs.Loaded.{AreLawful, AreLoaded}
+use Rattle.ssb_load.specs.Files.{AreLawful}
+use Rattle.ssb_job.specs.Loaded.{AreLoaded}
 use Rattle.ssb_job.proofs.Loading.{query_loaded}
-use Rattle.ssb_answer.specs.Asking.{Asked, AnswersText, told_answer}
-use Rattle.ssb_answer.specs.Loaded.{Bytes}
+use Rattle.ssb_answer.specs.Asking.{Asked, AnswersText}
+use Rattle.ssb_answer.specs.Told.{told_answer}
+use Rattle.ssb_load.specs.Files.{Bytes}
 use Rattle.ssb_answer.specs.Order.{Row}
 use Rattle.ssb_answer.specs.Reply.{Asks, seen_rows}
 use Rattle.ssb_answer.specs.Result.{Answers}

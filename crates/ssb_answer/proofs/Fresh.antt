@@ -1,6 +1,6 @@
 -- Sources that gave nothing yet: what they give is all.
 use Rattle.std.proofs.Common.{◌≡◌, [], ◌∷◌, List, Option, Some, map, refl, ap}
-use Rattle.ssb_answer.specs.Loaded.{Bytes, given_each}
+use Rattle.ssb_load.specs.Files.{Bytes, given_each}
 
 pub fresh-each : {R : Type 0} (remaining : R → Option Bytes) (readers : List R) (files : List Bytes) → map remaining readers ≡ map Some files → given_each (map (λ r. []) readers) files ≡ files
 fresh-each remaining [] [] e = refl

@@ -5,7 +5,7 @@ pub mod Fresh
 pub mod Going
 pub mod InMemory
 pub mod KnownLemmas
-pub mod Loading
+pub mod Refusing
 pub mod Members
 pub mod OneReply
 pub mod Orders

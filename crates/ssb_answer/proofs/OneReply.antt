@@ -12,9 +12,9 @@ use Rattle.ssb_sql.proofs.SpellsFacts.{one-select}
 use Rattle.ssb_bind.specs.Faults.{Means, least_fault}
 use Rattle.ssb_bind.specs.declared.fault.BindFault.{BindFault}
 use Rattle.ssb_bind.specs.declared.query.QueryParts.{QueryParts}
-use Rattle.ssb_job.specs.Kept.{Columns}
 use Rattle.ssb_groups.specs.Rows.{SeenRow}
-use Rattle.ssb_answer.specs.Loaded.{Bytes, loaded}
+use Rattle.ssb_load.specs.Files.{Bytes, Columns, FirstFault, loaded}
+use Rattle.ssb_load.specs.declared.fault.RecordFault.{RecordFault}
 use Rattle.ssb_answer.specs.Order.{Row}
 use Rattle.ssb_answer.specs.Reply.{Replies, Asks, IsUnbound, AreTables, seen_rows}
 use Rattle.ssb_answer.specs.Result.{Answers, bag}
@@ -118,9 +118,9 @@ abbrev AfterReading : List TableShape → List Columns → Result Select SqlFaul
 AfterReading c tables (Ok s) o = (b : Result QueryParts BindFault) × Binding c s b × AfterBinding tables b o
 AfterReading c tables (Err f) o = o ≡ Err (run.Sql f)
 
-abbrev AfterLoading : List TableShape → Bytes → Result (List Columns) RunFault → Outcome → Type 0
+abbrev AfterLoading : List TableShape → Bytes → Result (List Columns) FirstFault → Outcome → Type 0
 AfterLoading c text (Ok tables) o = (r : Result Select SqlFault) × Reading text r × AfterReading c tables r o
-AfterLoading c text (Err f) o = o ≡ Err f
+AfterLoading c text (Err (t, f, n)) o = o ≡ Err (run.Load t (load.Record f n))
 
 one-after-binding : (tables : List Columns) (b : Result QueryParts BindFault) (o p : Outcome) → AfterBinding tables b o → AfterBinding tables b p → o ≡ p
 one-after-binding tables (Ok q) o p x y = x.2 ∙ ap told (one-answer q (seen_rows (record { query = q; tables = tables })) x.0 y.0 x.1 y.1) ∙ sym y.2
@@ -130,9 +130,9 @@ one-after-reading : (c : List TableShape) (tables : List Columns) (r : Result Se
 one-after-reading c tables (Ok s) o p x y = one-after-binding tables x.0 o p x.2 (subst (λ b. AfterBinding tables b p) (one-bound c s y.0 x.0 y.1 x.1) y.2)
 one-after-reading c tables (Err f) o p x y = x ∙ sym y
 
-one-after-loading : (c : List TableShape) (text : Bytes) (l : Result (List Columns) RunFault) (o p : Outcome) → AfterLoading c text l o → AfterLoading c text l p → o ≡ p
+one-after-loading : (c : List TableShape) (text : Bytes) (l : Result (List Columns) FirstFault) (o p : Outcome) → AfterLoading c text l o → AfterLoading c text l p → o ≡ p
 one-after-loading c text (Ok tables) o p x y = one-after-reading c tables x.0 o p x.2 (subst (λ r. AfterReading c tables r p) (one-read text y.0 x.0 y.1 x.1) y.2)
-one-after-loading c text (Err f) o p x y = x ∙ sym y
+one-after-loading c text (Err (t, f, n)) o p x y = x ∙ sym y
 
 -- ---- a settled reply has an outcome
 
@@ -157,13 +157,13 @@ from-reading c files text f t h = subst (λ l. AfterLoading c text l (Err (run.S
 from-binding : (c : List TableShape) (files : List Bytes) (text : Bytes) (f : BindFault) → AreTables c files → IsUnbound c text f → AfterLoading c text (loaded c files) (Err (run.Bind f))
 from-binding c files text f t h = subst (λ l. AfterLoading c text l (Err (run.Bind f))) (sym t.1) (Ok h.select, h.reads, (Err f, h.least, refl))
 
-from-loading : (c : List TableShape) (files : List Bytes) (text : Bytes) (f : RunFault) → loaded c files ≡ Err f → AfterLoading c text (loaded c files) (Err f)
-from-loading c files text f e = subst (λ l. AfterLoading c text l (Err f)) (sym e) refl
+from-loading : (c : List TableShape) (files : List Bytes) (text : Bytes) (t n : ℕ) (f : RecordFault) → loaded c files ≡ Err (t, f, n) → AfterLoading c text (loaded c files) (Err (run.Load t (load.Record f n)))
+from-loading c files text t n f e = subst (λ l. AfterLoading c text l (Err (run.Load t (load.Record f n)))) (sym e) refl
 
 runs-of : (c : List TableShape) (files : List Bytes) (text : Bytes) (r : Result (Unit {0}) RunFault) (old new : Bytes) → IsSettled r → Replies c files text r old new → Runs c files text r old new
 runs-of c files text (Ok u) old new s h =
     record { outcome = Ok h.0; runs = from-answer c files text h.1.tables h.1.query (Ok h.0) h.1.loads h.1.asks h.1.answers; shows = h.2 }
-runs-of c files text (Err (run.Load t (load.Record f n))) old new s h = record { outcome = Err (run.Load t (load.Record f n)); runs = from-loading c files text _ h; shows = refl }
+runs-of c files text (Err (run.Load t (load.Record f n))) old new s h = record { outcome = Err (run.Load t (load.Record f n)); runs = from-loading c files text t n f h; shows = refl }
 runs-of c files text (Err (run.Load t (load.BadCatalog f n))) old new s h = absurd h
 runs-of c files text (Err (run.Load t (load.Read n))) old new s h = absurd s
 runs-of c files text (Err (run.Load t load.Memory)) old new s h = absurd h

@@ -3,13 +3,9 @@
 use Rattle.std.specs.Prelude.{List, Result, Ok, Err, ⊤}
 use Rattle.ssb_load.specs.Shapes.{TableShape}
 use Rattle.ssb_sql.specs.Spells.{ReadsText}
-use Rattle.ssb_sql.specs.declared.fault.SqlFault.{SqlFault}
 use Rattle.ssb_sql.specs.declared.fault.SqlFault.TheVariants as sql
-use Rattle.ssb_bind.specs.declared.fault.BindFault.{BindFault}
-use Rattle.ssb_bind.specs.declared.fault.BindFault.TheVariants as bind
 use Rattle.ssb_bind.specs.declared.query.QueryParts.{QueryParts}
-use Rattle.ssb_job.specs.Kept.{Columns}
-use Rattle.ssb_answer.specs.Loaded.{Bytes}
+use Rattle.ssb_load.specs.Files.{Bytes, Columns}
 use Rattle.ssb_answer.specs.Order.{Row}
 use Rattle.ssb_answer.specs.Reply.{Asks, IsUnbound, seen_rows}
 use Rattle.ssb_answer.specs.Result.{Answers}
@@ -18,32 +14,7 @@ use Rattle.ssb_answer.specs.declared.fault.AnswerFault.TheVariants as answer
 use Rattle.ssb_answer.specs.declared.run_fault.RunFault.{RunFault}
 use Rattle.ssb_answer.specs.declared.run_fault.RunFault.TheVariants as run
 
--- the fault of a run for that of reading, of binding, and of answering
-abbrev pub told_sql : SqlFault → RunFault
-told_sql sql.TooLong = run.Sql sql.TooLong
-told_sql sql.TooDeep = run.Sql sql.TooDeep
-told_sql sql.Syntax = run.Sql sql.Syntax
-told_sql sql.Memory = run.Memory
-
-abbrev pub told_bind : BindFault → RunFault
-told_bind (bind.UnknownTable n) = run.Bind (bind.UnknownTable n)
-told_bind (bind.TableTwice n) = run.Bind (bind.TableTwice n)
-told_bind (bind.UnknownColumn n) = run.Bind (bind.UnknownColumn n)
-told_bind (bind.AmbiguousColumn n) = run.Bind (bind.AmbiguousColumn n)
-told_bind bind.TypeMismatch = run.Bind bind.TypeMismatch
-told_bind (bind.NotGrouped n) = run.Bind (bind.NotGrouped n)
-told_bind (bind.BadOrderItem n) = run.Bind (bind.BadOrderItem n)
-told_bind bind.NoFactTable = run.Bind bind.NoFactTable
-told_bind (bind.NotStar n) = run.Bind (bind.NotStar n)
-told_bind (bind.TooMany m) = run.Bind (bind.TooMany m)
-told_bind bind.Memory = run.Memory
-
-abbrev pub told_answer : AnswerFault → RunFault
-told_answer (answer.RowOverflow n) = run.Answer (answer.RowOverflow n)
-told_answer answer.SumOutOfRange = run.Answer answer.SumOutOfRange
-told_answer answer.Memory = run.Memory
-told_answer answer.Write = run.Answer answer.Write
-
+-- the query of a text
 abbrev pub Asked : List TableShape → Bytes → Result QueryParts RunFault → Type 0
 Asked c text (Ok q) = Asks c text q
 Asked c text (Err (run.Load t f)) = ⊥

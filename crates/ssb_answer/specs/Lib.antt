@@ -1,10 +1,10 @@
 pub mod Asking
 pub mod Entries
-pub mod Loaded
 pub mod Order
 pub mod Reply
 pub mod Result
 pub mod Settled
 pub mod Taking
 pub mod Text
+pub mod Told
 pub mod Writing

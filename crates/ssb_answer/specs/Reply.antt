@@ -1,6 +1,7 @@
 -- What a run replies to a query over the files of a catalog's tables: it loads, reads, binds and answers, and the first fault ends it.
 -- Source: own; the order is that of the work.
-use Rattle.std.specs.Prelude.{◌≡◌, ◌++◌, List, map, Some, Result, Ok, Err, ⊤}
+use Rattle.std.specs.Prelude.{◌≡◌, ◌++◌, ℕ, List, map, Some, Result, Ok, Err, ⊤}
+use Rattle.ssb_load.specs.Files.{Bytes, Columns, loaded}
 use Rattle.ssb_load.specs.Shapes.{TableShape}
 use Rattle.ssb_load.specs.declared.fault.LoadFault.TheVariants as load
 use Rattle.ssb_sql.specs.Spells.{IsRead, ReadsText}
@@ -9,10 +10,9 @@ use Rattle.ssb_sql.specs.declared.select.Select.{Select}
 use Rattle.ssb_bind.specs.Faults.{Means, least_fault}
 use Rattle.ssb_bind.specs.declared.fault.BindFault.{BindFault}
 use Rattle.ssb_bind.specs.declared.query.QueryParts.{QueryParts}
-use Rattle.ssb_job.specs.Kept.{Columns, JobShape, kept}
+use Rattle.ssb_job.specs.Kept.{JobShape, kept}
 use Rattle.ssb_groups.specs.Rows.{SeenRow}
 use Rattle.ssb_groups.specs.Seen.{seen}
-use Rattle.ssb_answer.specs.Loaded.{Bytes, loaded}
 use Rattle.ssb_answer.specs.Order.{Row}
 use Rattle.ssb_answer.specs.Result.{Answers}
 use Rattle.ssb_answer.specs.Taking.{IsBeginning}
@@ -54,7 +54,7 @@ AreTables c files = (tables : List Columns) × (loaded c files ≡ Ok tables)
 -- come in place of it; a failed write leaves a beginning of it.
 abbrev pub Replies : List TableShape → List Bytes → Bytes → Result (Unit {0}) RunFault → Bytes → Bytes → Type 0
 Replies c files text (Ok u) old new = (rows : List Row) × Answered c files text (Ok rows) × (new ≡ old ++ text_of rows)
-Replies c files text (Err (run.Load t (load.Record f n))) old new = loaded c files ≡ Err (run.Load t (load.Record f n))
+Replies c files text (Err (run.Load t (load.Record f n))) old new = loaded c files ≡ Err (t, f, n)
 Replies c files text (Err (run.Load t (load.BadCatalog f n))) old new = ⊥
 Replies c files text (Err (run.Load t (load.Read n))) old new = ⊤
 Replies c files text (Err (run.Load t load.Memory)) old new = ⊥
@@ -88,6 +88,17 @@ IfLoaded (Err (run.Sql e)) P = P
 IfLoaded (Err (run.Bind e)) P = P
 IfLoaded (Err (run.Answer e)) P = P
 IfLoaded (Err run.Memory) P = ⊤
+
+-- what holds of a read that failed: the number of its table, and of the record on its way
+abbrev pub IfReadOf : RunFault → (ℕ → ℕ → Type 0) → Type 0
+IfReadOf (run.Load t (load.Record f n)) P = ⊤
+IfReadOf (run.Load t (load.BadCatalog f n)) P = ⊤
+IfReadOf (run.Load t (load.Read n)) P = P t n
+IfReadOf (run.Load t load.Memory) P = ⊤
+IfReadOf (run.Sql e) P = ⊤
+IfReadOf (run.Bind e) P = ⊤
+IfReadOf (run.Answer e) P = ⊤
+IfReadOf run.Memory P = ⊤
 
 -- a fault of the files, of the text or of the data, or memory: no failed read or write
 abbrev pub IsOfContent : RunFault → Type 0

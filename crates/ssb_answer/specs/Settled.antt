@@ -4,7 +4,7 @@ use Rattle.std.specs.Prelude.{◌≡◌, List, OnOk, Result, Ok, Err, ⊤}
 use Rattle.ssb_load.specs.Shapes.{TableShape}
 use Rattle.ssb_load.specs.declared.fault.LoadFault.TheVariants as load
 use Rattle.ssb_sql.specs.declared.fault.SqlFault.TheVariants as sql
-use Rattle.ssb_answer.specs.Loaded.{Bytes}
+use Rattle.ssb_load.specs.Files.{Bytes}
 use Rattle.ssb_answer.specs.Reply.{Replies}
 use Rattle.ssb_answer.specs.declared.fault.AnswerFault.TheVariants as answer
 use Rattle.ssb_answer.specs.declared.run_fault.RunFault.{RunFault}

@@ -6,7 +6,6 @@ mod bytes;
 pub mod fault;
 mod grouping;
 mod law;
-mod load_all;
 mod order;
 mod page;
 mod readers;

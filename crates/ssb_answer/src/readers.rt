@@ -1,7 +1,7 @@
 // The whole path over readers of std.
 
 ghost use Rattle.std.specs.Prelude.{◌≡◌, ◌<◌, [], IfErr, IfOk, List, OnOk, Some, length, map, vec_len};
-ghost use Rattle.ssb_answer.specs.Loaded.{Bytes};
+ghost use Rattle.ssb_load.specs.Files.{Bytes};
 ghost use Rattle.ssb_answer.specs.Reply.{IsSilentBut, Replies};
 ghost use Rattle.ssb_answer.specs.Taking.{GrewAlike};
 

@@ -2,8 +2,9 @@
 
 use crate::fault::AnswerFault;
 use ssb_bind::BindFault;
-use ssb_load::LoadFault;
+use ssb_load::{FileFault, LoadFault};
 use ssb_sql::SqlFault;
+use std::alloc::AllocError;
 use thiserror::Error;
 
 /// The first fault of a run, in the order of its work.
@@ -24,4 +25,68 @@ pub enum RunFault {
     /// A growth was refused.
     #[error("Memory")]
     Memory,
+}
+
+// Refused growth is one fault of a run, in whichever step it came.
+
+impl From<FileFault> for RunFault {
+    ghost use Rattle.ssb_answer.specs.Told.{told_load};
+
+    ghost from_gives = { λ fault told. told ≡ told_load fault };
+
+    fn from(fault: FileFault) -> RunFault {
+        match fault.fault {
+            LoadFault::Memory => RunFault::Memory,
+            other => RunFault::Load(fault.table, other),
+        }
+    }
+}
+
+impl From<SqlFault> for RunFault {
+    ghost use Rattle.ssb_answer.specs.Told.{told_sql};
+
+    ghost from_gives = { λ fault told. told ≡ told_sql fault };
+
+    fn from(fault: SqlFault) -> RunFault {
+        match fault {
+            SqlFault::Memory => RunFault::Memory,
+            other => RunFault::Sql(other),
+        }
+    }
+}
+
+impl From<BindFault> for RunFault {
+    ghost use Rattle.ssb_answer.specs.Told.{told_bind};
+
+    ghost from_gives = { λ fault told. told ≡ told_bind fault };
+
+    fn from(fault: BindFault) -> RunFault {
+        match fault {
+            BindFault::Memory => RunFault::Memory,
+            other => RunFault::Bind(other),
+        }
+    }
+}
+
+impl From<AnswerFault> for RunFault {
+    ghost use Rattle.ssb_answer.specs.Told.{told_answer};
+
+    ghost from_gives = { λ fault told. told ≡ told_answer fault };
+
+    fn from(fault: AnswerFault) -> RunFault {
+        match fault {
+            AnswerFault::Memory => RunFault::Memory,
+            other => RunFault::Answer(other),
+        }
+    }
+}
+
+impl From<AllocError> for RunFault {
+    ghost use Rattle.ssb_answer.specs.declared.run_fault.RunFault.TheVariants.{Memory};
+
+    ghost from_gives = { λ _ told. told ≡ Memory };
+
+    fn from(_error: AllocError) -> RunFault {
+        RunFault::Memory
+    }
 }

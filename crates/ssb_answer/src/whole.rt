@@ -3,60 +3,33 @@
 ghost use Rattle.std.specs.Prelude.{◌≡◌, ◌<◌, IfErr, List, OnOk, Some, length, map};
 ghost use Rattle.ssb_load.specs.Catalog.{IsCatalog};
 ghost use Rattle.ssb_bind.specs.Star.{IsStar};
-ghost use Rattle.ssb_job.specs.Loaded.{AreLawful};
-ghost use Rattle.ssb_answer.specs.Asking.{Asked, AnswersText, told_answer, told_bind, told_sql};
-ghost use Rattle.ssb_answer.specs.Loaded.{Bytes, FailedAt, GrewEach, IfReadOf, RoseEach, given_each};
-ghost use Rattle.ssb_answer.specs.Reply.{IfLoaded, IsSilentBut, Replies, seen_rows};
+ghost use Rattle.ssb_answer.specs.Asking.{Asked, AnswersText};
+ghost use Rattle.ssb_load.specs.Files.{AreLawful, Bytes, FailedAt, GrewEach, RoseEach, given_each};
+ghost use Rattle.ssb_answer.specs.Reply.{IfLoaded, IfReadOf, IsSilentBut, Replies, seen_rows};
 ghost use Rattle.ssb_answer.specs.Result.{Answers};
 ghost use Rattle.ssb_answer.specs.Taking.{GrewAlike};
 
 use crate::answer::Answer;
 use crate::fault::AnswerFault;
 use crate::grouping::group_all;
-use crate::load_all::load_all;
 use crate::rows_of::rows;
 use crate::run_fault::RunFault;
 use crate::sink::Sink;
 use crate::write::write_answer;
-use ssb_bind::{BindFault, Query, bind};
+use ssb_bind::{Query, bind};
 use ssb_cells::Table;
 use ssb_job::Job;
-use ssb_load::{Catalog, PIECE_SIZE, Source};
-use ssb_sql::{SqlFault, read};
+use ssb_load::{Catalog, PIECE_SIZE, Source, load_all};
+use ssb_sql::read;
 use std::alloc::Global;
-
-fn sql_fault(fault: SqlFault) -> RunFault
-    ensures { result ≡ told_sql fault }
-{
-    match fault {
-        SqlFault::TooLong => RunFault::Sql(SqlFault::TooLong),
-        SqlFault::TooDeep => RunFault::Sql(SqlFault::TooDeep),
-        SqlFault::Syntax => RunFault::Sql(SqlFault::Syntax),
-        SqlFault::Memory => RunFault::Memory,
-    }
-}
-
-fn bind_fault(fault: BindFault) -> RunFault
-    ensures { result ≡ told_bind fault }
-{
-    match fault {
-        BindFault::Memory => RunFault::Memory,
-        fault => RunFault::Bind(fault),
-    }
-}
 
 // The query of a text over a catalog.
 fn query_of(alloc: Global, catalog: &Catalog, text: &str) -> Result<Query, RunFault>
     ensures { Asked catalog.now text.now result }
 {
-    let select = match read(alloc, text) {
-        Ok(select) => select,
-        Err(fault) => return Err(sql_fault(fault)),
-    };
-    match bind(alloc, catalog, select) {
-        Ok(query) => Ok(query),
-        Err(fault) => Err(bind_fault(fault)),
-    }
+    let select = read(alloc, text)?;
+    let query = bind(alloc, catalog, select)?;
+    Ok(query)
 }
 
 // The query of a job; a reminder to the prover that it is a star.
@@ -80,21 +53,6 @@ fn answer_job(alloc: Global, job: &Job) -> Result<Answer, AnswerFault>
     rows(alloc, groups, query)
 }
 
-fn answer_query(alloc: Global, job: Job) -> Result<Answer, AnswerFault>
-    ensures { Answers job.query (seen_rows job) result }
-{
-    answer_job(alloc, &job)
-}
-
-fn answer_fault(fault: AnswerFault) -> RunFault
-    ensures { result ≡ told_answer fault }
-{
-    match fault {
-        AnswerFault::Memory => RunFault::Memory,
-        fault => RunFault::Answer(fault),
-    }
-}
-
 // What a text asks of these tables.
 #[tactic(auto, using(crate::proofs::Asking::unasked, crate::proofs::Asking::answered, crate::proofs::Asking::refused, crate::proofs::Asking::fits))]
 fn answer_text(
@@ -107,17 +65,10 @@ fn answer_text(
     requires catalog { IsCatalog catalog.now }
     ensures { AnswersText catalog.now tables.items text.now result }
 {
-    let query = match query_of(alloc, catalog, text) {
-        Ok(query) => query,
-        Err(fault) => return Err(fault),
-    };
-    let Ok(job) = Job::build(alloc, query, tables) else {
-        return Err(RunFault::Memory);
-    };
-    match answer_query(alloc, job) {
-        Ok(answer) => Ok(answer),
-        Err(fault) => Err(answer_fault(fault)),
-    }
+    let query = query_of(alloc, catalog, text)?;
+    let job = Job::build(alloc, query, tables)?;
+    let answer = answer_job(alloc, &job)?;
+    Ok(answer)
 }
 
 /// Answers a query over the tables of a catalog, each of what its source gives, in the catalog's order,
@@ -174,16 +125,8 @@ pub fn run_in_pieces<S: Source, W: Sink>(
     ensures clean { OnOk result (W.failures out.new ≡ W.failures out.old) }
     ensures holds { GrewAlike (W.taken out.old) (W.taken out.new) (W.contents out.old) (W.contents out.new) }
 {
-    let tables = match load_all(alloc, &catalog, sources, piece_size) {
-        Ok(tables) => tables,
-        Err(fault) => return Err(fault),
-    };
-    let answer = match answer_text(alloc, &catalog, tables, text) {
-        Ok(answer) => answer,
-        Err(fault) => return Err(fault),
-    };
-    match write_answer(&answer, out) {
-        Ok(()) => Ok(()),
-        Err(fault) => Err(RunFault::Answer(fault)),
-    }
+    let tables = load_all(alloc, &catalog, sources, piece_size)?;
+    let answer = answer_text(alloc, &catalog, tables, text)?;
+    write_answer(&answer, out)?;
+    Ok(())
 }

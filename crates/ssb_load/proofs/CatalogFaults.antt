@@ -4,7 +4,8 @@ use Rattle.std.proofs.lemmas.List.{append-nil}
 use Rattle.ssb_load.specs.Records.{Fields}
 use Rattle.ssb_load.specs.Shapes.{TableShape}
 use Rattle.ssb_load.specs.Catalog.{at_record, catalog_fault_of, catalog_of, fact_tables, first_catalog_fault, tables_in, with_one}
-use Rattle.ssb_load.specs.CatalogReading.{ReadsCatalog, told}
+use Rattle.ssb_load.specs.CatalogReading.{ReadsCatalog}
+use Rattle.ssb_load.specs.Drafting.{told}
 use Rattle.ssb_load.specs.declared.fault.CatalogFault.{CatalogFault}
 use Rattle.ssb_load.specs.declared.fault.LoadFault.{LoadFault}
 

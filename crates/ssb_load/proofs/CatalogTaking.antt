@@ -1,11 +1,15 @@
 -- One record more of a catalog on its way.
-use Rattle.std.proofs.Common.{◌≡◌, ◌∙◌, ◌+◌, ◌++◌, ℕ, List, [], ◌∷◌, length, Option, Some, None, Ok, Err, Result, IfErr, refl, ap, arith, length-append}
+use Rattle.std.specs.Prelude.{OnOk}
+use Rattle.std.proofs.Common.{◌≡◌, ◌∙◌, ◌+◌, ◌++◌, ℕ, List, [], ◌∷◌, length, Option, Some, None, Ok, Err, Result, IfErr, IfSome, refl, arith, length-append}
 use Rattle.ssb_load.specs.Catalog.{column_fault, column_in, fault_behind, first_catalog_fault, or_else, spelling_fault, table_in, tables_in}
 use Rattle.ssb_load.specs.CatalogIntake.{IsDrafting}
-use Rattle.ssb_load.specs.CatalogReading.{IsCatalogCutShort, IsGoodCatalogBefore, Refuses, RefusesCatalog, told, with_column}
-use Rattle.ssb_load.specs.Loading.{IfRead}
+use Rattle.ssb_load.specs.CatalogReading.{AreGoodEntries, IsCatalogFault, ReadsCatalog, RefusesCatalog}
+use Rattle.ssb_load.specs.Drafting.{Refuses, told, with_column}
+use Rattle.ssb_load.specs.CutShort.{IfRead, IsCutShort}
+use Rattle.ssb_load.specs.Giving.{given_since}
 use Rattle.ssb_load.specs.Intake as intake
 use Rattle.ssb_load.specs.Records.{Fields, records_of}
+use Rattle.ssb_load.specs.Shapes.{TableShape}
 use Rattle.ssb_load.specs.declared.catalog_intake.CatalogIntake.{CatalogIntake}
 use Rattle.ssb_load.specs.declared.fault.CatalogFault.{CatalogFault}
 use Rattle.ssb_load.specs.declared.fault.LoadFault.{LoadFault}
@@ -13,7 +17,7 @@ use Rattle.ssb_load.specs.declared.fault.LoadFault.TheVariants as load
 use Rattle.ssb_load.proofs.CatalogFaults.{fault-here, fault-more}
 use Rattle.ssb_load.proofs.DraftFacts.{count-more, draft-more}
 use Rattle.ssb_load.proofs.GroupFacts.{tables-push}
-use Rattle.ssb_load.proofs.LineRecords.{first-records}
+use Rattle.ssb_load.proofs.LineRecords.{good-lines}
 use Rattle.ssb_load.proofs.ShortNames.{short-names}
 
 or-none : (a b : Option CatalogFault) → or_else a b ≡ None → (a ≡ None) × (b ≡ None)
@@ -46,34 +50,47 @@ pub refuses-here : (t : CatalogIntake) (good rest : List Fields) (r : Fields) (e
 refuses-here t good rest r e h is = refused-by good rest r (t.accepted + 1) e h.clean (let m = h.count in omega (arith, m)) (rw h.tables_are at is)
 
 -- why no catalog came, of the bytes given
-good-lines : (bytes : List ℕ) (n : ℕ) → intake.StopsAt intake.catalog bytes n → IsGoodCatalogBefore (records_of bytes) n
-good-lines bytes n h =
-    let f = first-records h.lines h.rest h.cut.whole in
-    (records_of h.lines, f.0, ap records_of h.cut.split ∙ f.1, h.good, h.number)
-
 pub tells-given : (bytes : List ℕ) (e : LoadFault) → intake.StopsBy intake.catalog bytes e → RefusesCatalog (records_of bytes) e
 tells-given bytes (load.BadCatalog f n) h = rw h refl
-tells-given bytes (load.Read n) h = good-lines bytes n h
+tells-given bytes (load.Read n) h = good-lines AreGoodEntries bytes n h
 tells-given bytes load.Memory h = tt
 tells-given bytes (load.Record f n) h = absurd h
 
-pub cut-short : (bytes : List ℕ) (e : LoadFault) → intake.StopsBy intake.catalog bytes e → IfRead e (IsCatalogCutShort bytes)
+pub cut-short : (bytes : List ℕ) (e : LoadFault) → intake.StopsBy intake.catalog bytes e → IfRead e (IsCutShort AreGoodEntries bytes)
 cut-short bytes (load.BadCatalog f n) h = tt
-cut-short bytes (load.Read n) h = record { lines = h.lines; rest = h.rest; cut = h.cut; good = h.good; number = h.number }
+cut-short bytes (load.Read n) h = h
 cut-short bytes load.Memory h = tt
 cut-short bytes (load.Record f n) h = tt
 
--- the whole is judged by no read
-pub told-reads : {A : Type 0} (r : Result A (CatalogFault × ℕ)) → IfErr (told r) (λ e. IfRead e (λ n. ⊥))
-told-reads (Ok a) = tt
-told-reads (Err (f, n)) = tt
+refuses-in : (bytes : List ℕ) (e : LoadFault) → intake.StopsIn intake.catalog bytes e → RefusesCatalog (records_of bytes) e
+refuses-in bytes (load.BadCatalog f n) h = rw h refl
+refuses-in bytes (load.Read n) h = h
+refuses-in bytes load.Memory h = tt
+refuses-in bytes (load.Record f n) h = absurd h
 
-pub read-none : (e : LoadFault) (P : ℕ → Type 0) → IfRead e (λ n. ⊥) → IfRead e P
+-- of all bytes of a source, where they are known
+pub refuses-told : (known : Option (List ℕ)) (base : List ℕ) (e : LoadFault) → IfSome known (λ all. intake.StopsIn intake.catalog (given_since base all) e) → IfSome known (λ all. RefusesCatalog (records_of (given_since base all)) e)
+refuses-told None base e h = tt
+refuses-told (Some all) base e h = refuses-in (given_since base all) e h
+
+pub fault-kind : (records : List Fields) (e : LoadFault) → RefusesCatalog records e → IsCatalogFault e
+fault-kind records (load.BadCatalog f n) h = tt
+fault-kind records (load.Read n) h = tt
+fault-kind records load.Memory h = tt
+fault-kind records (load.Record f n) h = absurd h
+
+read-none : (e : LoadFault) (P : ℕ → Type 0) → IfRead e (λ n. ⊥) → IfRead e P
 read-none (load.BadCatalog f n) P h = tt
 read-none (load.Read n) P h = absurd h
 read-none load.Memory P h = tt
 read-none (load.Record f n) P h = tt
 
-pub err-map : {T E : Type 0} (r : Result T E) (P Q : E → Type 0) → ((e : E) → P e → Q e) → IfErr r P → IfErr r Q
-err-map (Ok x) P Q f h = tt
-err-map (Err e) P Q f h = f e h
+-- the whole, judged: a catalog comes only where what was to hold then holds, and no read has failed
+pub judged : (r : Result (List TableShape) LoadFault) (records : List Fields) (P : Type 0) (Q : ℕ → Type 0) → ReadsCatalog records r → IfErr r (λ e. IfRead e (λ n. ⊥)) → P → OnOk r P × IfErr r (λ e. IfRead e Q) × IfErr r IsCatalogFault
+judged (Ok tables) records P Q reads none h = (h, tt, tt)
+judged (Err e) records P Q reads none h = (tt, read-none e Q none, fault-kind records e reads)
+
+-- the whole is judged by no read
+pub told-reads : {A : Type 0} (r : Result A (CatalogFault × ℕ)) → IfErr (told r) (λ e. IfRead e (λ n. ⊥))
+told-reads (Ok a) = tt
+told-reads (Err (f, n)) = tt

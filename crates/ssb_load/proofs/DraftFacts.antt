@@ -14,7 +14,7 @@ use Rattle.ssb_cells.specs.declared.value.ColType.TheVariants as kinds
 use Rattle.ssb_load.specs.Shapes.{TableShape}
 use Rattle.ssb_load.specs.Rules.{is_int}
 use Rattle.ssb_load.specs.Catalog.{IsTable, column_fault, columns_named, is_column_named, is_full_for, is_key_column, is_table_named}
-use Rattle.ssb_load.specs.CatalogReading.{IsDraft, column_count, put_column, with_column}
+use Rattle.ssb_load.specs.Drafting.{IsDraft, column_count, put_column, with_column}
 use Rattle.ssb_load.specs.declared.catalog.ColumnDef.{ColumnDef}
 use Rattle.ssb_load.specs.declared.fault.CatalogFault.{CatalogFault}
 use Rattle.ssb_load.specs.declared.fault.CatalogFault.TheVariants as faults

@@ -11,7 +11,7 @@ use Rattle.std.proofs.lemmas.Map.Keys.{IsDistinct-head, IsDistinct-tail, IsDisti
 use Rattle.ssb_load.specs.Records.{Fields}
 use Rattle.ssb_load.specs.Shapes.{TableShape}
 use Rattle.ssb_load.specs.Catalog.{column_in, columns_in, firsts, is_table_named, table_in, table_names, tables_in}
-use Rattle.ssb_load.specs.CatalogReading.{with_column}
+use Rattle.ssb_load.specs.Drafting.{with_column}
 use Rattle.ssb_load.specs.declared.catalog.ColumnDef.{ColumnDef}
 use Rattle.ssb_load.proofs.PlaceFacts.{put-none}
 

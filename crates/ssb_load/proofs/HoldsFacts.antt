@@ -7,7 +7,8 @@ use Rattle.ssb_cells.specs.Tables.{AreLong, rows_in}
 use Rattle.ssb_load.proofs.RuleFacts.{sized-len}
 use Rattle.ssb_load.specs.Records.{Fields}
 use Rattle.ssb_load.specs.Rules.{has_key, key_of, is_value, columns_from, columns_of}
-use Rattle.ssb_load.specs.Tables.{repeats, fault_by, fault_of}
+use Rattle.ssb_load.specs.Tables.{repeats, fault_of}
+use Rattle.ssb_load.specs.Loader.{fault_by}
 use Rattle.ssb_load.specs.Loader.{Holds, AddsKey, AreSized, seen_in, with_front, with_record}
 use Rattle.ssb_load.specs.declared.rule.Rule.{Rule}
 
@@ -16,9 +17,9 @@ repeats-same : (key : Option ℤ) (a b : ℤ → Bool) → ((z : ℤ) → a z �
 repeats-same None a b h = refl
 repeats-same (Some z) a b h = h z
 
-pub same-fault : (plan : List Rule) (m : ℕ) (good : List Fields) (seen : List ℤ) (columns : List Filled) (r : Fields) → Holds plan good seen columns
-    → fault_by plan m (length good) (seen_in seen) r ≡ fault_of plan m good r
-same-fault plan m good seen columns r h = rw (repeats-same (key_of plan r) (seen_in seen) (has_key plan good) h.held) refl
+pub same-fault : (rules : List Rule) (m : ℕ) (good : List Fields) (seen : List ℤ) (columns : List Filled) (r : Fields) → Holds rules good seen columns
+    → fault_by rules m (length good) (seen_in seen) r ≡ fault_of rules m good r
+same-fault rules m good seen columns r h = rw (repeats-same (key_of rules r) (seen_in seen) (has_key rules good) h.held) refl
 
 -- a record more, key by key
 or-last : (a c : Bool) → a ≡ c → (a || false) ≡ cond c true false
@@ -30,9 +31,9 @@ or-more true true h = refl
 or-more true false h = refl
 or-more false c h = refl
 
-has-last : (plan : List Rule) (good : List Fields) (r : Fields) (z : ℤ) → has_key plan (good ++ r ∷ []) z ≡ cond (is_value (key_of plan r) z) true (has_key plan good z)
-has-last plan [] r z = or-last (is_value (key_of plan r) z) (is_value (key_of plan r) z) refl
-has-last plan (g ∷ gs) r z = ap (λ t. is_value (key_of plan g) z || t) (has-last plan gs r z) ∙ or-more (is_value (key_of plan g) z) (is_value (key_of plan r) z) (has_key plan gs z)
+has-last : (rules : List Rule) (good : List Fields) (r : Fields) (z : ℤ) → has_key rules (good ++ r ∷ []) z ≡ cond (is_value (key_of rules r) z) true (has_key rules good z)
+has-last rules [] r z = or-last (is_value (key_of rules r) z) (is_value (key_of rules r) z) refl
+has-last rules (g ∷ gs) r z = ap (λ t. is_value (key_of rules g) z || t) (has-last rules gs r z) ∙ or-more (is_value (key_of rules g) z) (is_value (key_of rules r) z) (has_key rules gs z)
 
 adds : (key : Option ℤ) (old new : List ℤ) (z : ℤ) → AddsKey key old new → seen_in new z ≡ cond (is_value key z) true (seen_in old z)
 adds None old new z h = rw h refl
@@ -51,19 +52,19 @@ pub columns-sized : (at : ℕ) (ps : List Rule) (good : List Fields) → AreSize
 columns-sized at [] good = tt
 columns-sized at (p ∷ ps) good = (refl, len-map _ good, columns-sized (at + 1) ps good)
 
-pub holds-more : (plan : List Rule) (good : List Fields) (r : Fields) (seen seen' : List ℤ) (columns columns' : List Filled) → Holds plan good seen columns
-    → AddsKey (key_of plan r) seen seen' → columns' ≡ with_record plan columns r → Holds plan (good ++ r ∷ []) seen' columns'
-holds-more plan good r seen seen' columns columns' h adds_key is =
+pub holds-more : (rules : List Rule) (good : List Fields) (r : Fields) (seen seen' : List ℤ) (columns columns' : List Filled) → Holds rules good seen columns
+    → AddsKey (key_of rules r) seen seen' → columns' ≡ with_record rules columns r → Holds rules (good ++ r ∷ []) seen' columns'
+holds-more rules good r seen seen' columns columns' h adds_key is =
     record {
-      held = λ z. adds (key_of plan r) seen seen' z adds_key ∙ (rw (h.held z) (sym (has-last plan good r z)));
-      columns_are = is ∙ (rw h.columns_are (columns-last 0 plan good r));
+      held = λ z. adds (key_of rules r) seen seen' z adds_key ∙ (rw (h.held z) (sym (has-last rules good r z)));
+      columns_are = is ∙ (rw h.columns_are (columns-last 0 rules good r));
     }
 
-pub holds-none : (plan : List Rule) (seen : List ℤ) (columns : List Filled) → seen ≡ [] → columns ≡ columns_of plan [] → Holds plan [] seen columns
-holds-none plan seen columns e is = record { held = λ z. rw e refl; columns_are = is }
+pub holds-none : (rules : List Rule) (seen : List ℤ) (columns : List Filled) → seen ≡ [] → columns ≡ columns_of rules [] → Holds rules [] seen columns
+holds-none rules seen columns e is = record { held = λ z. rw e refl; columns_are = is }
 
-pub holds-sized : (plan : List Rule) (good : List Fields) (seen : List ℤ) (columns : List Filled) (n : ℕ) → Holds plan good seen columns → length good ≡ n → AreSized n plan columns
-holds-sized plan good seen columns n h e = rw (← e, h.columns_are) (columns-sized 0 plan good)
+pub holds-sized : (rules : List Rule) (good : List Fields) (seen : List ℤ) (columns : List Filled) (n : ℕ) → Holds rules good seen columns → length good ≡ n → AreSized n rules columns
+holds-sized rules good seen columns n h e = rw (← e, h.columns_are) (columns-sized 0 rules good)
 
 none-suc : (at k : ℕ) (ps : List Rule) (q : Rule) → k < length ps → columns_from at (take (suc k) ps) [] ≡ columns_from at (take k ps) [] ++ record { kind = (get_or ps k q).kind; values = [] } ∷ []
 none-suc at k [] q lt = absurd (omega arith)
@@ -87,8 +88,8 @@ rows-sized n [] cs s lt = absurd (omega arith)
 rows-sized n (p ∷ ps) [] s lt = absurd s
 rows-sized n (p ∷ ps) (c ∷ cs) s lt = s.1
 
-pub holds-long : (plan : List Rule) (good : List Fields) (seen : List ℤ) (columns : List Filled) → Holds plan good seen columns → 0 < length plan → (0 < length columns) × AreLong (rows_in columns) columns
-holds-long plan good seen columns h lt =
-    let s = holds-sized plan good seen columns (length good) h refl in
-    let n = sized-len (length good) plan columns s in
-    (omega arith, rw (rows-sized (length good) plan columns s lt) (sized-long (length good) plan columns s))
+pub holds-long : (rules : List Rule) (good : List Fields) (seen : List ℤ) (columns : List Filled) → Holds rules good seen columns → 0 < length rules → (0 < length columns) × AreLong (rows_in columns) columns
+holds-long rules good seen columns h lt =
+    let s = holds-sized rules good seen columns (length good) h refl in
+    let n = sized-len (length good) rules columns s in
+    (omega arith, rw (rows-sized (length good) rules columns s lt) (sized-long (length good) rules columns s))

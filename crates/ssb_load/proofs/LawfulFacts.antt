@@ -14,7 +14,8 @@ use Rattle.ssb_cells.specs.declared.value.ColType.{ColType}
 use Rattle.ssb_cells.specs.declared.value.ColType.TheVariants as kinds
 use Rattle.ssb_load.specs.Records.{Fields, field}
 use Rattle.ssb_load.specs.Numbers.{number_of}
-use Rattle.ssb_load.specs.Rules.{any_from, fails, needs_value, is_key, is_int, is_empty, key_place, key_of, is_value, has_key, value_in, cell_in, columns_from, columns_of}
+use Rattle.ssb_load.specs.Rules.{any_from, needs_value, is_key, is_int, is_empty, key_place, key_of, is_value, has_key, value_in, cell_in, columns_from, columns_of}
+use Rattle.ssb_load.specs.Loader.{fails}
 use Rattle.ssb_load.specs.Tables.{fault_of, first_fault}
 use Rattle.ssb_load.specs.Lawful.{FitsType, EachObeys, HasOneKey, IsGiven, IsInt64, IsLawful}
 use Rattle.ssb_load.specs.declared.rule.Role.{Role}

@@ -17,6 +17,7 @@ mod Left
 pub mod LineFacts
 mod LineRecords
 pub mod ListFacts
+mod LoadingAll
 mod Looking
 pub mod NumberFacts
 pub mod OneKey

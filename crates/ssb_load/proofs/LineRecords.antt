@@ -1,5 +1,6 @@
 -- The records of a text that is cut behind a line feed.
 use Rattle.std.proofs.Common.{◌≡◌, ◌++◌, ◌∙◌, ℕ, List, [], ◌∷◌, ◌⊎◌, inl, inr, refl, sym, ap, subst, append_assoc}
+use Rattle.ssb_load.specs.CutShort.{IsCutShort, IsGoodBefore}
 use Rattle.ssb_load.specs.Lines.{AreLines, EndsInLf}
 use Rattle.ssb_load.specs.Records.{Fields, records_of}
 use Rattle.ssb_load.proofs.Blocks.{EndsLf, no-records, records-of-append}
@@ -28,3 +29,9 @@ records-lead before handed piece over (inr (e, inr o)) never = absurd (never o)
 pub first-records : (lines rest : List ℕ) → AreLines lines → (more : List Fields) × (records_of (lines ++ rest) ≡ records_of lines ++ more)
 first-records lines rest (inl e) = (records_of rest, rw (e, no-records) refl)
 first-records lines rest (inr l) = (records_of (10 ∷ rest), records-of-append lines rest (ends-lf lines l))
+
+-- where a read failed, the records before it are good
+pub good-lines : (AreGood : List Fields → Type 0) (bytes : List ℕ) (n : ℕ) → IsCutShort AreGood bytes n → IsGoodBefore AreGood (records_of bytes) n
+good-lines AreGood bytes n h =
+    let f = first-records h.lines h.rest h.cut.whole in
+    (records_of h.lines, f.0, ap records_of h.cut.split ∙ f.1, h.good, h.number)

@@ -8,7 +8,7 @@ use Rattle.std.proofs.lemmas.List.Folds.{list_any_none, list_any_at}
 use Rattle.std.proofs.lemmas.List.Quantifiers.{position-Some}
 use Rattle.std.proofs.lemmas.List.Sums.{fails_before_first}
 use Rattle.ssb_load.specs.Catalog.{columns_named, is_full_for, is_table_named}
-use Rattle.ssb_load.specs.CatalogReading.{put_column, with_column}
+use Rattle.ssb_load.specs.Drafting.{put_column, with_column}
 use Rattle.ssb_load.specs.Shapes.{TableShape}
 use Rattle.ssb_load.specs.declared.catalog.ColumnDef.{ColumnDef}
 

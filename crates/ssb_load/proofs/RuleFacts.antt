@@ -1,4 +1,4 @@
--- A plan's rules, one after the other.
+-- The rules of a table's columns, one after the other.
 use Rattle.std.proofs.Common.{◌≡◌, ◌∙◌, ◌+◌, ◌<◌, ◌≤◌, ◌||◌, ℕ, zero, suc, Bool, false, cond, List, [], ◌∷◌, length, drop, get_or, Some, None, refl, ap, arith, add-one}
 use Rattle.std.proofs.Math.ListN.{set}
 use Rattle.ssb_cells.specs.Cell.{Filled}
@@ -9,7 +9,7 @@ use Rattle.ssb_load.specs.Rules.{any_from, key_from, is_key, cell_in}
 use Rattle.ssb_load.specs.Loader.{AreSized, with_cell, with_front}
 use Rattle.ssb_load.specs.declared.rule.Rule.{Rule}
 
--- what is left of a plan at a place
+-- what is left of the rules at a place
 any-suc : (t : Rule → List ℕ → Bool) (at k : ℕ) (ps : List Rule) (d : Rule) (r : Fields) → k < length ps
     → any_from t at (drop k ps) r ≡ (t (get_or ps k d) (field r at) || any_from t (at + 1) (drop (suc k) ps) r)
 any-suc t at k [] d r lt = absurd (omega arith)

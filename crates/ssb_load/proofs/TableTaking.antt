@@ -1,10 +1,12 @@
 -- A table on its way: a record that is refused, and what the end says.
-use Rattle.std.proofs.Common.{◌≡◌, ◌∙◌, ◌++◌, ℕ, List, [], ◌∷◌, refl, sym, ap}
+use Rattle.std.proofs.Common.{◌≡◌, ◌∙◌, ◌++◌, ℕ, List, [], ◌∷◌, Option, None, Some, Ok, Err, IfSome, refl, sym, ap}
 use Rattle.ssb_cells.specs.Cell.{Filled}
 use Rattle.ssb_load.specs.Intake as intake
 use Rattle.ssb_load.specs.Lawful.{HasOneKey, IsLawful}
 use Rattle.ssb_load.specs.Loader.{IsFaultBy}
-use Rattle.ssb_load.specs.Loading.{Fails, IfRead, IsCutShort, IsGoodBefore}
+use Rattle.ssb_load.specs.Giving.{given_since}
+use Rattle.ssb_load.specs.Loading.{AreGoodRows, Fails, IsTableFault, Loads}
+use Rattle.ssb_load.specs.CutShort.{IfRead, IsCutShort}
 use Rattle.ssb_load.specs.Records.{Fields, records_of}
 use Rattle.ssb_load.specs.Rules.{columns_of}
 use Rattle.ssb_load.specs.TableIntake.{IsLoading, subject_of}
@@ -15,7 +17,7 @@ use Rattle.ssb_load.specs.declared.table_intake.TableIntake.{TableIntake}
 use Rattle.ssb_load.proofs.FaultFacts.{fault-here}
 use Rattle.ssb_load.proofs.HoldsFacts.{same-fault}
 use Rattle.ssb_load.proofs.LawfulFacts.{lawful}
-use Rattle.ssb_load.proofs.LineRecords.{first-records}
+use Rattle.ssb_load.proofs.LineRecords.{good-lines}
 
 -- a faulty record
 pub refuses-here : (t : TableIntake) (good rest : List Fields) (r : Fields) (e : LoadFault) → IsLoading t good → IsFaultBy t.rules.items t.max_rows t.accepted t.loader.seen.keys r e
@@ -45,24 +47,40 @@ unfolding limit_in
 limit-is t rules m e = ap limit_in e
 
 -- why no table came, of the bytes given
-good-lines : (rules : List Rule) (m : ℕ) (bytes : List ℕ) (n : ℕ) → intake.StopsAt (intake.table rules m) bytes n → IsGoodBefore rules m (records_of bytes) n
-good-lines rules m bytes n h =
-    let f = first-records h.lines h.rest h.cut.whole in
-    (records_of h.lines, f.0, ap records_of h.cut.split ∙ f.1, h.good, h.number)
-
 pub fails-given : (s : intake.Subject) (rules : List Rule) (m : ℕ) (bytes : List ℕ) (e : LoadFault) → s ≡ intake.table rules m → intake.StopsBy s bytes e → Fails rules m (records_of bytes) e
 fails-given s rules m bytes (load.Record f n) is h = let k : intake.StopsBy (intake.table rules m) bytes (load.Record f n) = rw is at h in rw k refl
 fails-given s rules m bytes (load.BadCatalog f n) is h = let k : intake.StopsBy (intake.table rules m) bytes (load.BadCatalog f n) = rw is at h in absurd k
-fails-given s rules m bytes (load.Read n) is h = good-lines rules m bytes n (rw is at h)
+fails-given s rules m bytes (load.Read n) is h = good-lines (AreGoodRows rules m) bytes n (rw is at h)
 fails-given s rules m bytes load.Memory is h = tt
 
-pub cut-short : (s : intake.Subject) (rules : List Rule) (m : ℕ) (bytes : List ℕ) (e : LoadFault) → s ≡ intake.table rules m → intake.StopsBy s bytes e → IfRead e (IsCutShort rules m bytes)
+pub cut-short : (s : intake.Subject) (rules : List Rule) (m : ℕ) (bytes : List ℕ) (e : LoadFault) → s ≡ intake.table rules m → intake.StopsBy s bytes e → IfRead e (IsCutShort (AreGoodRows rules m) bytes)
 cut-short s rules m bytes (load.Record f n) is h = tt
 cut-short s rules m bytes (load.BadCatalog f n) is h = tt
-cut-short s rules m bytes (load.Read n) is h =
-    let k : intake.StopsAt (intake.table rules m) bytes n = rw is at h in
-    record { lines = k.lines; rest = k.rest; cut = k.cut; good = k.good; number = k.number }
+cut-short s rules m bytes (load.Read n) is h = rw is at h
 cut-short s rules m bytes load.Memory is h = tt
+
+pub fault-kind : (s : intake.Subject) (rules : List Rule) (m : ℕ) (bytes : List ℕ) (e : LoadFault) → s ≡ intake.table rules m → intake.StopsBy s bytes e → IsTableFault e
+fault-kind s rules m bytes (load.Record f n) is h = tt
+fault-kind s rules m bytes (load.BadCatalog f n) is h = let k : intake.StopsBy (intake.table rules m) bytes (load.BadCatalog f n) = rw is at h in absurd k
+fault-kind s rules m bytes (load.Read n) is h = tt
+fault-kind s rules m bytes load.Memory is h = tt
+
+-- of all bytes of a source, where they are known
+fails-in : (s : intake.Subject) (rules : List Rule) (m : ℕ) (bytes : List ℕ) (e : LoadFault) → s ≡ intake.table rules m → intake.StopsIn s bytes e → Fails rules m (records_of bytes) e
+fails-in s rules m bytes (load.Record f n) is h = let k : intake.StopsIn (intake.table rules m) bytes (load.Record f n) = rw is at h in rw k refl
+fails-in s rules m bytes (load.BadCatalog f n) is h = let k : intake.StopsIn (intake.table rules m) bytes (load.BadCatalog f n) = rw is at h in absurd k
+fails-in s rules m bytes (load.Read n) is h = rw is at h
+fails-in s rules m bytes load.Memory is h = tt
+
+pub fails-told : (known : Option (List ℕ)) (base : List ℕ) (s : intake.Subject) (rules : List Rule) (m : ℕ) (e : LoadFault) → s ≡ intake.table rules m → IfSome known (λ all. intake.StopsIn s (given_since base all) e)
+    → IfSome known (λ all. Loads rules m (records_of (given_since base all)) (Err e))
+fails-told None base s rules m e is h = tt
+fails-told (Some all) base s rules m e is h = fails-in s rules m (given_since base all) e is h
+
+-- the records that were taken are the table
+pub gives-table : (t : TableIntake) (rules : List Rule) (m : ℕ) (records : List Fields) (columns : List Filled) → subject_of t ≡ intake.table rules m → IsLoading t records → columns ≡ columns_of t.rules.items records
+    → Loads rules m records (Ok columns)
+gives-table t rules m records columns is h are = rw (← rules-are t rules m is, ← limit-is t rules m is, h.clean, are) refl
 
 pub all-lawful : (t : TableIntake) (rules : List Rule) (m : ℕ) (records : List Fields) (columns : List Filled) → HasOneKey rules → subject_of t ≡ intake.table rules m → IsLoading t records → columns ≡ columns_of t.rules.items records → IsLawful rules m columns
 all-lawful t rules m records columns one is h are =

@@ -4,7 +4,8 @@ use Rattle.std.proofs.lemmas.Bool.{false≢true}
 use Rattle.std.proofs.Math.Seq.{drop-length}
 use Rattle.std.proofs.lemmas.List.{append-nil, drop_at, take-append-drop}
 use Rattle.ssb_load.specs.Giving.{given_since}
-use Rattle.ssb_load.specs.Intake.{AreGood, AreGoodBefore, Refuses, StopsBy, StopsIn, StopsAt, Subject}
+use Rattle.ssb_load.specs.CutShort.{IsCutShort, IsGoodBefore}
+use Rattle.ssb_load.specs.Intake.{AreGood, Refuses, StopsBy, StopsIn, Subject}
 use Rattle.ssb_load.specs.Lines.{AreLines, EndsInLf, IsPartOfLine}
 use Rattle.ssb_load.specs.Pieces.{Follows, Hands, IsOver, IsBroken, handed, piece_of, rest_of}
 use Rattle.ssb_load.specs.Records.{Fields, records_of}
@@ -132,7 +133,7 @@ same-front : (old piece done : List ℕ) → done ≡ old ++ piece → piece ≡
 same-front old piece done e none = e ∙ ap (λ t. old ++ t) none ∙ append-nil old
 
 pub stops-at : {S : Type 0} (s : Subject) (p q : Pieces S) (before base now : List ℕ) (n : ℕ) → Lead before (handed p) (IsOver p) → q.failed ≡ true → (p.stopped ≡ true → q.failed ≡ p.failed) → Hands false q
-    → handed q ≡ handed p ++ piece_of q → now ≡ base ++ (handed q ++ rest_of q) → AreGood s (records_of (handed p)) → n ≡ length (records_of (handed p)) + 1 → StopsAt s (given_since base now) n
+    → handed q ≡ handed p ++ piece_of q → now ≡ base ++ (handed q ++ rest_of q) → AreGood s (records_of (handed p)) → n ≡ length (records_of (handed p)) + 1 → IsCutShort (AreGood s) (given_since base now) n
 stops-at s p q before base now n lead failed same hands split told good number = record {
   lines = handed p;
   rest = rest_of q;
@@ -147,7 +148,7 @@ stops-at s p q before base now n lead failed same hands split told good number =
 
 pub good-before : {S : Type 0} (s : Subject) (p q : Pieces S) (before base now all : List ℕ) (n : ℕ) → Lead before (handed p) (IsOver p) → q.failed ≡ true → (p.stopped ≡ true → q.failed ≡ p.failed) → Hands false q
     → handed q ≡ handed p ++ piece_of q → now ≡ base ++ (handed q ++ rest_of q) → AreGood s (records_of (handed p)) → n ≡ length (records_of (handed p)) + 1
-    → take (length now) all ≡ now → AreGoodBefore s (records_of (given_since base all)) n
+    → take (length now) all ≡ now → IsGoodBefore (AreGood s) (records_of (given_since base all)) n
 good-before s p q before base now all n lead failed same hands split told good number front =
     let f = first-records (handed p) (rest_of q ++ drop (length now) all) (lines-of p q before lead failed same) in
     let is = all-is base (handed q) (rest_of q) now all told front ∙ ap (λ t. t ++ (rest_of q ++ drop (length now) all)) (same-front (handed p) (piece_of q) (handed q) split hands.0) in
@@ -170,3 +171,10 @@ follows-start given failures ends p source none waits going whole begun = record
   forth = (let e = ap failures begun in omega (arith, e), let e = ap ends begun in omega (arith, e));
   stops = λ broke. absurd (clash broke whole);
 }
+
+-- ---- the end
+
+-- what holds of the bytes given holds of all, where these are known and were given
+pub of-all : (old new : Option (List ℕ)) (given : List ℕ) (P : List ℕ → Type 0) → new ≡ old → IfSome new (λ all. given ≡ all) → P given → IfSome old P
+of-all old None given P same all h = subst (λ w. IfSome w P) same tt
+of-all old (Some xs) given P same all h = subst (λ w. IfSome w P) same (subst P all h)

@@ -2,7 +2,7 @@
 -- For the contracts inside this crate.
 use Rattle.std.specs.Prelude.{◌≡◌, List, [], length, None}
 use Rattle.ssb_load.specs.Catalog.{first_catalog_fault, tables_in}
-use Rattle.ssb_load.specs.CatalogReading.{IsDraft, column_count}
+use Rattle.ssb_load.specs.Drafting.{IsDraft, column_count}
 use Rattle.ssb_load.specs.Records.{Fields}
 use Rattle.ssb_load.specs.declared.catalog_intake.CatalogIntake.{CatalogIntake}
 

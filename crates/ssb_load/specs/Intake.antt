@@ -1,8 +1,10 @@
 -- What records are taken for, and what is wrong with them: a table under its rules, or a catalog.
 -- For the contracts inside this crate.
-use Rattle.std.specs.Prelude.{◌≡◌, ◌+◌, ◌++◌, ℕ, List, [], length, None, Some, ⊤}
+use Rattle.std.specs.Prelude.{◌≡◌, ℕ, List, [], Some, ⊤}
 use Rattle.ssb_load.specs.Catalog.{first_catalog_fault}
-use Rattle.ssb_load.specs.Lines.{IsCutAtLf}
+use Rattle.ssb_load.specs.CatalogReading.{AreGoodEntries}
+use Rattle.ssb_load.specs.CutShort.{IsCutShort, IsGoodBefore}
+use Rattle.ssb_load.specs.Loading.{AreGoodRows}
 use Rattle.ssb_load.specs.Records.{Fields, records_of}
 use Rattle.ssb_load.specs.Tables.{first_fault}
 use Rattle.ssb_load.specs.declared.fault.CatalogFault.{CatalogFault}
@@ -18,8 +20,8 @@ pub data Subject : Type 0 where
 
 -- no record is faulty
 abbrev pub AreGood : Subject → List Fields → Type 0
-AreGood (table rules max_rows) records = first_fault rules max_rows [] records ≡ None
-AreGood catalog records = first_catalog_fault [] records ≡ None
+AreGood (table rules max_rows) records = AreGoodRows rules max_rows records
+AreGood catalog records = AreGoodEntries records
 
 abbrev pub RefusesRow : Subject → List Fields → RecordFault → ℕ → Type 0
 RefusesRow (table rules max_rows) records f n = first_fault rules max_rows [] records ≡ Some (f, n)
@@ -36,28 +38,16 @@ Refuses s records (load.BadCatalog f n) = RefusesEntry s records f n
 Refuses s records (load.Read n) = ⊥
 Refuses s records load.Memory = ⊤
 
--- a read failed: the whole lines of the bytes are one record fewer than this number, all good
-pub record StopsAt (s : Subject) (bytes : List ℕ) (n : ℕ) : Type 0 where
-  pub lines : List ℕ
-  pub rest : List ℕ
-  pub cut : IsCutAtLf bytes lines rest
-  pub good : AreGood s (records_of lines)
-  pub number : n ≡ length (records_of lines) + 1
-
 -- why not all records of these bytes were taken
 abbrev pub StopsBy : Subject → List ℕ → LoadFault → Type 0
 StopsBy s bytes (load.Record f n) = RefusesRow s (records_of bytes) f n
 StopsBy s bytes (load.BadCatalog f n) = RefusesEntry s (records_of bytes) f n
-StopsBy s bytes (load.Read n) = StopsAt s bytes n
+StopsBy s bytes (load.Read n) = IsCutShort (AreGood s) bytes n
 StopsBy s bytes load.Memory = ⊤
-
--- the first records are good, as many as come before this number
-abbrev pub AreGoodBefore : Subject → List Fields → ℕ → Type 0
-AreGoodBefore s records n = (good : List Fields) × (rest : List Fields) × (records ≡ good ++ rest) × AreGood s good × (n ≡ length good + 1)
 
 -- the same of bytes of which perhaps not all were given
 abbrev pub StopsIn : Subject → List ℕ → LoadFault → Type 0
 StopsIn s bytes (load.Record f n) = RefusesRow s (records_of bytes) f n
 StopsIn s bytes (load.BadCatalog f n) = RefusesEntry s (records_of bytes) f n
-StopsIn s bytes (load.Read n) = AreGoodBefore s (records_of bytes) n
+StopsIn s bytes (load.Read n) = IsGoodBefore (AreGood s) (records_of bytes) n
 StopsIn s bytes load.Memory = ⊤

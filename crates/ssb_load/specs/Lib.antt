@@ -2,6 +2,9 @@ pub mod BuiltIn
 pub mod Catalog
 pub mod CatalogIntake
 pub mod CatalogReading
+pub mod CutShort
+pub mod Drafting
+pub mod Files
 pub mod Giving
 pub mod Intake
 pub mod Lawful

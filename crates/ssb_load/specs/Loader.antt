@@ -1,15 +1,39 @@
--- What the loader holds after some records: for the contracts inside this crate.
-use Rattle.std.specs.Prelude.{◌≡◌, ◌+◌, ◌++◌, ◌∷◌, ℕ, ℤ, Bool, true, ◌||◌, suc, zero, List, [], length, Option, None, Some, ⊤, if◌then◌else◌}
-use Rattle.std.specs.List.{list_any}
+-- What the loader holds after some records.
+-- For the contracts inside this crate.
+use Rattle.std.specs.Prelude.{◌≡◌, ◌+◌, ◌++◌, ◌∷◌, ℕ, ℤ, Bool, true, ◌||◌, suc, zero, List, [], length, not, nat_le, Option, None, Some, ⊤, if◌then◌else◌}
+use Rattle.std.specs.List.{list_all, list_any}
 use Rattle.std.specs.Ordering.{int_eq}
+use Rattle.std.specs.Str.{is_utf8}
 use Rattle.ssb_cells.specs.Cell.{Cell, Filled}
 use Rattle.ssb_load.specs.Records.{Fields, field}
-use Rattle.ssb_load.specs.Rules.{cell_in, columns_of, has_key, fails}
-use Rattle.ssb_load.specs.Tables.{fault_by}
+use Rattle.ssb_load.specs.Rules.{any_field, cell_in, columns_of, has_key, is_bad_number, is_missing, is_too_long, key_of}
+use Rattle.ssb_load.specs.Tables.{repeats}
+use Rattle.ssb_load.specs.Width.{has_width}
 use Rattle.ssb_load.specs.declared.rule.Rule.{Rule}
+use Rattle.ssb_load.specs.declared.rule.Test.{Test}
 use Rattle.ssb_load.specs.declared.rule.Test.TheVariants as tests
+use Rattle.ssb_load.specs.declared.fault.RecordFault.{RecordFault}
+use Rattle.ssb_load.specs.declared.fault.RecordFault.TheVariants as faults
 use Rattle.ssb_load.specs.declared.fault.LoadFault.{LoadFault}
 use Rattle.ssb_load.specs.declared.fault.LoadFault.TheVariants as load
+
+-- a field fails a test of its column's rule
+abbrev pub fails : Test → Rule → List ℕ → Bool
+fails tests.Number = is_bad_number
+fails tests.Value = is_missing
+fails tests.Length = is_too_long
+
+-- the fault of a record that comes after so many good ones, which have these keys
+abbrev pub fault_by : List Rule → ℕ → ℕ → (ℤ → Bool) → Fields → Option RecordFault
+fault_by rules max_rows count has r =
+    if not (has_width (length rules) r) then Some faults.FieldCount
+    else (if not (list_all is_utf8 r) then Some faults.BadUtf8
+    else (if any_field (fails tests.Number) rules r then Some faults.BadNumber
+    else (if any_field (fails tests.Value) rules r then Some faults.NullNotAllowed
+    else (if repeats (key_of rules r) has then Some faults.DuplicateKey
+    else (if nat_le max_rows count then Some faults.TooManyRows
+    else (if any_field (fails tests.Length) rules r then Some faults.TextTooLong
+    else None))))))
 
 -- the keys that were seen, as a test
 abbrev pub seen_in : List ℤ → ℤ → Bool

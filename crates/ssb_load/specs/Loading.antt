@@ -1,8 +1,10 @@
--- What `load` answers.
+-- What loading a table answers, of records, of bytes, and of a source.
 -- Source: own.
-use Rattle.std.specs.Prelude.{◌≡◌, ◌+◌, ◌++◌, ℕ, List, [], length, slice_get, Result, Ok, Err, Option, None, Some, ⊤}
+use Rattle.std.specs.Prelude.{◌≡◌, ◌<◌, ◌++◌, ℕ, List, [], slice_get, Result, Ok, Err, Option, None, Some, ⊤, IfErr, IfOk, IfSome, OnOk}
 use Rattle.ssb_cells.specs.Cell.{Filled}
-use Rattle.ssb_load.specs.Lines.{IsCutAtLf}
+use Rattle.ssb_load.specs.CutShort.{IsCutShort, IsGoodBefore, IfRead}
+use Rattle.ssb_load.specs.Giving.{given_since}
+use Rattle.ssb_load.specs.Lawful.{IsLawful}
 use Rattle.ssb_load.specs.Records.{Fields, records_of}
 use Rattle.ssb_load.specs.Shapes.{TableShape, rules_of}
 use Rattle.ssb_load.specs.Tables.{first_fault, table_of}
@@ -18,15 +20,15 @@ rules_in (Some table) = rules_of table
 abbrev pub rules_at : List TableShape → ℕ → List Rule
 rules_at catalog table = rules_in (slice_get catalog table)
 
--- the first records are good, as many as come before this number
-abbrev pub IsGoodBefore : List Rule → ℕ → List Fields → ℕ → Type 0
-IsGoodBefore rules max_rows records n = (good : List Fields) × (rest : List Fields) × (records ≡ good ++ rest) × (first_fault rules max_rows [] good ≡ None) × (n ≡ length good + 1)
+-- no record is faulty
+abbrev pub AreGoodRows : List Rule → ℕ → List Fields → Type 0
+AreGoodRows rules max_rows records = first_fault rules max_rows [] records ≡ None
 
--- the fault is that of the first faulty record; a reader may fail at any record that only good ones precede
+-- the fault is that of the first faulty record; a read may fail at any record that only good ones precede
 abbrev pub Fails : List Rule → ℕ → List Fields → LoadFault → Type 0
 Fails rules max_rows records (load.Record f n) = table_of rules max_rows records ≡ Err (f, n)
 Fails rules max_rows records (load.BadCatalog f n) = ⊥
-Fails rules max_rows records (load.Read n) = IsGoodBefore rules max_rows records n
+Fails rules max_rows records (load.Read n) = IsGoodBefore (AreGoodRows rules max_rows) records n
 Fails rules max_rows records load.Memory = ⊤
 
 -- the table of the records, or a fault
@@ -34,24 +36,31 @@ abbrev pub Loads : List Rule → ℕ → List Fields → Result (List Filled) Lo
 Loads rules max_rows records (Ok table) = table_of rules max_rows records ≡ Ok table
 Loads rules max_rows records (Err e) = Fails rules max_rows records e
 
--- a read failed: up to their last line feed the bytes given are one record fewer than this number, all good
-pub record IsCutShort (rules : List Rule) (max_rows : ℕ) (bytes : List ℕ) (n : ℕ) : Type 0 where
-  pub lines : List ℕ
-  pub rest : List ℕ
-  pub cut : IsCutAtLf bytes lines rest
-  pub good : first_fault rules max_rows [] (records_of lines) ≡ None
-  pub number : n ≡ length (records_of lines) + 1
-
--- what holds of the number of a failed read
-abbrev pub IfRead : LoadFault → (ℕ → Type 0) → Type 0
-IfRead (load.Record f n) P = ⊤
-IfRead (load.BadCatalog f n) P = ⊤
-IfRead (load.Read n) P = P n
-IfRead load.Memory P = ⊤
-
 -- a fault that loading a table has
 abbrev pub IsTableFault : LoadFault → Type 0
 IsTableFault (load.Record f n) = ⊤
 IsTableFault (load.BadCatalog f n) = ⊥
 IsTableFault (load.Read n) = ⊤
 IsTableFault load.Memory = ⊤
+
+-- What loading a table of a source answers, and what it took of it. The source tells which bytes it gave, how often a read failed, how often one met the
+-- end, and all its bytes where they are known.
+pub record LoadsFrom {S : Type 0} (given : S → List ℕ) (failures ends : S → ℕ) (known : S → Option (List ℕ)) (rules : List Rule) (max_rows : ℕ) (before after : S)
+    (r : Result (List Filled) LoadFault) : Type 0 where
+  -- the source gave some bytes more
+  pub grows : given after ≡ given before ++ given_since (given before) (given after)
+  -- the answer is the table of just these, or their fault
+  pub loads : Loads rules max_rows (records_of (given_since (given before) (given after))) r
+  -- a table comes only where a read met the end
+  pub ended : OnOk r (ends before < ends after)
+  -- a failed read is answered only where a read failed,
+  pub broken : IfErr r (λ e. IfRead e (λ n. failures before < failures after))
+  -- and then with the number of the record on its way
+  pub short : IfErr r (λ e. IfRead e (IsCutShort (AreGoodRows rules max_rows) (given_since (given before) (given after))))
+  -- where all bytes of the source are known, the answer is that of all of them
+  pub whole : known after ≡ known before
+  pub told : IfSome (known before) (λ all. Loads rules max_rows (records_of (given_since (given before) all)) r)
+  -- a table keeps its rules
+  pub lawful : IfOk r (λ t. IsLawful rules max_rows t)
+  -- no fault of a catalog is answered
+  pub faults : IfErr r IsTableFault

@@ -11,8 +11,6 @@ use Rattle.ssb_load.specs.Numbers.{number_of}
 use Rattle.ssb_load.specs.declared.rule.Role.{Role}
 use Rattle.ssb_load.specs.declared.rule.Role.TheVariants as roles
 use Rattle.ssb_load.specs.declared.rule.Rule.{Rule}
-use Rattle.ssb_load.specs.declared.rule.Test.{Test}
-use Rattle.ssb_load.specs.declared.rule.Test.TheVariants as tests
 
 abbrev pub is_empty : List ℕ → Bool
 is_empty bytes = length bytes == 0
@@ -31,20 +29,26 @@ is_key roles.Key = true
 is_key roles.Need = false
 is_key roles.Nullable = false
 
--- a field fails a test of its column's rule
-abbrev pub fails : Test → Rule → List ℕ → Bool
-fails tests.Number p f = is_int p.kind && (not (is_empty f) && is_none (number_of f))
-fails tests.Value p f = needs_value p.role && is_empty f
-fails tests.Length p f = not (is_int p.kind) && nat_lt 4096 (length f)
+-- a field of an `int` column that is not empty and spells no number of 64 bits
+abbrev pub is_bad_number : Rule → List ℕ → Bool
+is_bad_number p f = is_int p.kind && (not (is_empty f) && is_none (number_of f))
 
--- some field of a record, from this one on, has a property under its rule
+-- an empty field where a value is needed
+abbrev pub is_missing : Rule → List ℕ → Bool
+is_missing p f = needs_value p.role && is_empty f
+
+-- a text that is too long
+abbrev pub is_too_long : Rule → List ℕ → Bool
+is_too_long p f = not (is_int p.kind) && nat_lt 4096 (length f)
+
+-- some field of a record, from this one on, is such a field under its rule
 abbrev pub any_from : (Rule → List ℕ → Bool) → ℕ → List Rule → Fields → Bool
 any_from t at [] r = false
 any_from t at (p ∷ ps) r = t p (field r at) || any_from t (at + 1) ps r
 
--- some field of a record fails a test
-abbrev pub any_fails : Test → List Rule → Fields → Bool
-any_fails test rules r = any_from (fails test) 0 rules r
+-- some field of a record is such a field
+abbrev pub any_field : (Rule → List ℕ → Bool) → List Rule → Fields → Bool
+any_field t rules r = any_from t 0 rules r
 
 -- the place of the first key
 abbrev pub key_from : ℕ → List Rule → Option ℕ

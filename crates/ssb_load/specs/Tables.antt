@@ -5,10 +5,9 @@ use Rattle.std.specs.List.{list_all}
 use Rattle.std.specs.Str.{is_utf8}
 use Rattle.ssb_cells.specs.Cell.{Filled}
 use Rattle.ssb_load.specs.Records.{Fields}
-use Rattle.ssb_load.specs.Rules.{any_fails, key_of, has_key, columns_of}
+use Rattle.ssb_load.specs.Rules.{any_field, is_bad_number, is_missing, is_too_long, key_of, has_key, columns_of}
 use Rattle.ssb_load.specs.Width.{has_width}
 use Rattle.ssb_load.specs.declared.rule.Rule.{Rule}
-use Rattle.ssb_load.specs.declared.rule.Test.TheVariants as tests
 use Rattle.ssb_load.specs.declared.fault.RecordFault.{RecordFault}
 use Rattle.ssb_load.specs.declared.fault.RecordFault.TheVariants as faults
 
@@ -17,21 +16,17 @@ abbrev pub repeats : Option ℤ → (ℤ → Bool) → Bool
 repeats None has = false
 repeats (Some z) has = has z
 
--- the fault of a record that comes after so many good ones, which have these keys: the least that applies
-abbrev pub fault_by : List Rule → ℕ → ℕ → (ℤ → Bool) → Fields → Option RecordFault
-fault_by rules max_rows count has r =
+-- the fault of a record that comes after these good ones: the least that applies
+abbrev pub fault_of : List Rule → ℕ → List Fields → Fields → Option RecordFault
+fault_of rules max_rows good r =
     if not (has_width (length rules) r) then Some faults.FieldCount
     else (if not (list_all is_utf8 r) then Some faults.BadUtf8
-    else (if any_fails tests.Number rules r then Some faults.BadNumber
-    else (if any_fails tests.Value rules r then Some faults.NullNotAllowed
-    else (if repeats (key_of rules r) has then Some faults.DuplicateKey
-    else (if nat_le max_rows count then Some faults.TooManyRows
-    else (if any_fails tests.Length rules r then Some faults.TextTooLong
+    else (if any_field is_bad_number rules r then Some faults.BadNumber
+    else (if any_field is_missing rules r then Some faults.NullNotAllowed
+    else (if repeats (key_of rules r) (has_key rules good) then Some faults.DuplicateKey
+    else (if nat_le max_rows (length good) then Some faults.TooManyRows
+    else (if any_field is_too_long rules r then Some faults.TextTooLong
     else None))))))
-
--- the fault of a record that comes after these good ones
-abbrev pub fault_of : List Rule → ℕ → List Fields → Fields → Option RecordFault
-fault_of rules max_rows good r = fault_by rules max_rows (length good) (has_key rules good) r
 
 -- a fault with the number of its record, or what comes later
 abbrev pub or_later : Option RecordFault → ℕ → Option (RecordFault × ℕ) → Option (RecordFault × ℕ)

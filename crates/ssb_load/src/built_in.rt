@@ -70,6 +70,3 @@ impl Catalog {
         Ok(Catalog::new(tables(alloc)?))
     }
 }
-
-#[cfg(test)]
-mod tests;

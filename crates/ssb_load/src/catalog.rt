@@ -64,7 +64,7 @@ impl ColumnDef {
 }
 
 impl TableDef {
-    ghost use Rattle.ssb_load.specs.CatalogReading.{put_column};
+    ghost use Rattle.ssb_load.specs.Drafting.{put_column};
 
     // A table with these columns.
     pub(crate) fn new(name: Name, columns: Vec<ColumnDef>) -> TableDef

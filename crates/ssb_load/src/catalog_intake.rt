@@ -2,7 +2,7 @@
 
 ghost use Rattle.std.specs.Prelude.{◌≡◌, [], IfErr, List, length};
 ghost use Rattle.ssb_load.specs.Catalog.{fact_tables, with_one};
-ghost use Rattle.ssb_load.specs.CatalogReading.{IsDraft, told};
+ghost use Rattle.ssb_load.specs.Drafting.{IsDraft, told};
 
 use crate::catalog::{Catalog, TableDef};
 use crate::draft::{accept, has_key};
@@ -43,7 +43,7 @@ fn catalog_of(tables: Vec<TableDef>) -> Result<Catalog, LoadFault>
 impl CatalogIntake {
     ghost use Rattle.ssb_load.specs.CatalogIntake.{IsDrafting};
     ghost use Rattle.ssb_load.specs.CatalogReading.{ReadsCatalog};
-    ghost use Rattle.ssb_load.specs.Loading.{IfRead};
+    ghost use Rattle.ssb_load.specs.CutShort.{IfRead};
     ghost use Rattle.ssb_load.specs.Records.{Fields};
 
     // Of no record yet.

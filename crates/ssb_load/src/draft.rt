@@ -4,7 +4,7 @@ ghost use Rattle.std.specs.Prelude.{◌≡◌, ◌<◌, ◌+◌, ◌^◌, true, 
 ghost use Rattle.std.specs.List.{list_any, position};
 ghost use Rattle.csv.specs.Records.{fields_of};
 ghost use Rattle.ssb_load.specs.Catalog.{fault_behind, column_fault, columns_named, column_in, is_column_named, is_full_for, is_key_column, is_table_named, table_in};
-ghost use Rattle.ssb_load.specs.CatalogReading.{IsDraft, Refuses, with_column};
+ghost use Rattle.ssb_load.specs.Drafting.{IsDraft, Refuses, with_column};
 
 use crate::catalog::{ColumnDef, TableDef};
 use crate::entry::{Entry, read_entry};

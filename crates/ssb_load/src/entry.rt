@@ -3,7 +3,7 @@
 ghost use Rattle.std.specs.Prelude.{◌≡◌, None, IfOk, IfErr, OnOk};
 ghost use Rattle.csv.specs.Records.{fields_of};
 ghost use Rattle.ssb_load.specs.Catalog.{is_short_name, kind_named, role_named, table_in, column_in, spelling_fault};
-ghost use Rattle.ssb_load.specs.CatalogReading.{Refuses};
+ghost use Rattle.ssb_load.specs.Drafting.{Refuses};
 
 use crate::catalog::ColumnDef;
 use crate::fault::{CatalogFault, LoadFault};

@@ -4,7 +4,7 @@ ghost use Rattle.std.specs.Prelude.{◌≡◌, ◌+◌, ◌<◌, ◌^◌, ◌++�
 ghost use Rattle.csv.specs.Records.{fields_of};
 ghost use Rattle.ssb_load.specs.Giving.{given_since};
 ghost use Rattle.ssb_load.specs.Intake.{AreGood, Refuses, StopsBy, StopsIn, Subject};
-ghost use Rattle.ssb_load.specs.Loading.{IfRead};
+ghost use Rattle.ssb_load.specs.CutShort.{IfRead};
 ghost use Rattle.ssb_load.specs.Records.{Fields, records_of};
 
 use crate::fault::LoadFault;

@@ -4,9 +4,10 @@ ghost use Rattle.std.specs.Prelude.{◌≡◌, ◌≢◌, ◌+◌, ◌^◌, ℤ,
 ghost use Rattle.std.specs.List.{list_all};
 ghost use Rattle.std.specs.Str.{is_utf8};
 ghost use Rattle.csv.specs.Records.{fields_of};
-ghost use Rattle.ssb_load.specs.Rules.{any_fails, key_place, number_at};
-ghost use Rattle.ssb_load.specs.Tables.{fault_by, repeats};
-ghost use Rattle.ssb_load.specs.Loader.{seen_in, IsFaultBy};
+ghost use Rattle.ssb_load.specs.Rules.{any_field, key_place, number_at};
+ghost use Rattle.ssb_load.specs.Tables.{repeats};
+ghost use Rattle.ssb_load.specs.Loader.{fault_by};
+ghost use Rattle.ssb_load.specs.Loader.{fails, seen_in, IsFaultBy};
 
 use crate::fault::{LoadFault, RecordFault};
 use crate::field::{field_text, is_all_text, is_wide};
@@ -17,12 +18,12 @@ use csv::ByteRecord;
 use std::collections::HashSet;
 
 // Whether some field fails a test of its rule.
-fn any_field_fails(test: Test, plan: &[Rule], row: &ByteRecord) -> bool
+fn any_field_fails(test: Test, rules: &[Rule], row: &ByteRecord) -> bool
     requires { list_all is_utf8 (fields_of row.now) ≡ true }
-    ensures { result ≡ any_fails test plan.now (fields_of row.now) }
+    ensures { result ≡ any_field (fails test) rules.now (fields_of row.now) }
 {
-    for k in 0..plan.len() {
-        let rule = plan[k];
+    for k in 0..rules.len() {
+        let rule = rules[k];
         if fails_test(test, rule, field_text(row, k)) {
             return true;
         }
@@ -30,12 +31,12 @@ fn any_field_fails(test: Test, plan: &[Rule], row: &ByteRecord) -> bool
     false
 }
 
-// The place of the key of a plan.
-pub(crate) fn key_place(plan: &[Rule]) -> Option<usize>
-    ensures { result ≡ key_place plan.now }
+// The place of the key under these rules.
+pub(crate) fn key_place(rules: &[Rule]) -> Option<usize>
+    ensures { result ≡ key_place rules.now }
 {
-    for k in 0..plan.len() {
-        let rule = plan[k];
+    for k in 0..rules.len() {
+        let rule = rules[k];
         if rule.role.is_key() {
             return Some(k);
         }
@@ -65,34 +66,34 @@ fn is_repeat(seen: &HashSet<i64>, key: Option<i64>) -> bool
 
 // The fault of a record that comes after so many others, with these keys.
 fn judge(
-    plan: &[Rule],
+    rules: &[Rule],
     seen: &HashSet<i64>,
     accepted: u64,
     max_rows: u32,
     row: &ByteRecord,
 ) -> Option<RecordFault>
-    ensures { result ≡ fault_by plan.now max_rows accepted (seen_in seen.now.keys) (fields_of row.now) }
+    ensures { result ≡ fault_by rules.now max_rows accepted (seen_in seen.now.keys) (fields_of row.now) }
 {
-    if !is_wide(row, plan.len()) {
+    if !is_wide(row, rules.len()) {
         return Some(RecordFault::FieldCount);
     }
     if !is_all_text(row) {
         return Some(RecordFault::BadUtf8);
     }
-    if any_field_fails(Test::Number, plan, row) {
+    if any_field_fails(Test::Number, rules, row) {
         return Some(RecordFault::BadNumber);
     }
-    if any_field_fails(Test::Value, plan, row) {
+    if any_field_fails(Test::Value, rules, row) {
         return Some(RecordFault::NullNotAllowed);
     }
-    let key = number_in_field(key_place(plan), row);
+    let key = number_in_field(key_place(rules), row);
     if is_repeat(seen, key) {
         return Some(RecordFault::DuplicateKey);
     }
     if accepted >= u64::from(max_rows) {
         return Some(RecordFault::TooManyRows);
     }
-    if any_field_fails(Test::Length, plan, row) {
+    if any_field_fails(Test::Length, rules, row) {
         return Some(RecordFault::TextTooLong);
     }
     None
@@ -102,17 +103,17 @@ fn judge(
 #[cold]
 #[inline(never)]
 pub(crate) fn refuse(
-    plan: &[Rule],
+    rules: &[Rule],
     seen: &HashSet<i64>,
     accepted: u64,
     max_rows: u32,
     row: &ByteRecord,
 ) -> LoadFault
-    requires faulty { fault_by plan.now max_rows accepted (seen_in seen.now.keys) (fields_of row.now) ≢ None }
+    requires faulty { fault_by rules.now max_rows accepted (seen_in seen.now.keys) (fields_of row.now) ≢ None }
     requires room { accepted + 1 < 2 ^ 64 }
-    ensures { IsFaultBy plan.now max_rows accepted seen.now.keys (fields_of row.now) result }
+    ensures { IsFaultBy rules.now max_rows accepted seen.now.keys (fields_of row.now) result }
 {
-    match judge(plan, seen, accepted, max_rows, row) {
+    match judge(rules, seen, accepted, max_rows, row) {
         Some(fault) => LoadFault::Record(fault, accepted + 1),
         None => unreachable!(),
     }

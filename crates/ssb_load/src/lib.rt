@@ -6,6 +6,7 @@
 //! [`Source`] gives, and says so of any source, a file of the system among them.
 #![tactic(auto)]
 
+mod all_tables;
 mod benchmark;
 mod built_in;
 pub mod catalog;
@@ -28,8 +29,9 @@ pub mod source;
 mod table_intake;
 mod value;
 
+pub use all_tables::load_all;
 pub use catalog::{Catalog, ColumnDef, TableDef};
-pub use fault::{CatalogFault, LoadFault, RecordFault};
+pub use fault::{CatalogFault, FileFault, LoadFault, RecordFault};
 pub use history::History;
 pub use read_table::{PIECE_SIZE, load, load_from, load_in_pieces};
 pub use reader::In;

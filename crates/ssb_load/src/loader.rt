@@ -6,7 +6,8 @@ ghost use Rattle.std.specs.Str.{is_utf8};
 ghost use Rattle.csv.specs.Records.{fields_of};
 ghost use Rattle.ssb_cells.specs.Tables.{AreLong, rows_in};
 ghost use Rattle.ssb_load.specs.Rules.{any_from, key_place, number_at, key_of, columns_of};
-ghost use Rattle.ssb_load.specs.Tables.{fault_by, repeats};
+ghost use Rattle.ssb_load.specs.Tables.{repeats};
+ghost use Rattle.ssb_load.specs.Loader.{fault_by};
 ghost use Rattle.ssb_load.specs.Loader.{seen_in, AddsKey, AreSized, with_record, IsFaultBy, fails_some};
 
 use crate::fault::LoadFault;
@@ -28,18 +29,18 @@ pub(crate) struct Loader {
 // Puts each field of a record into its column, or stops at one that fails a test.
 fn push_fields(
     columns: &mut Vec<Column>,
-    plan: &[Rule],
+    rules: &[Rule],
     count: u64,
     row: &ByteRecord,
 ) -> Result<bool, AllocError>
     requires text { list_all is_utf8 (fields_of row.now) ≡ true }
-    requires sized { AreSized count plan.now columns.old.items }
+    requires sized { AreSized count rules.now columns.old.items }
     requires room { count < 4294967295 }
-    ensures fails { IfOk result (λ taken. any_from fails_some 0 plan.now (fields_of row.now) ≡ not taken) }
-    ensures pushed { IfOk result (λ taken. taken ≡ true → columns.new.items ≡ with_record plan.now columns.old.items (fields_of row.now)) }
+    ensures fails { IfOk result (λ taken. any_from fails_some 0 rules.now (fields_of row.now) ≡ not taken) }
+    ensures pushed { IfOk result (λ taken. taken ≡ true → columns.new.items ≡ with_record rules.now columns.old.items (fields_of row.now)) }
 {
-    for k in 0..plan.len() {
-        let rule = plan[k];
+    for k in 0..rules.len() {
+        let rule = rules[k];
         let Some(value) = value_of(rule, field_text(row, k)) else {
             return Ok(false);
         };
@@ -66,13 +67,13 @@ fn add_key(seen: &mut HashSet<i64>, key: Option<i64>) -> Result<bool, AllocError
 }
 
 impl Loader {
-    pub(crate) fn new(alloc: Global, plan: &[Rule]) -> Result<Loader, AllocError>
+    pub(crate) fn new(alloc: Global, rules: &[Rule]) -> Result<Loader, AllocError>
         ensures seen { IfOk result (λ l. l.seen.keys ≡ []) }
-        ensures columns { IfOk result (λ l. l.columns.items ≡ columns_of plan.now []) }
+        ensures columns { IfOk result (λ l. l.columns.items ≡ columns_of rules.now []) }
     {
         let mut columns: Vec<Column> = Vec::new(alloc);
-        for k in 0..plan.len() {
-            let rule = plan[k];
+        for k in 0..rules.len() {
+            let rule = rules[k];
             columns.push(Column::new(alloc, rule.kind)?)?;
         }
         Ok(Loader {
@@ -92,32 +93,32 @@ impl Loader {
     // Takes one more record after so many good ones, or says why not.
     pub(crate) fn accept(
         &mut self,
-        plan: &[Rule],
+        rules: &[Rule],
         key: Option<usize>,
         accepted: u64,
         max_rows: u32,
         row: &ByteRecord,
     ) -> Result<(), LoadFault>
-        requires sized { AreSized accepted plan.now self.old.columns.items }
-        requires key { key ≡ key_place plan.now }
+        requires sized { AreSized accepted rules.now self.old.columns.items }
+        requires key { key ≡ key_place rules.now }
         requires room { accepted + 1 < 2 ^ 64 }
         ensures room { OnOk result (accepted < max_rows) }
-        ensures taken { OnOk result (fault_by plan.now max_rows accepted (seen_in self.old.seen.keys) (fields_of row.now) ≡ None) }
-        ensures columns { OnOk result (self.new.columns.items ≡ with_record plan.now self.old.columns.items (fields_of row.now)) }
-        ensures seen { OnOk result (AddsKey (key_of plan.now (fields_of row.now)) self.old.seen.keys self.new.seen.keys) }
-        ensures refused { IfErr result (λ e. IsFaultBy plan.now max_rows accepted self.old.seen.keys (fields_of row.now) e) }
+        ensures taken { OnOk result (fault_by rules.now max_rows accepted (seen_in self.old.seen.keys) (fields_of row.now) ≡ None) }
+        ensures columns { OnOk result (self.new.columns.items ≡ with_record rules.now self.old.columns.items (fields_of row.now)) }
+        ensures seen { OnOk result (AddsKey (key_of rules.now (fields_of row.now)) self.old.seen.keys self.new.seen.keys) }
+        ensures refused { IfErr result (λ e. IsFaultBy rules.now max_rows accepted self.old.seen.keys (fields_of row.now) e) }
     {
-        if accepted >= u64::from(max_rows) || !is_wide(row, plan.len()) || !is_all_text(row) {
-            return Err(refuse(plan, &self.seen, accepted, max_rows, row));
+        if accepted >= u64::from(max_rows) || !is_wide(row, rules.len()) || !is_all_text(row) {
+            return Err(refuse(rules, &self.seen, accepted, max_rows, row));
         }
-        match push_fields(&mut self.columns, plan, accepted, row) {
+        match push_fields(&mut self.columns, rules, accepted, row) {
             Ok(true) => {}
-            Ok(false) => return Err(refuse(plan, &self.seen, accepted, max_rows, row)),
+            Ok(false) => return Err(refuse(rules, &self.seen, accepted, max_rows, row)),
             Err(_) => return Err(LoadFault::Memory),
         }
         match add_key(&mut self.seen, number_in_field(key, row)) {
             Ok(true) => Ok(()),
-            Ok(false) => Err(refuse(plan, &self.seen, accepted, max_rows, row)),
+            Ok(false) => Err(refuse(rules, &self.seen, accepted, max_rows, row)),
             Err(_) => Err(LoadFault::Memory),
         }
     }

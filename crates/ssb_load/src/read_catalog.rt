@@ -1,9 +1,7 @@
 // Reading a catalog, from what a source gives or from a reader.
 
-ghost use Rattle.std.specs.Prelude.{◌≡◌, ◌<◌, ◌++◌, ℕ, List, IfErr, IfSome, OnOk};
-ghost use Rattle.ssb_load.specs.CatalogReading.{IsCatalogFault, IsCatalogCutShort, ReadsCatalog};
-ghost use Rattle.ssb_load.specs.Giving.{given_since};
-ghost use Rattle.ssb_load.specs.Loading.{IfRead};
+ghost use Rattle.std.specs.Prelude.{ℕ, List, IfErr, IfSome};
+ghost use Rattle.ssb_load.specs.CatalogReading.{IsCatalogFault, ReadsCatalog, ReadsFrom};
 ghost use Rattle.ssb_load.specs.Records.{records_of};
 
 use crate::catalog::Catalog;
@@ -43,14 +41,7 @@ impl Catalog {
     /// source failed, with a number one above that of the whole lines' records, which are all good;
     /// `Memory` where a growth was refused.
     pub fn read_from<S: Source>(alloc: Global, source: &mut S) -> Result<Catalog, LoadFault>
-        ensures grows { S.given source.new ≡ S.given source.old ++ given_since (S.given source.old) (S.given source.new) }
-        ensures reads { ReadsCatalog (records_of (given_since (S.given source.old) (S.given source.new))) result }
-        ensures ended { OnOk result (S.ends source.old < S.ends source.new) }
-        ensures broken { IfErr result (λ e. IfRead e (λ n. S.failures source.old < S.failures source.new)) }
-        ensures short { IfErr result (λ e. IfRead e (IsCatalogCutShort (given_since (S.given source.old) (S.given source.new)))) }
-        ensures whole { S.whole source.new ≡ S.whole source.old }
-        ensures told { IfSome (S.whole source.old) (λ all. ReadsCatalog (records_of (given_since (S.given source.old) all)) result) }
-        ensures faults { IfErr result IsCatalogFault }
+        ensures { ReadsFrom S.given S.failures S.ends S.whole source.old source.new result }
     {
         Catalog::read_in_pieces(alloc, source, PIECE_SIZE)
     }
@@ -66,14 +57,7 @@ impl Catalog {
         source: &mut S,
         size: usize,
     ) -> Result<Catalog, LoadFault>
-        ensures grows { S.given source.new ≡ S.given source.old ++ given_since (S.given source.old) (S.given source.new) }
-        ensures reads { ReadsCatalog (records_of (given_since (S.given source.old) (S.given source.new))) result }
-        ensures ended { OnOk result (S.ends source.old < S.ends source.new) }
-        ensures broken { IfErr result (λ e. IfRead e (λ n. S.failures source.old < S.failures source.new)) }
-        ensures short { IfErr result (λ e. IfRead e (IsCatalogCutShort (given_since (S.given source.old) (S.given source.new)))) }
-        ensures whole { S.whole source.new ≡ S.whole source.old }
-        ensures told { IfSome (S.whole source.old) (λ all. ReadsCatalog (records_of (given_since (S.given source.old) all)) result) }
-        ensures faults { IfErr result IsCatalogFault }
+        ensures { ReadsFrom S.given S.failures S.ends S.whole source.old source.new result }
     {
         let mut intake = CatalogIntake::new(alloc);
         match take_all(alloc, source, size, &mut intake) {
@@ -82,6 +66,3 @@ impl Catalog {
         }
     }
 }
-
-#[cfg(test)]
-mod tests;

@@ -1,9 +1,8 @@
 // Reading a table, from what a source gives or from a reader.
 
-ghost use Rattle.std.specs.Prelude.{◌≡◌, ◌<◌, ◌++◌, ℕ, List, IfSome, IfOk, IfErr, OnOk, length, map};
-ghost use Rattle.ssb_load.specs.Giving.{given_since};
+ghost use Rattle.std.specs.Prelude.{◌≡◌, ◌<◌, ℕ, List, IfSome, IfOk, IfErr, length, map};
 ghost use Rattle.ssb_load.specs.Lawful.{HasOneKey, IsLawful};
-ghost use Rattle.ssb_load.specs.Loading.{IfRead, IsCutShort, IsTableFault, Loads, rules_at};
+ghost use Rattle.ssb_load.specs.Loading.{IsTableFault, Loads, LoadsFrom, rules_at};
 ghost use Rattle.ssb_load.specs.Records.{records_of};
 
 use crate::catalog::{Catalog, ColumnDef};
@@ -80,15 +79,7 @@ pub fn load_from<S: Source>(
     source: &mut S,
 ) -> Result<Table, LoadFault>
     requires { table < length catalog.now }
-    ensures grows { S.given source.new ≡ S.given source.old ++ given_since (S.given source.old) (S.given source.new) }
-    ensures loads { Loads (rules_at catalog.now table) max_rows (records_of (given_since (S.given source.old) (S.given source.new))) result }
-    ensures ended { OnOk result (S.ends source.old < S.ends source.new) }
-    ensures broken { IfErr result (λ e. IfRead e (λ n. S.failures source.old < S.failures source.new)) }
-    ensures short { IfErr result (λ e. IfRead e (IsCutShort (rules_at catalog.now table) max_rows (given_since (S.given source.old) (S.given source.new)))) }
-    ensures whole { S.whole source.new ≡ S.whole source.old }
-    ensures told { IfSome (S.whole source.old) (λ all. Loads (rules_at catalog.now table) max_rows (records_of (given_since (S.given source.old) all)) result) }
-    ensures lawful { IfOk result (λ t. IsLawful (rules_at catalog.now table) max_rows t) }
-    ensures faults { IfErr result IsTableFault }
+    ensures { LoadsFrom S.given S.failures S.ends S.whole (rules_at catalog.now table) max_rows source.old source.new result }
 {
     load_in_pieces(alloc, catalog, table, max_rows, source, PIECE_SIZE)
 }
@@ -107,15 +98,7 @@ pub fn load_in_pieces<S: Source>(
     size: usize,
 ) -> Result<Table, LoadFault>
     requires { table < length catalog.now }
-    ensures grows { S.given source.new ≡ S.given source.old ++ given_since (S.given source.old) (S.given source.new) }
-    ensures loads { Loads (rules_at catalog.now table) max_rows (records_of (given_since (S.given source.old) (S.given source.new))) result }
-    ensures ended { OnOk result (S.ends source.old < S.ends source.new) }
-    ensures broken { IfErr result (λ e. IfRead e (λ n. S.failures source.old < S.failures source.new)) }
-    ensures short { IfErr result (λ e. IfRead e (IsCutShort (rules_at catalog.now table) max_rows (given_since (S.given source.old) (S.given source.new)))) }
-    ensures whole { S.whole source.new ≡ S.whole source.old }
-    ensures told { IfSome (S.whole source.old) (λ all. Loads (rules_at catalog.now table) max_rows (records_of (given_since (S.given source.old) all)) result) }
-    ensures lawful { IfOk result (λ t. IsLawful (rules_at catalog.now table) max_rows t) }
-    ensures faults { IfErr result IsTableFault }
+    ensures { LoadsFrom S.given S.failures S.ends S.whole (rules_at catalog.now table) max_rows source.old source.new result }
 {
     let Ok(rules) = rules_at(alloc, catalog, table) else {
         return Err(LoadFault::Memory);
@@ -128,6 +111,3 @@ pub fn load_in_pieces<S: Source>(
         Err(fault) => Err(fault),
     }
 }
-
-#[cfg(test)]
-mod tests;

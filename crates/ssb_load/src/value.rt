@@ -2,7 +2,8 @@
 
 ghost use Rattle.std.specs.Prelude.{◌≡◌, ◌||◌, is_none, IfSome};
 ghost use Rattle.ssb_cells.specs.Values.{cell_of, IsOfType};
-ghost use Rattle.ssb_load.specs.Rules.{fails, cell_in};
+ghost use Rattle.ssb_load.specs.Rules.{cell_in};
+ghost use Rattle.ssb_load.specs.Loader.{fails};
 ghost use Rattle.ssb_load.specs.declared.rule.Test.TheVariants as tests;
 
 use crate::number::number;

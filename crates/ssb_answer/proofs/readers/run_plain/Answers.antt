@@ -1,5 +1,5 @@
 use Rattle.std.proofs.Common.{◌≡◌, ◌∙◌, List, ap, map, subst}
-use Rattle.ssb_answer.specs.Loaded.{Bytes, given_each}
+use Rattle.ssb_load.specs.Files.{Bytes, given_each}
 use Rattle.ssb_answer.specs.Reply.{Replies}
 use Rattle.ssb_answer.proofs.Fresh.{fresh-each}
 use Rattle.ssb_answer.proofs.readers.run_plain.Goals as goal

@@ -15,10 +15,10 @@ refuse-requires-in-Ok-false-clause-faulty c none =
 
 pub returns-in-Ok-true-add_key-clause-taken : goal.returns-in-Ok-true-add_key-clause-taken
 returns-in-Ok-true-add_key-clause-taken c =
-    let some : any_from fails_some 0 c.args.plan.now (fields_of c.args.row.now) ≡ false = rw c.in-Ok-true.field-0-test at c.in-Ok-true.ensures.fails in
-    let a = all-pass c.args.plan.now (fields_of c.args.row.now) some in
+    let some : any_from fails_some 0 c.args.rules.now (fields_of c.args.row.now) ≡ false = rw c.in-Ok-true.field-0-test at c.in-Ok-true.ensures.fails in
+    let a = all-pass c.args.rules.now (fields_of c.args.row.now) some in
     let new = rw (c.number_in_field.ensures, c.requires.key, c.in-Ok-true-add_key.field-0-test) at c.in-Ok-true-add_key.ensures.fresh in
-    no-fault c.args.plan.now c.args.max_rows c.args.accepted (seen_in c.args.self.now.seen.keys) (fields_of c.args.row.now) (record {
+    no-fault c.args.rules.now c.args.max_rows c.args.accepted (seen_in c.args.self.now.seen.keys) (fields_of c.args.row.now) (record {
       width = search rules;
       text = search rules;
       numbers = a.0;

@@ -3,4 +3,4 @@ use Rattle.ssb_load.specs.Rules.{columns_of}
 use Rattle.ssb_load.proofs.loader.Loader.new.Given as goal
 
 abbrev pub invariant-loop-k : goal.invariant-loop-k
-invariant-loop-k l = l.columns.items ≡ columns_of (take l.k l.plan) []
+invariant-loop-k l = l.columns.items ≡ columns_of (take l.k l.rules) []

@@ -15,8 +15,8 @@ returns-in-Ok-clause-taken c good h =
     let t = c.args.self.now in
     let f = fields_of c.args.row.now in
     let e = c.in-Ok.ensures in
-    let plan = c.deref.ensures.value in
-    let none = sym (same-fault t.rules.items t.max_rows good t.loader.seen.keys t.loader.columns.items f h.holds) ∙ (rw (h.count, ← plan) e.taken) in
+    let rules = c.deref.ensures.value in
+    let none = sym (same-fault t.rules.items t.max_rows good t.loader.seen.keys t.loader.columns.items f h.holds) ∙ (rw (h.count, ← rules) e.taken) in
     let n = length-append good (f ∷ []) in
     let m = h.count in
     let lt = e.room in
@@ -25,7 +25,7 @@ returns-in-Ok-clause-taken c good h =
       room = omega (arith, lt);
       few = omega arith;
       clean = fault-more t.rules.items t.max_rows good f h.clean none;
-      holds = holds-more t.rules.items good f t.loader.seen.keys _ t.loader.columns.items _ h.holds (rw plan at e.seen) (rw plan at e.columns);
+      holds = holds-more t.rules.items good f t.loader.seen.keys _ t.loader.columns.items _ h.holds (rw rules at e.seen) (rw rules at e.columns);
       key = h.key;
     }
 

@@ -4,18 +4,16 @@ use Rattle.std.specs.Prelude.{slice_get, slice_index, slice_set, unwrap_or, ⊤}
 use Rattle.std.proofs.Math.Seq.{drop-length}
 use Rattle.std.proofs.lemmas.List.{append-nil, take_all}
 use Rattle.ssb_load.specs.Giving.{given_since}
-use Rattle.ssb_load.specs.Lawful.{IsLawful, most_rows}
-use Rattle.ssb_load.specs.Loading.{IfRead, IsCutShort, Loads, rules_at}
+use Rattle.ssb_load.specs.Lawful.{most_rows}
+use Rattle.ssb_load.specs.CutShort.{IfRead}
+use Rattle.ssb_load.specs.Loading.{Loads, LoadsFrom, rules_at}
 use Rattle.ssb_load.specs.Records.{records_of}
 use Rattle.ssb_load.specs.Shapes.{TableShape, rules_of}
 use Rattle.ssb_load.specs.declared.fault.RecordFault.{RecordFault}
 use Rattle.ssb_load.specs.declared.fault.LoadFault.{LoadFault}
 use Rattle.ssb_load.specs.declared.fault.LoadFault.TheVariants as load
 use Rattle.ssb_load.specs.declared.rule.Rule.{Rule}
-use Rattle.ssb_job.specs.Kept.{Columns}
-use Rattle.ssb_job.specs.Loaded.{AreLawful}
-use Rattle.ssb_answer.specs.Loaded.{Bytes, FailedAt, GrewEach, IfReadOf, IsLoadFault, LoadsAll, RoseEach, file_table, given_each, told, loaded_from, loaded}
-use Rattle.ssb_answer.specs.declared.run_fault.RunFault.TheVariants as run
+use Rattle.ssb_load.specs.Files.{AreLawful, Bytes, Columns, FailedAt, FailsAt, GrewEach, RoseEach, file_table, given_each, loaded_from, loaded}
 
 -- what a source tells of itself
 pub record Members (S : Type 0) : Type 0 where
@@ -25,16 +23,8 @@ pub record Members (S : Type 0) : Type 0 where
   pub whole : S → Option Bytes
 
 -- a load of one source, from its state before to that after
-pub record Turn {S : Type 0} (m : Members S) (rules : List Rule) (before after : S) (r : Result Columns LoadFault) : Type 0 where
-  pub grows : m.given after ≡ m.given before ++ given_since (m.given before) (m.given after)
-  pub loads : Loads rules most_rows (records_of (given_since (m.given before) (m.given after))) r
-  pub told : IfSome (m.whole before) (λ all. Loads rules most_rows (records_of (given_since (m.given before) all)) r)
-
--- and it gave a table
-pub record Gave {S : Type 0} (m : Members S) (s : TableShape) (before after : S) (t : Columns) : Type 0 where
-  pub turn : Turn m (rules_of s) before after (Ok t)
-  pub ended : m.ends before < m.ends after
-  pub lawful : IsLawful (rules_of s) most_rows t
+abbrev pub Turn : {S : Type 0} → Members S → List Rule → S → S → Result Columns LoadFault → Type 0
+Turn m rules before after r = LoadsFrom m.given m.failures m.ends m.whole rules most_rows before after r
 
 -- the tables of the first sources are loaded, and the other sources are as before
 abbrev pub Done : {S : Type 0} → Members S → List TableShape → List S → List S → List Columns → Type 0
@@ -43,7 +33,7 @@ Done m [] before now (t ∷ ts) = ⊥
 Done m (s ∷ ss) [] now ts = ⊥
 Done m (s ∷ ss) (b ∷ bs) [] ts = ⊥
 Done m (s ∷ ss) (b ∷ bs) (n ∷ ns) [] = ⊥
-Done m (s ∷ ss) (b ∷ bs) (n ∷ ns) (t ∷ ts) = Gave m s b n t × Done m ss bs ns ts
+Done m (s ∷ ss) (b ∷ bs) (n ∷ ns) (t ∷ ts) = Turn m (rules_of s) b n (Ok t) × Done m ss bs ns ts
 
 -- the source whose turn it is, is as before
 pub same-at : {S : Type 0} (m : Members S) (ss : List TableShape) (before now : List S) (ts : List Columns) (d : S) → Done m ss before now ts → get_or now (length ss) d ≡ get_or before (length ss) d
@@ -64,10 +54,10 @@ done-length m (s ∷ ss) (b ∷ bs) (n ∷ ns) (t ∷ ts) h = let e = done-lengt
 
 -- one table more
 pub done-more : {S : Type 0} (m : Members S) (ss : List TableShape) (s : TableShape) (before now : List S) (ts : List Columns) (d after : S) (t : Columns) → Done m ss before now ts → length ss < length before
-    → Gave m s (get_or now (length ss) d) after t → Done m (ss ++ s ∷ []) before (slice_set now (length ss) after) (ts ++ t ∷ [])
+    → Turn m (rules_of s) (get_or now (length ss) d) after (Ok t) → Done m (ss ++ s ∷ []) before (slice_set now (length ss) after) (ts ++ t ∷ [])
 done-more m [] s [] now [] d after t h lt g = absurd (omega arith)
 done-more m [] s (b ∷ bs) [] [] d after t h lt g = cc h
-done-more m [] s (b ∷ bs) (n ∷ ns) [] d after t h lt g = let here : n ≡ b = cc in (subst (λ x. Gave m s x after t) here g, cc)
+done-more m [] s (b ∷ bs) (n ∷ ns) [] d after t h lt g = let here : n ≡ b = cc in (subst (λ x. Turn m (rules_of s) x after (Ok t)) here g, cc)
 done-more m [] s before now (u ∷ us) d after t h lt g = absurd h
 done-more m (r ∷ rs) s [] now ts d after t h lt g = absurd h
 done-more m (r ∷ rs) s (b ∷ bs) [] ts d after t h lt g = absurd h
@@ -90,7 +80,7 @@ reads-given m [] before now (t ∷ ts) h = absurd h
 reads-given m (s ∷ ss) [] now ts h = absurd h
 reads-given m (s ∷ ss) (b ∷ bs) [] ts h = absurd h
 reads-given m (s ∷ ss) (b ∷ bs) (n ∷ ns) [] h = absurd h
-reads-given m (s ∷ ss) (b ∷ bs) (n ∷ ns) (t ∷ ts) h = (h.0.turn.loads, reads-given m ss bs ns ts h.1)
+reads-given m (s ∷ ss) (b ∷ bs) (n ∷ ns) (t ∷ ts) h = (h.0.loads, reads-given m ss bs ns ts h.1)
 
 if-some : {A : Type 0} (P : A → Type 0) (o : Option A) (a : A) → o ≡ Some a → IfSome o P → P a
 if-some P None a e h = cc e
@@ -107,7 +97,7 @@ reads-told m (s ∷ ss) (b ∷ bs) (n ∷ ns) (t ∷ ts) [] h e = cc e
 reads-told m (s ∷ ss) (b ∷ bs) (n ∷ ns) (t ∷ ts) (f ∷ fs) h e =
     let here : m.whole b ≡ Some f = cc in
     let rest : map m.whole bs ≡ map Some fs = cc in
-    (if-some (λ all. Loads (rules_of s) most_rows (records_of (given_since (m.given b) all)) (Ok t)) (m.whole b) f here h.0.turn.told, reads-told m ss bs ns ts fs h.1 rest)
+    (if-some (λ all. Loads (rules_of s) most_rows (records_of (given_since (m.given b) all)) (Ok t)) (m.whole b) f here h.0.told, reads-told m ss bs ns ts fs h.1 rest)
 
 -- files that are all read are the tables
 pub loaded-all : (j : ℕ) (ss : List TableShape) (files : List Bytes) (ts : List Columns) → Reads ss files ts → loaded_from j ss files ≡ Ok ts
@@ -127,12 +117,12 @@ reads-after m [] before now (t ∷ ts) after h = absurd h
 reads-after m (s ∷ ss) [] now ts after h = absurd h
 reads-after m (s ∷ ss) (b ∷ bs) [] ts after h = absurd h
 reads-after m (s ∷ ss) (b ∷ bs) (n ∷ ns) [] after h = absurd h
-reads-after m (s ∷ ss) (b ∷ bs) (n ∷ ns) (t ∷ ts) after h = (h.0.turn.loads, reads-after m ss bs ns ts after h.1)
+reads-after m (s ∷ ss) (b ∷ bs) (n ∷ ns) (t ∷ ts) after h = (h.0.loads, reads-after m ss bs ns ts after h.1)
 
 -- the first file that is no table, of those given
 pub fails-given : {S : Type 0} (m : Members S) (j : ℕ) (ss rest : List TableShape) (s : TableShape) (before now : List S) (ts : List Columns) (d after : S) (f : RecordFault) (n : ℕ) → Done m ss before now ts → length ss < length before
     → file_table s (given_since (m.given (get_or now (length ss) d)) (m.given after)) ≡ Err (f, n)
-    → loaded_from j (ss ++ s ∷ rest) (given_each (map m.given before) (map m.given (slice_set now (length ss) after))) ≡ Err (run.Load (j + length ss) (load.Record f n))
+    → loaded_from j (ss ++ s ∷ rest) (given_each (map m.given before) (map m.given (slice_set now (length ss) after))) ≡ Err (j + length ss, f, n)
 fails-given m j [] rest s [] now [] d after f n h lt is = absurd (omega arith)
 fails-given m j [] rest s (b ∷ bs) [] [] d after f n h lt is = cc h
 fails-given m j [] rest s (b ∷ bs) (x ∷ xs) [] d after f n h lt is =
@@ -144,14 +134,14 @@ fails-given m j (r ∷ rs) rest s [] now ts d after f n h lt is = absurd h
 fails-given m j (r ∷ rs) rest s (b ∷ bs) [] ts d after f n h lt is = absurd h
 fails-given m j (r ∷ rs) rest s (b ∷ bs) (x ∷ xs) [] d after f n h lt is = absurd h
 fails-given m j (r ∷ rs) rest s (b ∷ bs) (x ∷ xs) (t ∷ ts) d after f n h lt is =
-    let here : file_table r (given_since (m.given b) (m.given x)) ≡ Ok t = h.0.turn.loads in
+    let here : file_table r (given_since (m.given b) (m.given x)) ≡ Ok t = h.0.loads in
     let z : j + suc (length rs) ≡ j + 1 + length rs = omega arith in
     rw (here, fails-given m (j + 1) rs rest s bs xs ts d after f n h.1 (omega arith) is, z) refl
 
 -- and of those that are told
 pub fails-told : {S : Type 0} (m : Members S) (j : ℕ) (ss rest : List TableShape) (s : TableShape) (before now : List S) (ts : List Columns) (d : S) (f : RecordFault) (n : ℕ) (files : List Bytes) → Done m ss before now ts
     → length ss < length before → map m.whole before ≡ map Some files → IfSome (m.whole (get_or now (length ss) d)) (λ all. file_table s (given_since (m.given (get_or now (length ss) d)) all) ≡ Err (f, n))
-    → loaded_from j (ss ++ s ∷ rest) (given_each (map m.given before) files) ≡ Err (run.Load (j + length ss) (load.Record f n))
+    → loaded_from j (ss ++ s ∷ rest) (given_each (map m.given before) files) ≡ Err (j + length ss, f, n)
 fails-told m j [] rest s [] now [] d f n files h lt e is = absurd (omega arith)
 fails-told m j [] rest s (b ∷ bs) [] [] d f n files h lt e is = cc h
 fails-told m j [] rest s (b ∷ bs) (x ∷ xs) [] d f n [] h lt e is = cc e
@@ -169,7 +159,7 @@ fails-told m j (r ∷ rs) rest s (b ∷ bs) (x ∷ xs) (t ∷ ts) d f n [] h lt 
 fails-told m j (r ∷ rs) rest s (b ∷ bs) (x ∷ xs) (t ∷ ts) d f n (a ∷ later) h lt e is =
     let told : m.whole b ≡ Some a = cc in
     let more : map m.whole bs ≡ map Some later = cc in
-    let here : file_table r (given_since (m.given b) a) ≡ Ok t = if-some (λ all. Loads (rules_of r) most_rows (records_of (given_since (m.given b) all)) (Ok t)) (m.whole b) a told h.0.turn.told in
+    let here : file_table r (given_since (m.given b) a) ≡ Ok t = if-some (λ all. Loads (rules_of r) most_rows (records_of (given_since (m.given b) all)) (Ok t)) (m.whole b) a told h.0.told in
     let z : j + suc (length rs) ≡ j + 1 + length rs = omega arith in
     rw (here, fails-told m (j + 1) rs rest s bs xs ts d f n later h.1 (omega arith) more is, z) refl
 
@@ -188,7 +178,7 @@ grew-done m [] before now (t ∷ ts) h = absurd h
 grew-done m (s ∷ ss) [] now ts h = absurd h
 grew-done m (s ∷ ss) (b ∷ bs) [] ts h = absurd h
 grew-done m (s ∷ ss) (b ∷ bs) (n ∷ ns) [] h = absurd h
-grew-done m (s ∷ ss) (b ∷ bs) (n ∷ ns) (t ∷ ts) h = (h.0.turn.grows, grew-done m ss bs ns ts h.1)
+grew-done m (s ∷ ss) (b ∷ bs) (n ∷ ns) (t ∷ ts) h = (h.0.grows, grew-done m ss bs ns ts h.1)
 
 pub grew-after : {S : Type 0} (m : Members S) (ss : List TableShape) (before now : List S) (ts : List Columns) (d after : S) → Done m ss before now ts
     → m.given after ≡ m.given (get_or now (length ss) d) ++ given_since (m.given (get_or now (length ss) d)) (m.given after) → GrewEach (map m.given before) (map m.given (slice_set now (length ss) after))
@@ -203,7 +193,7 @@ grew-after m [] before now (t ∷ ts) d after h g = absurd h
 grew-after m (s ∷ ss) [] now ts d after h g = absurd h
 grew-after m (s ∷ ss) (b ∷ bs) [] ts d after h g = absurd h
 grew-after m (s ∷ ss) (b ∷ bs) (n ∷ ns) [] d after h g = absurd h
-grew-after m (s ∷ ss) (b ∷ bs) (n ∷ ns) (t ∷ ts) d after h g = (h.0.turn.grows, grew-after m ss bs ns ts d after h.1 g)
+grew-after m (s ∷ ss) (b ∷ bs) (n ∷ ns) (t ∷ ts) d after h g = (h.0.grows, grew-after m ss bs ns ts d after h.1 g)
 
 pub rose-done : {S : Type 0} (m : Members S) (ss : List TableShape) (before now : List S) (ts : List Columns) → Done m ss before now ts → length before ≤ length ss → RoseEach (map m.ends before) (map m.ends now)
 rose-done m [] [] now [] h le = subst (λ xs. RoseEach [] (map m.ends xs)) (sym h) tt
@@ -221,13 +211,6 @@ lawful-done m (s ∷ ss) [] now ts h = absurd h
 lawful-done m (s ∷ ss) (b ∷ bs) [] ts h = absurd h
 lawful-done m (s ∷ ss) (b ∷ bs) (n ∷ ns) [] h = absurd h
 lawful-done m (s ∷ ss) (b ∷ bs) (n ∷ ns) (t ∷ ts) h = (h.0.lawful, lawful-done m ss bs ns ts h.1)
-
--- the fault of a run is one of loading
-pub told-kind : (n : ℕ) (e : LoadFault) → IsLoadFault (told n e)
-told-kind n (load.Record f k) = tt
-told-kind n (load.BadCatalog f k) = tt
-told-kind n (load.Read k) = tt
-told-kind n load.Memory = tt
 
 -- ---- by the number of the table
 
@@ -256,18 +239,18 @@ pub done-start : {S : Type 0} (m : Members S) (c : List TableShape) (before : Li
 done-start m c before = subst (λ ss. Done m ss before before []) (sym (take-none c)) refl
 
 pub next-done : {S : Type 0} (m : Members S) (c : List TableShape) (k : ℕ) (before now : List S) (ts : List Columns) (d after : S) (t : Columns) → k < length c → length before ≡ length c → Done m (take k c) before now ts
-    → d ≡ get_or now k d → Turn m (rules_at c k) d after (Ok t) → m.ends d < m.ends after → IsLawful (rules_at c k) most_rows t → Done m (take (k + 1) c) before (slice_set now k after) (ts ++ t ∷ [])
-next-done m c k before now ts d after t lt long h here turn ended lawful =
+    → d ≡ get_or now k d → Turn m (rules_at c k) d after (Ok t) → Done m (take (k + 1) c) before (slice_set now k after) (ts ++ t ∷ [])
+next-done m c k before now ts d after t lt long h here turn =
     let a = at c k lt in
     let n = a.long in
-    let gave : Gave m a.shape d after t = record { turn = subst (λ rules. Turn m rules d after (Ok t)) a.rules turn; ended = ended; lawful = subst (λ rules. IsLawful rules most_rows t) a.rules lawful } in
-    let placed : Gave m a.shape (get_or now (length (take k c)) d) after t = rw (n, ← here) gave in
+    let gave = subst (λ rules. Turn m rules d after (Ok t)) a.rules turn in
+    let placed : Turn m (rules_of a.shape) (get_or now (length (take k c)) d) after (Ok t) = rw (n, ← here) gave in
     let more = done-more m (take k c) a.shape before now ts d after t h (omega (arith, n, lt, long)) placed in
     subst (λ ss. Done m ss before (slice_set now k after) (ts ++ t ∷ [])) (sym a.next) (rw n at more)
 
--- the fault of the run where a load failed
+-- the fault where a load failed
 pub stop-loads : {S : Type 0} (m : Members S) (c : List TableShape) (k : ℕ) (before now : List S) (ts : List Columns) (d after : S) (e : LoadFault) → k < length c → length before ≡ length c → Done m (take k c) before now ts
-    → d ≡ get_or now k d → Turn m (rules_at c k) d after (Err e) → LoadsAll c (given_each (map m.given before) (map m.given (slice_set now k after))) (Err (told k e))
+    → d ≡ get_or now k d → Turn m (rules_at c k) d after (Err e) → FailsAt c (given_each (map m.given before) (map m.given (slice_set now k after))) k e
 stop-loads m c k before now ts d after (load.Record f n) lt long h here turn =
     let a = at c k lt in
     let l = a.long in
@@ -280,7 +263,7 @@ stop-loads m c k before now ts d after (load.Read n) lt long h here turn = tt
 stop-loads m c k before now ts d after load.Memory lt long h here turn = tt
 
 pub stop-told : {S : Type 0} (m : Members S) (c : List TableShape) (k : ℕ) (before now : List S) (ts : List Columns) (d after : S) (e : LoadFault) (files : List Bytes) → k < length c → length before ≡ length c → Done m (take k c) before now ts
-    → d ≡ get_or now k d → Turn m (rules_at c k) d after (Err e) → map m.whole before ≡ map Some files → LoadsAll c (given_each (map m.given before) files) (Err (told k e))
+    → d ≡ get_or now k d → Turn m (rules_at c k) d after (Err e) → map m.whole before ≡ map Some files → FailsAt c (given_each (map m.given before) files) k e
 stop-told m c k before now ts d after (load.Record f n) files lt long h here turn e =
     let a = at c k lt in
     let l = a.long in
@@ -317,12 +300,12 @@ file-at given (b ∷ bs) (n ∷ ns) zero d after lt ln = refl
 file-at given (b ∷ bs) (n ∷ ns) (suc k) d after lt ln = file-at given bs ns k d after (omega arith) (omega arith)
 
 pub stop-failed : {S : Type 0} (m : Members S) (c : List TableShape) (k : ℕ) (before now : List S) (ts : List Columns) (d after : S) (e : LoadFault) → k < length c → length before ≡ length c → Done m (take k c) before now ts
-    → d ≡ get_or now k d → IfRead e (λ n. m.failures d < m.failures after) → IfRead e (IsCutShort (rules_at c k) most_rows (given_since (m.given d) (m.given after)))
-    → IfReadOf (told k e) (FailedAt c (given_each (map m.given before) (map m.given (slice_set now k after))) (map m.failures before) (map m.failures (slice_set now k after)))
-stop-failed m c k before now ts d after (load.Record f n) lt long h here rose short = tt
-stop-failed m c k before now ts d after (load.BadCatalog f n) lt long h here rose short = tt
-stop-failed m c k before now ts d after load.Memory lt long h here rose short = tt
-stop-failed m c k before now ts d after (load.Read n) lt long h here rose short =
+    → d ≡ get_or now k d → Turn m (rules_at c k) d after (Err e)
+    → IfRead e (FailedAt c (given_each (map m.given before) (map m.given (slice_set now k after))) (map m.failures before) (map m.failures (slice_set now k after)) k)
+stop-failed m c k before now ts d after (load.Record f n) lt long h here turn = tt
+stop-failed m c k before now ts d after (load.BadCatalog f n) lt long h here turn = tt
+stop-failed m c k before now ts d after load.Memory lt long h here turn = tt
+stop-failed m c k before now ts d after (load.Read n) lt long h here turn =
     let a = at c k lt in
     let l = a.long in
     let len = done-length m (take k c) before now ts h in
@@ -337,8 +320,8 @@ stop-failed m c k before now ts d after (load.Read n) lt long h here rose short 
     record {
       tables = ts;
       loads = loaded-all 0 (take k c) _ ts reads;
-      rose = omega (arith, old, new, rose);
-      short = rw file short;
+      rose = let more = turn.broken in omega (arith, old, new, more);
+      short = rw file turn.short;
     }
 
 pub stop-grows : {S : Type 0} (m : Members S) (c : List TableShape) (k : ℕ) (before now : List S) (ts : List Columns) (d after : S) → k < length c → Done m (take k c) before now ts → d ≡ get_or now k d

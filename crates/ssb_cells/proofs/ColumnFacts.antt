@@ -4,7 +4,8 @@ use Rattle.std.proofs.Common.{ℤ, vec_len}
 use Rattle.ssb_cells.specs.Cell.{Cell, null, number, text}
 use Rattle.ssb_cells.specs.declared.value.ColType.{ColType}
 use Rattle.ssb_cells.specs.declared.value.ColType.TheVariants as kinds
-use Rattle.ssb_cells.specs.Values.{cell_of, is_null_value, number_in, text_in, IsOfType}
+use Rattle.ssb_cells.specs.Values.{cell_of, is_null_value, IsOfType}
+use Rattle.ssb_cells.specs.Stored.{number_in, text_in}
 use Rattle.ssb_cells.specs.declared.value.Value.{Value}
 use Rattle.ssb_cells.specs.declared.value.Value.TheVariants as values
 use Rattle.ssb_cells.specs.declared.column.Column.TheInside.{Inside}

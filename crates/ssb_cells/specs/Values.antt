@@ -1,7 +1,9 @@
--- What a contract sees of a value that is handed over.
+-- What a contract sees of a value that is handed over, and of one that is kept.
 -- Source: own.
-use Rattle.std.specs.Prelude.{⊤, ℕ, ℤ, pos, Bool, true, false, List, []}
+use Rattle.std.specs.Prelude.{⊤, Bool, true, false, string_bytes}
 use Rattle.ssb_cells.specs.Cell.{Cell, null, number, text}
+use Rattle.ssb_cells.specs.declared.owned.OwnedValue.{OwnedValue}
+use Rattle.ssb_cells.specs.declared.owned.OwnedValue.TheVariants as owned
 use Rattle.ssb_cells.specs.declared.value.ColType.{ColType}
 use Rattle.ssb_cells.specs.declared.value.ColType.TheVariants as kinds
 use Rattle.ssb_cells.specs.declared.value.Value.{Value}
@@ -25,14 +27,8 @@ is_null_value values.Null = true
 is_null_value (values.Int n) = false
 is_null_value (values.Text t) = false
 
--- the number, or 0
-abbrev pub number_in : Value → ℤ
-number_in values.Null = pos 0
-number_in (values.Int n) = n
-number_in (values.Text t) = pos 0
-
--- the text, or the empty one
-abbrev pub text_in : Value → List ℕ
-text_in values.Null = []
-text_in (values.Int n) = []
-text_in (values.Text t) = t.now
+-- a value that is kept
+abbrev pub owned_cell : OwnedValue → Cell
+owned_cell owned.Null = null
+owned_cell (owned.Number n) = number n
+owned_cell (owned.Text t) = text (string_bytes t)

@@ -11,6 +11,7 @@
 pub mod column;
 pub mod name;
 pub mod order;
+pub mod owned;
 pub mod table;
 #[cfg(test)]
 mod tests;
@@ -21,6 +22,7 @@ pub mod value;
 pub use column::Column;
 pub use name::{Name, is_name, is_reserved, is_word_byte};
 pub use order::{compare, sort_cmp};
+pub use owned::OwnedValue;
 pub use table::Table;
 pub use truth::Truth;
 pub use value::{ColType, Op, Value};

@@ -40,7 +40,8 @@ pub enum Value<'a> {
 }
 
 impl<'a> Value<'a> {
-    ghost use Rattle.ssb_cells.specs.Values.{is_null_value, number_in, text_in};
+    ghost use Rattle.ssb_cells.specs.Stored.{number_in, text_in};
+    ghost use Rattle.ssb_cells.specs.Values.{is_null_value};
 
     /// Whether there is no value.
     pub fn is_null(self) -> bool

@@ -7,10 +7,11 @@ ghost use Rattle.ssb_load.specs.Intake.{AreGood, Refuses, StopsBy, StopsIn, Subj
 ghost use Rattle.ssb_load.specs.CutShort.{IfRead};
 ghost use Rattle.ssb_load.specs.Records.{Fields, records_of};
 
+use crate::bars::bar_reader;
 use crate::fault::LoadFault;
 use crate::pieces::Pieces;
 use crate::source::Source;
-use csv::{ByteRecord, ReaderBuilder};
+use csv::ByteRecord;
 use std::alloc::Global;
 use std::io::Read;
 
@@ -52,12 +53,7 @@ fn take_text<T: Intake>(
     ensures taken { OnOk result ((good : List Fields) → T.stands intake.old good → T.stands intake.new (good ++ records_of (before.now ++ text.now))) }
     ensures refused { IfErr result (λ e. (good rest : List Fields) → T.stands intake.old good → Refuses (T.subject intake.old) (good ++ (records_of (before.now ++ text.now) ++ rest)) e) }
 {
-    let mut reader = ReaderBuilder::new()
-        .delimiter(b'|')
-        .has_headers(false)
-        .flexible(true)
-        .quoting(false)
-        .from_reader(alloc, before.chain(text));
+    let mut reader = bar_reader(alloc, before.chain(text));
     for _ in 0..u64::MAX {
         match reader.read_byte_record(row) {
             Ok(true) => {}

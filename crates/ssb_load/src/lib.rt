@@ -7,6 +7,7 @@
 #![tactic(auto)]
 
 mod all_tables;
+mod bars;
 mod benchmark;
 mod built_in;
 pub mod catalog;
@@ -30,6 +31,7 @@ mod table_intake;
 mod value;
 
 pub use all_tables::load_all;
+pub use bars::bar_reader;
 pub use catalog::{Catalog, ColumnDef, TableDef};
 pub use fault::{CatalogFault, FileFault, LoadFault, RecordFault};
 pub use history::History;

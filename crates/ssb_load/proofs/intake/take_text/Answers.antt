@@ -11,14 +11,11 @@ use Rattle.ssb_load.proofs.intake.take_text.Goals as goal
 
 pub loop-init : goal.loop-init
 loop-init g c =
-    let fr = c.from_reader-reader.ensures in
+    let fr = c.bar_reader-reader.ensures in
     record {
       done = [];
-      reading = reading-start text_left (Some (c.args.before.now ++ c.args.text.now)) c.from_reader-reader.result
-          (rw (c.quoting.ensures, c.flexible.ensures, c.has_headers.ensures, c.delimiter.ensures, c.new.ensures.config) at fr.config)
-          (rw (c.quoting.ensures, c.flexible.ensures, c.has_headers.ensures, c.delimiter.ensures, c.new.ensures.trim) at fr.trim)
-          (rw (c.quoting.ensures, c.flexible.ensures) at fr.flexible)
-          (inr (inr (rw (c.quoting.ensures, c.flexible.ensures, c.has_headers.ensures) at fr.has_headers, fr.headers)))
+      reading = reading-start text_left (Some (c.args.before.now ++ c.args.text.now)) c.bar_reader-reader.result
+          fr.config fr.trim fr.flexible (inr (inr (fr.has_headers, fr.headers)))
           (fr.source ∙ ap (option_map strip_bom) c.chain.ensures.bytes) fr.state;
       same = refl;
       moved = λ good h. subst (g.T.Intake.stands c.args.intake.now) (sym (append-nil good)) h;

@@ -1,0 +1,64 @@
+// Values that are kept.
+
+ghost use Rattle.std.specs.Prelude.{◌≡◌, IfOk, OnOk};
+ghost use Rattle.ssb_cells.specs.Values.{cell_of, owned_cell};
+
+use crate::value::Value;
+use std::alloc::{AllocError, Global};
+
+/// A value that is kept: of a group column, or of a row of an answer.
+#[derive(PartialEq, Eq, Hash, Drop, Debug)]
+pub enum OwnedValue {
+    /// No value.
+    Null,
+    /// A number.
+    Number(i64),
+    /// A text.
+    Text(String),
+}
+
+impl OwnedValue {
+    /// A value, kept.
+    pub fn of(alloc: Global, value: Value<'_>) -> Result<OwnedValue, AllocError>
+        ensures { IfOk result (λ c. owned_cell c ≡ cell_of value.entry) }
+    {
+        match value {
+            Value::Null => Ok(OwnedValue::Null),
+            Value::Int(number) => Ok(OwnedValue::Number(number)),
+            Value::Text(text) => Ok(OwnedValue::Text(String::from_str(alloc, text)?)),
+        }
+    }
+
+    /// Becomes a value; a text takes the room of the one before. A refused growth leaves another
+    /// value, or a part of this one's text.
+    pub fn set(&mut self, alloc: Global, value: Value<'_>) -> Result<(), AllocError>
+        ensures { OnOk result (owned_cell self.new ≡ cell_of value.entry) }
+    {
+        if let OwnedValue::Text(text) = self {
+            if let Value::Text(new) = value {
+                text.clear();
+                return text.push_str(new);
+            }
+        }
+        *self = OwnedValue::of(alloc, value)?;
+        Ok(())
+    }
+
+    /// A copy.
+    pub fn copy(&self, alloc: Global) -> Result<OwnedValue, AllocError>
+        ensures { IfOk result (λ c. owned_cell c ≡ owned_cell self.now) }
+    {
+        OwnedValue::of(alloc, self.value())
+    }
+
+    /// The value.
+    pub fn value(&self) -> Value<'_>
+        ensures { cell_of result ≡ owned_cell self.now }
+    {
+        match self {
+            OwnedValue::Null => Value::Null,
+            OwnedValue::Number(number) => Value::Int(*number),
+            OwnedValue::Text(text) => Value::Text(text.as_str()),
+        }
+    }
+}

@@ -13,8 +13,6 @@ pub mod name;
 pub mod order;
 pub mod owned;
 pub mod table;
-#[cfg(test)]
-mod tests;
 mod texts;
 pub mod truth;
 pub mod value;

@@ -24,7 +24,7 @@ use Rattle.ssb_sql.specs.Conditions.IsAnds.{no_and, and}
 use Rattle.ssb_sql.specs.Conditions.IsNeg.{plain, not}
 use Rattle.ssb_sql.specs.Conditions.IsTest.{parens, bare}
 use Rattle.ssb_sql.specs.Grammar.{IsWithin}
-use Rattle.ssb_sql.specs.Steps.{Parser, after, is_fixed, is_sign, chain_at, more_at, list_at, parens_at}
+use Rattle.ssb_sql.specs.Steps.{Parser, after, is_fixed, is_sign, chain_at, more_at, list_at, parens_at, chained_at}
 use Rattle.ssb_sql.specs.ReadParts.{literal_at, operand_at}
 use Rattle.ssb_sql.specs.ReadConditions.{op_at, limits_at, members_at, between_of, in_of, range_at, null_at, compared_at, tail_at, bare_at, test_at, neg_at, conj_at, cond_at}
 use Rattle.ssb_sql.proofs.StepFacts.{Stops, stops, differs, sees}
@@ -209,11 +209,11 @@ unfolding neg_at
 not_goes p ts to x e = rw (sees s.Not ts, e) refl
 
 conj_goes : (p : Parser Condition) (ts mid to : List Token) (x : Condition) (xs : List Condition) → neg_at p ts ≡ Some (x, mid) → more_at (after s.And) (neg_at p) (x ∷ []) mid ≡ Some (x ∷ xs, to) → conj_at p ts ≡ Some (all_of (x ∷ xs), to)
-unfolding conj_at
+unfolding conj_at chained_at
 conj_goes p ts mid to x xs e f = rw (e, f) refl
 
 disj_goes : (d : ℕ) (ts mid to : List Token) (x : Condition) (xs : List Condition) → conj_at (cond_at d) ts ≡ Some (x, mid) → more_at (after s.Or) (conj_at (cond_at d)) (x ∷ []) mid ≡ Some (x ∷ xs, to) → cond_at (suc d) ts ≡ Some (any_of (x ∷ xs), to)
-unfolding cond_at
+unfolding cond_at chained_at
 disj_goes d ts mid to x xs e f = rw (e, f) refl
 
 ors_end : {from to : List Token} {xs : List Condition} → IsOrs IsTested from to xs → (sign : Sign) → is_sign s.Or sign ≡ false → Stops sign to → Stops sign from

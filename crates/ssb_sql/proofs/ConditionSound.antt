@@ -1,5 +1,5 @@
 -- What is read as a condition is one.
-use Rattle.std.proofs.Common.{◌≡◌, ℕ, zero, suc, ◌<◌, ◌≤◌, List, [], ◌∷◌, length, Some, subst, arith, inl, inr}
+use Rattle.std.proofs.Common.{◌≡◌, ℕ, zero, suc, ◌<◌, ◌≤◌, List, ◌∷◌, length, Some, subst, arith, inl, inr}
 use Rattle.ssb_sql.specs.declared.token.Token.{Token}
 use Rattle.ssb_sql.specs.declared.token.Sign.TheVariants as s
 use Rattle.ssb_sql.specs.declared.condition.Condition.{Condition}
@@ -12,11 +12,10 @@ use Rattle.ssb_sql.specs.Conditions.IsAnds.{no_and, and}
 use Rattle.ssb_sql.specs.Conditions.IsNeg.{plain, not}
 use Rattle.ssb_sql.specs.Conditions.IsTest.{parens, bare}
 use Rattle.ssb_sql.specs.Grammar.{IsWithin}
-use Rattle.ssb_sql.specs.Steps.{Parser, after, more_at}
+use Rattle.ssb_sql.specs.Steps.{Parser, after, chained_at, Shrinks}
 use Rattle.ssb_sql.specs.ReadConditions.{test_at, neg_at, conj_at, disj_at, cond_at}
 use Rattle.ssb_sql.proofs.StepFacts.{bind_some, choose_some}
-use Rattle.ssb_sql.proofs.Loop.{Shrinks}
-use Rattle.ssb_sql.proofs.Shapes.{Sound, Tame, IsChain, spells, begins, sound_closed, sound_more, shrinks}
+use Rattle.ssb_sql.proofs.Shapes.{Sound, Tame, IsChain, spells, begins, sound_closed, sound_chained, shrinks}
 use Rattle.ssb_sql.proofs.TestSound.{IsTested, sound_bare, tame_bare}
 
 mutual
@@ -106,11 +105,9 @@ module _ (inner : Parser Condition) (h : Sound inner (IsCond IsTested)) where
   conj_sound : (ts : List Token) (x : Condition × List Token) → conj_at inner ts ≡ Some x → IsConj IsTested ts x.1 x.0
   unfolding conj_at
   conj_sound ts x e =
-      let f = bind_some (neg_at inner ts) _ x e in
-      let g = bind_some (more_at (after s.And) (neg_at inner) (f.0.0 ∷ []) f.0.1) _ x f.2 in
-      let m = sound_more (after s.And) (neg_at inner) (IsAnds IsTested) ands (f.0.0 ∷ []) f.0.1 g.0 g.1 in
-      let here : IsConj IsTested ts g.0.1 (all_of g.0.0) = subst (λ xs. IsConj IsTested ts g.0.1 (all_of xs)) m.2 (conj (neg_sound ts f.0 f.1) m.1) in
-      spells (IsConj IsTested) ts g.0.1 (all_of g.0.0) x here g.2
+      let g = bind_some (chained_at s.And (neg_at inner) ts) _ x e in
+      let m = sound_chained s.And (neg_at inner) (IsNeg IsTested) (IsAnds IsTested) sound_neg ands ts g.0 g.1 in
+      spells (IsConj IsTested) ts g.0.1 (all_of g.0.0) x (subst (λ xs. IsConj IsTested ts g.0.1 (all_of xs)) m.all (conj m.one m.more)) g.2
 
   pub sound_conj : Sound (conj_at inner) (IsConj IsTested)
   sound_conj = record { by = conj_sound }
@@ -123,11 +120,9 @@ module _ (inner : Parser Condition) (h : Sound inner (IsCond IsTested)) where
 
   disj_sound : (ts : List Token) (x : Condition × List Token) → disj_at inner ts ≡ Some x → IsCond IsTested ts x.1 x.0
   disj_sound ts x e =
-      let f = bind_some (conj_at inner ts) _ x e in
-      let g = bind_some (more_at (after s.Or) (conj_at inner) (f.0.0 ∷ []) f.0.1) _ x f.2 in
-      let m = sound_more (after s.Or) (conj_at inner) (IsOrs IsTested) ors (f.0.0 ∷ []) f.0.1 g.0 g.1 in
-      let here : IsCond IsTested ts g.0.1 (any_of g.0.0) = subst (λ xs. IsCond IsTested ts g.0.1 (any_of xs)) m.2 (cond (conj_sound ts f.0 f.1) m.1) in
-      spells (IsCond IsTested) ts g.0.1 (any_of g.0.0) x here g.2
+      let g = bind_some (chained_at s.Or (conj_at inner) ts) _ x e in
+      let m = sound_chained s.Or (conj_at inner) (IsConj IsTested) (IsOrs IsTested) sound_conj ors ts g.0 g.1 in
+      spells (IsCond IsTested) ts g.0.1 (any_of g.0.0) x (subst (λ xs. IsCond IsTested ts g.0.1 (any_of xs)) m.all (cond m.one m.more)) g.2
 
 pub sound_cond : (d : ℕ) → Sound (cond_at d) (IsCond IsTested)
 unfolding cond_at

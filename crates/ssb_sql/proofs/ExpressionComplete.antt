@@ -20,7 +20,7 @@ use Rattle.ssb_sql.specs.Expressions.IsFactors.{no_factor, times}
 use Rattle.ssb_sql.specs.Expressions.IsFactor.{plain, positive, negative}
 use Rattle.ssb_sql.specs.Expressions.IsPrimary.{column, number, parens}
 use Rattle.ssb_sql.specs.Grammar.{IsWithin}
-use Rattle.ssb_sql.specs.Steps.{Parser, after, is_fixed, is_sign, is_name_next, chain_at, more_at}
+use Rattle.ssb_sql.specs.Steps.{Parser, after, is_fixed, is_sign, is_name_next, chain_at, more_at, chained_at}
 use Rattle.ssb_sql.specs.ReadExpressions.{bare_primary_at, primary_at, factor_at, term_at, adding_at, step_at, expr_at}
 use Rattle.ssb_sql.proofs.StepFacts.{Stops, stops, differs, sees}
 use Rattle.ssb_sql.proofs.Shapes.{turn_done, turn_goes, more_goes, closed_read}
@@ -108,7 +108,7 @@ unfolding factor_at
 negative_goes p ts to x q = rw (stops s.Minus s.Plus ts (differs s.Minus s.Plus refl), sees s.Minus ts, q) refl
 
 term_goes : (p : Parser Expr) (ts mid to : List Token) (x : Expr) (xs : List Expr) → factor_at p ts ≡ Some (x, mid) → more_at (after s.Times) (factor_at p) (x ∷ []) mid ≡ Some (x ∷ xs, to) → term_at p ts ≡ Some (times_of (x ∷ xs), to)
-unfolding term_at
+unfolding term_at chained_at
 term_goes p ts mid to x xs q r = rw (q, r) refl
 
 sum_goes : (d : ℕ) (ts mid to : List Token) (x : Expr) (xs : List Step) → term_at (expr_at d) ts ≡ Some (x, mid) → more_at adding_at (step_at (expr_at d)) [] mid ≡ Some (xs, to) → expr_at (suc d) ts ≡ Some (sum_of x xs, to)

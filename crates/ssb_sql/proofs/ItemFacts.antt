@@ -15,12 +15,11 @@ use Rattle.ssb_sql.specs.Grammar.IsOutput.{column, sum, count_rows, count}
 use Rattle.ssb_sql.specs.Grammar.IsItem.{unnamed, named}
 use Rattle.ssb_sql.specs.Grammar.IsKey.{name, position}
 use Rattle.ssb_sql.specs.Grammar.IsOrder.{plain, asc, desc}
-use Rattle.ssb_sql.specs.Steps.{after, name_at, number_at, is_name_next, closed_at, parens_at}
+use Rattle.ssb_sql.specs.Steps.{after, name_at, number_at, is_name_next, closed_at, parens_at, Shrinks}
 use Rattle.ssb_sql.specs.ReadParts.{column_at}
 use Rattle.ssb_sql.specs.ReadExpressions.{expr_at}
 use Rattle.ssb_sql.specs.ReadSelects.{count_at, output_at, item_of, item_at, key_at, order_of, order_at}
 use Rattle.ssb_sql.proofs.StepFacts.{bind_some, choose_some, if_some, after_is}
-use Rattle.ssb_sql.proofs.Loop.{Shrinks}
 use Rattle.ssb_sql.proofs.Shapes.{Sound, Tame, spells, starts, followed, sound_closed, shrinks}
 use Rattle.ssb_sql.proofs.PartFacts.{name_is, number_is, sound_column, tame_column}
 use Rattle.ssb_sql.proofs.ExpressionSound.{sound_expr, tame_expr}

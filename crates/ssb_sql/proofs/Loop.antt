@@ -1,15 +1,11 @@
 -- Reading a chain by a loop.
 use Rattle.std.proofs.Common.{◌≡◌, ℕ, zero, suc, ◌<◌, ◌≤◌, List, [], ◌∷◌, ◌++◌, length, Option, Some, None, refl, sym, ap, ◌∙◌, append_assoc, arith}
 use Rattle.std.proofs.lemmas.List.{append-nil}
+use Rattle.ssb_sql.specs.declared.token.Sign.{Sign}
 use Rattle.ssb_sql.specs.declared.token.Token.{Token}
 use Rattle.ssb_sql.specs.declared.steps.Stop.{Stop}
 use Rattle.ssb_sql.specs.declared.steps.Stop.TheVariants as stop
-use Rattle.ssb_sql.specs.Steps.{◌>>=◌, Fails, Parser, turn_at, chain_at, with_front, more_at}
-
--- what a piece reads is shorter, and no piece begins at the end
-pub record Shrinks {A L : Type 0} (link : List Token → Option L) (piece : L → Option (A × List Token)) : Type 0 where
-  pub nil : link [] ≡ None
-  pub by : (ts : List Token) (l : L) (x : A × List Token) → link ts ≡ Some l → piece l ≡ Some x → length x.1 < length ts
+use Rattle.ssb_sql.specs.Steps.{◌>>=◌, Fails, Parser, after, turn_at, chain_at, with_front, more_at, chained_at, Shrinks}
 
 -- one thing in front
 abbrev put : {A : Type 0} → A → Option (List A × List Token) → Option (List A × List Token)
@@ -22,6 +18,16 @@ regroup front y (Some x) = ap (λ l. Some (l, x.1)) (sym (append_assoc front (y 
 -- one thing, and more
 abbrev joined : {A : Type 0} → Option (A × List Token) → Parser (List A) → Option (List A × List Token)
 joined o f = o >>= λ x. put x.0 (f x.1)
+
+-- the first piece
+pub first_goes : {A : Type 0} (sign : Sign) (p : Parser A) (ts end : List Token) (x : A) → p ts ≡ Some (x, end) → more_at (after sign) p (x ∷ []) end ≡ chained_at sign p ts
+unfolding chained_at
+first_goes sign p ts end x e = rw e refl
+
+pub first_fails : {A : Type 0} (sign : Sign) (p : Parser A) (e : Stop) (ts : List Token) → Fails e (p ts) → Fails e (chained_at sign p ts)
+unfolding chained_at
+first_fails sign p stop.Memory ts f = tt
+first_fails sign p stop.Syntax ts f = rw f refl
 
 module _ {A L : Type 0} (link : List Token → Option L) (piece : L → Option (A × List Token)) (h : Shrinks link piece) where
   same_read : (o : Option (A × List Token)) (f g : Parser (List A)) → ((x : A × List Token) → o ≡ Some x → f x.1 ≡ g x.1) → joined o f ≡ joined o g

@@ -16,10 +16,9 @@ use Rattle.ssb_sql.specs.Forms.IsColumn.{alone, dotted}
 use Rattle.ssb_sql.specs.Forms.IsLiteral.{number, positive, negative, text}
 use Rattle.ssb_sql.specs.Forms.IsOperand.{column, literal}
 use Rattle.ssb_sql.specs.Grammar.{IsWithin}
-use Rattle.ssb_sql.specs.Steps.{after, is_fixed, name_at, number_at, text_at, is_name_next, is_text_next}
+use Rattle.ssb_sql.specs.Steps.{after, is_fixed, name_at, number_at, text_at, is_name_next, is_text_next, Shrinks}
 use Rattle.ssb_sql.specs.ReadParts.{column_of, column_at, small_at, below_at, plain_literal_at, literal_at, operand_at}
 use Rattle.ssb_sql.proofs.StepFacts.{some_is, bind_some, choose_some, if_some, after_is, Stops, stops, differs, sees}
-use Rattle.ssb_sql.proofs.Loop.{Shrinks}
 use Rattle.ssb_sql.proofs.Shapes.{Sound, Tame, spells, starts, shrinks}
 
 pub name_is : (ts : List Token) (x : List ℕ × List Token) → name_at ts ≡ Some x → ts ≡ Name x.0 ∷ x.1

@@ -8,9 +8,8 @@ use Rattle.ssb_sql.specs.Forms.{Spelling, IsMore, IsList}
 use Rattle.ssb_sql.specs.Forms.IsMore.{no_more, comma}
 use Rattle.ssb_sql.specs.Forms.IsList.{list}
 use Rattle.ssb_sql.specs.Grammar.{IsWithin}
-use Rattle.ssb_sql.specs.Steps.{◌>>=◌, Parser, after, turn_at, chain_at, with_front, more_at, list_at, closed_at}
+use Rattle.ssb_sql.specs.Steps.{◌>>=◌, Parser, after, turn_at, chain_at, with_front, more_at, chained_at, list_at, closed_at, Shrinks}
 use Rattle.ssb_sql.proofs.StepFacts.{some_is, bind_some, after_is, after_shorter, Stops, sees}
-use Rattle.ssb_sql.proofs.Loop.{Shrinks}
 
 -- what p reads is in R
 pub record Sound {A : Type 0} (p : Parser A) (R : Spelling A) : Type 0 where
@@ -87,6 +86,23 @@ module _ {A L : Type 0} (link : List Token → Option L) (piece : L → Option (
       let same = some_is (front ++ f.0.0, f.0.1) xs f.2 in
       (f.0.0, subst (λ (to : List Token). S ts to f.0.0) (ap (λ z. z.1) same) (sound_chain (length ts) ts f.0 f.1), ap (λ z. z.0) same)
 
+-- one thing, and the rest of the chain
+pub record Chained {A : Type 0} (R : Spelling A) (S : Spelling (List A)) (from to : List Token) (xs : List A) : Type 0 where
+  pub first : A
+  pub others : List A
+  pub mid : List Token
+  pub one : R from mid first
+  pub more : S mid to others
+  pub all : first ∷ others ≡ xs
+
+pub sound_chained : {A : Type 0} (sign : Sign) (p : Parser A) (R : Spelling A) (S : Spelling (List A)) → Sound p R → IsChain (after sign) p S
+    → (ts : List Token) (xs : List A × List Token) → chained_at sign p ts ≡ Some xs → Chained R S ts xs.1 xs.0
+unfolding chained_at
+sound_chained sign p R S h chain ts xs e =
+    let f = bind_some (p ts) (λ x. more_at (after sign) p (x.0 ∷ []) x.1) xs e in
+    let g = sound_more (after sign) p S chain (f.0.0 ∷ []) f.0.1 xs f.2 in
+    record { first = f.0.0; others = g.0; mid = f.0.1; one = h.by ts f.0 f.1; more = g.1; all = g.2 }
+
 module _ {A : Type 0} (p : Parser A) (R : Spelling A) (h : Sound p R) where
   commas : IsChain (after s.Comma) p (IsMore R)
   commas = record {
@@ -95,12 +111,10 @@ module _ {A : Type 0} (p : Parser A) (R : Spelling A) (h : Sound p R) where
   }
 
   pub sound_list : Sound (list_at p) (IsList R)
-  unfolding list_at
   sound_list = record {
     by = λ ts xs e.
-        let f = bind_some (p ts) (λ x. more_at (after s.Comma) p (x.0 ∷ []) x.1) xs e in
-        let g = sound_more (after s.Comma) p (IsMore R) commas (f.0.0 ∷ []) f.0.1 xs f.2 in
-        subst (λ ys. IsList R ts xs.1 ys) g.2 (list (h.by ts f.0 f.1) g.1);
+        let m = sound_chained s.Comma p R (IsMore R) h commas ts xs e in
+        subst (λ ys. IsList R ts xs.1 ys) m.all (list m.one m.more);
   }
 
 module _ {A : Type 0} (R : Spelling A) (t : Tame R) where
@@ -154,6 +168,6 @@ module _ {A : Type 0} (p : Parser A) (R : Spelling A) (t : Tame R) (d : ℕ) (F 
       turn_goes (after s.Comma) p k (Fixed s.Comma ∷ from) mid to from x xs (sees s.Comma from) (h.by a w (more_ends b f)) (more_read b k (t.within a d w) (omega arith) f n)
 
   pub list_read : {from to : List Token} {xs : List A} → IsList R from to xs → IsWithin d from → F to → Stops s.Comma to → list_at p from ≡ Some (xs, to)
-  unfolding list_at
+  unfolding chained_at
   list_read (list {from = from} {mid = mid} {to = to} {x = x} {xs = xs} a b) w f n =
       ap (λ o. o >>= λ y. more_at (after s.Comma) p (y.0 ∷ []) y.1) (h.by a w (more_ends b f)) ∙ more_goes (after s.Comma) p (x ∷ []) xs mid to (more_read b (length mid) (t.within a d w) (omega arith) f n)

@@ -1,6 +1,6 @@
 -- Reading conditions.
 -- For the contracts inside this crate.
-use Rattle.std.specs.Prelude.{ℕ, zero, suc, Bool, true, false, List, [], ◌∷◌, Option, Some, None}
+use Rattle.std.specs.Prelude.{ℕ, zero, suc, Bool, true, false, List, Option, Some, None}
 use Rattle.ssb_cells.specs.declared.value.Op.{Op}
 use Rattle.ssb_cells.specs.declared.value.Op.TheVariants as op
 use Rattle.ssb_sql.specs.declared.token.Token.{Token}
@@ -10,7 +10,7 @@ use Rattle.ssb_sql.specs.declared.condition.Operand.{Operand}
 use Rattle.ssb_sql.specs.declared.condition.Operand.TheVariants as o
 use Rattle.ssb_sql.specs.declared.condition.Condition.{Condition}
 use Rattle.ssb_sql.specs.declared.condition.Condition.TheVariants as c
-use Rattle.ssb_sql.specs.Steps.{Parser, ◌>>=◌, choose, after, more_at, list_at, closed_at, parens_at}
+use Rattle.ssb_sql.specs.Steps.{Parser, ◌>>=◌, choose, after, chained_at, list_at, closed_at, parens_at}
 use Rattle.ssb_sql.specs.ReadParts.{literal_at, operand_at}
 use Rattle.ssb_sql.specs.Conditions.{any_of, all_of}
 
@@ -76,10 +76,10 @@ unfoldable pub neg_at : Parser Condition → Parser Condition
 neg_at inner ts = choose (after s.Not ts) (λ rest. test_at inner rest >>= λ x. Some (c.Not x.0, x.1)) (test_at inner ts)
 
 unfoldable pub conj_at : Parser Condition → Parser Condition
-conj_at inner ts = neg_at inner ts >>= λ x. more_at (after s.And) (neg_at inner) (x.0 ∷ []) x.1 >>= λ xs. Some (all_of xs.0, xs.1)
+conj_at inner ts = chained_at s.And (neg_at inner) ts >>= λ xs. Some (all_of xs.0, xs.1)
 
 abbrev pub disj_at : Parser Condition → Parser Condition
-disj_at inner ts = conj_at inner ts >>= λ x. more_at (after s.Or) (conj_at inner) (x.0 ∷ []) x.1 >>= λ xs. Some (any_of xs.0, xs.1)
+disj_at inner ts = chained_at s.Or (conj_at inner) ts >>= λ xs. Some (any_of xs.0, xs.1)
 
 -- a condition with fewer than this many open parentheses
 unfoldable pub cond_at : ℕ → Parser Condition

@@ -1,6 +1,6 @@
 -- Reading expressions.
 -- For the contracts inside this crate.
-use Rattle.std.specs.Prelude.{ℕ, zero, suc, if◌then◌else◌, List, [], ◌∷◌, Option, Some, None}
+use Rattle.std.specs.Prelude.{ℕ, zero, suc, if◌then◌else◌, List, [], Option, Some, None}
 use Rattle.ssb_sql.specs.declared.token.Token.{Token}
 use Rattle.ssb_sql.specs.declared.token.Sign.TheVariants as s
 use Rattle.ssb_sql.specs.declared.expr.Adding.{Adding}
@@ -8,7 +8,7 @@ use Rattle.ssb_sql.specs.declared.expr.Adding.TheVariants as a
 use Rattle.ssb_sql.specs.declared.expr.Step.{Step}
 use Rattle.ssb_sql.specs.declared.expr.Expr.{Expr}
 use Rattle.ssb_sql.specs.declared.expr.Expr.TheVariants as e
-use Rattle.ssb_sql.specs.Steps.{Parser, ◌>>=◌, choose, after, number_at, is_name_next, more_at, closed_at}
+use Rattle.ssb_sql.specs.Steps.{Parser, ◌>>=◌, choose, after, number_at, is_name_next, more_at, chained_at, closed_at}
 use Rattle.ssb_sql.specs.ReadParts.{column_at}
 use Rattle.ssb_sql.specs.Expressions.{sum_of, times_of}
 
@@ -27,7 +27,7 @@ factor_at inner ts =
     (primary_at inner ts))
 
 unfoldable pub term_at : Parser Expr → Parser Expr
-term_at inner ts = factor_at inner ts >>= λ x. more_at (after s.Times) (factor_at inner) (x.0 ∷ []) x.1 >>= λ xs. Some (times_of xs.0, xs.1)
+term_at inner ts = chained_at s.Times (factor_at inner) ts >>= λ xs. Some (times_of xs.0, xs.1)
 
 -- `+` or `-`, and what follows
 unfoldable pub adding_at : List Token → Option (Adding × List Token)

@@ -1,6 +1,6 @@
 -- Reading from left to right: what every reader is made of.
 -- For the contracts inside this crate.
-use Rattle.std.specs.Prelude.{◌≡◌, ℕ, zero, suc, Bool, true, false, if◌then◌else◌, ◌==◌, List, [], ◌∷◌, ◌++◌, length, Option, Some, None, Result, Ok, Err}
+use Rattle.std.specs.Prelude.{◌≡◌, ℕ, zero, suc, Bool, true, false, if◌then◌else◌, ◌==◌, List, [], ◌∷◌, ◌++◌, length, ◌<◌, Option, Some, None, Result, Ok, Err}
 use Rattle.std.specs.Borrow.{Bor}
 use Rattle.ssb_sql.specs.declared.token.Token.{Token}
 use Rattle.ssb_sql.specs.declared.token.Token.TheVariants.{Fixed, Name, Number, Text}
@@ -129,9 +129,22 @@ with_front front read = read >>= λ x. Some (front ++ x.0, x.1)
 unfoldable pub more_at : {A L : Type 0} → (List Token → Option L) → (L → Option (A × List Token)) → List A → Parser (List A)
 more_at link piece front ts = with_front front (chain_at link piece (length ts) ts)
 
+-- p {sign p}
+unfoldable pub chained_at : {A : Type 0} → Sign → Parser A → Parser (List A)
+chained_at sign p ts = p ts >>= λ x. more_at (after sign) p (x.0 ∷ []) x.1
+
 -- p {"," p}
-unfoldable pub list_at : {A : Type 0} → Parser A → Parser (List A)
-list_at p ts = p ts >>= λ x. more_at (after s.Comma) p (x.0 ∷ []) x.1
+abbrev pub list_at : {A : Type 0} → Parser A → Parser (List A)
+list_at p = chained_at s.Comma p
+
+-- what a piece reads is shorter, and no piece begins at the end
+pub record Shrinks {A L : Type 0} (link : List Token → Option L) (piece : L → Option (A × List Token)) : Type 0 where
+  pub nil : link [] ≡ None
+  pub by : (ts : List Token) (l : L) (x : A × List Token) → link ts ≡ Some l → piece l ≡ Some x → length x.1 < length ts
+
+-- a closure that returns this reads what p does
+abbrev pub Reads : {A : Type 0} → (Bor (List Token) → Result (A × Bor (List Token)) Stop → Type 0) → Parser A → Type 0
+Reads returns p = (ts : Bor (List Token)) (r : Result _ Stop) → returns ts r → Gives seen r (p ts.now)
 
 -- p ")"
 unfoldable pub closed_at : {A : Type 0} → Parser A → Parser A

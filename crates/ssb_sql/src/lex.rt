@@ -17,9 +17,6 @@ use sqlite_items::Items;
 use ssb_cells::Name;
 use std::alloc::Global;
 
-#[cfg(test)]
-mod tests;
-
 // The word in front: a reserved word or a name.
 #[tactic(auto, unfolding(crate::specs::Scanning::word_at))]
 fn word_token(alloc: Global, bytes: &[u8]) -> Result<(Token, &[u8]), SqlFault>

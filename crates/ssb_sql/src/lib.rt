@@ -4,6 +4,7 @@
 //! of tokens, `specs/Grammar.antt` which tokens are queries; neither knows how the text is read.
 #![tactic(auto)]
 
+mod chain;
 mod class;
 pub mod condition;
 pub mod expr;
@@ -21,8 +22,6 @@ mod reserved;
 mod scan;
 pub mod select;
 mod steps;
-#[cfg(test)]
-mod tests;
 pub mod text;
 pub mod token;
 

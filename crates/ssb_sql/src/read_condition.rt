@@ -2,10 +2,11 @@
 
 ghost use Rattle.std.specs.Prelude.{◌≡◌, [], ◌∷◌};
 ghost use Rattle.ssb_sql.specs.Conditions.{any_of, all_of};
-ghost use Rattle.ssb_sql.specs.Steps.{Gives, seen, after, more_at, closed_at};
+ghost use Rattle.ssb_sql.specs.Steps.{Gives, seen, after, chained_at, closed_at};
 ghost use Rattle.ssb_sql.specs.ReadConditions.{neg_at, conj_at, cond_at, test_at};
 ghost use Rattle.ssb_sql.specs.declared.token.Sign.TheVariants as s;
 
+use crate::chain::chain;
 use crate::condition::Condition;
 use crate::read_test::bare;
 use crate::steps::{Stop, after, expect};
@@ -71,22 +72,21 @@ fn negation(alloc: Global, depth: usize, tokens: &[Token]) -> Result<(Condition,
 }
 
 #[cycle(condition)]
-fn more_negations(
+fn negations(
     alloc: Global,
     depth: usize,
-    front: Items<Condition>,
     tokens: &[Token],
 ) -> Result<(Items<Condition>, &[Token]), Stop>
-    ensures { Gives seen result (more_at (after s.And) (neg_at (cond_at depth)) front tokens.now) }
+    ensures { Gives seen result (chained_at s.And (neg_at (cond_at depth)) tokens.now) }
 {
-    let mut all = front;
-    let mut rest = tokens;
-    while let Some(start) = after(rest, Sign::And) {
-        let (found, end) = negation(alloc, depth, start)?;
-        all.push(found)?;
-        rest = end;
-    }
-    Ok((all, rest))
+    chain(
+        alloc,
+        Sign::And,
+        tokens,
+        |start: &[Token]|
+            ensures { Gives seen result (neg_at (cond_at depth) start.now) }
+        { negation(alloc, depth, start) },
+    )
 }
 
 #[cycle(condition)]
@@ -94,30 +94,26 @@ fn more_negations(
 fn conjunction(alloc: Global, depth: usize, tokens: &[Token]) -> Result<(Condition, &[Token]), Stop>
     ensures { Gives seen result (conj_at (cond_at depth) tokens.now) }
 {
-    let (found, rest) = negation(alloc, depth, tokens)?;
-    let mut front = Items::new(alloc);
-    front.push(found)?;
-    let (all, rest) = more_negations(alloc, depth, front, rest)?;
+    let (all, rest) = negations(alloc, depth, tokens)?;
     Ok((all_of(all), rest))
 }
 
 #[cycle(condition)]
-fn more_conjunctions(
+fn conjunctions(
     alloc: Global,
     depth: usize,
-    front: Items<Condition>,
     tokens: &[Token],
 ) -> Result<(Items<Condition>, &[Token]), Stop>
-    ensures { Gives seen result (more_at (after s.Or) (conj_at (cond_at depth)) front tokens.now) }
+    ensures { Gives seen result (chained_at s.Or (conj_at (cond_at depth)) tokens.now) }
 {
-    let mut all = front;
-    let mut rest = tokens;
-    while let Some(start) = after(rest, Sign::Or) {
-        let (found, end) = conjunction(alloc, depth, start)?;
-        all.push(found)?;
-        rest = end;
-    }
-    Ok((all, rest))
+    chain(
+        alloc,
+        Sign::Or,
+        tokens,
+        |start: &[Token]|
+            ensures { Gives seen result (conj_at (cond_at depth) start.now) }
+        { conjunction(alloc, depth, start) },
+    )
 }
 
 /// Reads a condition inside fewer than `depth` parentheses.
@@ -133,9 +129,6 @@ pub(crate) fn condition(
     if depth == 0 {
         return Err(Stop::Syntax);
     }
-    let (found, rest) = conjunction(alloc, depth - 1, tokens)?;
-    let mut front = Items::new(alloc);
-    front.push(found)?;
-    let (all, rest) = more_conjunctions(alloc, depth - 1, front, rest)?;
+    let (all, rest) = conjunctions(alloc, depth - 1, tokens)?;
     Ok((any_of(all), rest))
 }

@@ -2,10 +2,11 @@
 
 ghost use Rattle.std.specs.Prelude.{◌≡◌, [], ◌∷◌, IfOk};
 ghost use Rattle.ssb_sql.specs.Expressions.{sum_of, times_of};
-ghost use Rattle.ssb_sql.specs.Steps.{Gives, seen, seen_if, after, more_at, closed_at};
+ghost use Rattle.ssb_sql.specs.Steps.{Gives, seen, seen_if, after, chained_at, more_at, closed_at};
 ghost use Rattle.ssb_sql.specs.ReadExpressions.{bare_primary_at, primary_at, factor_at, term_at, adding_at, step_at, expr_at};
 ghost use Rattle.ssb_sql.specs.declared.token.Sign.TheVariants as s;
 
+use crate::chain::chain;
 use crate::expr::{Adding, Expr, Step};
 use crate::read_parts::column;
 use crate::steps::{Stop, after, expect, is_name_next, number};
@@ -62,9 +63,14 @@ fn adding(tokens: &[Token]) -> Option<(Adding, &[Token])>
     }
 }
 
+/// Reads an expression and the `)` behind it.
 #[cycle(expression)]
 #[tactic(auto, unfolding(crate::specs::Steps::closed_at))]
-fn closed(alloc: Global, depth: usize, tokens: &[Token]) -> Result<(Expr, &[Token]), Stop>
+pub(crate) fn closed(
+    alloc: Global,
+    depth: usize,
+    tokens: &[Token],
+) -> Result<(Expr, &[Token]), Stop>
     ensures { Gives seen result (closed_at (expr_at depth) tokens.now) }
 {
     let (found, rest) = expression(alloc, depth, tokens)?;
@@ -100,22 +106,17 @@ fn factor(alloc: Global, depth: usize, tokens: &[Token]) -> Result<(Expr, &[Toke
 }
 
 #[cycle(expression)]
-fn more_factors(
-    alloc: Global,
-    depth: usize,
-    front: Items<Expr>,
-    tokens: &[Token],
-) -> Result<(Items<Expr>, &[Token]), Stop>
-    ensures { Gives seen result (more_at (after s.Times) (factor_at (expr_at depth)) front tokens.now) }
+fn factors(alloc: Global, depth: usize, tokens: &[Token]) -> Result<(Items<Expr>, &[Token]), Stop>
+    ensures { Gives seen result (chained_at s.Times (factor_at (expr_at depth)) tokens.now) }
 {
-    let mut all = front;
-    let mut rest = tokens;
-    while let Some(start) = after(rest, Sign::Times) {
-        let (found, end) = factor(alloc, depth, start)?;
-        all.push(found)?;
-        rest = end;
-    }
-    Ok((all, rest))
+    chain(
+        alloc,
+        Sign::Times,
+        tokens,
+        |start: &[Token]|
+            ensures { Gives seen result (factor_at (expr_at depth) start.now) }
+        { factor(alloc, depth, start) },
+    )
 }
 
 #[cycle(expression)]
@@ -123,10 +124,7 @@ fn more_factors(
 fn term(alloc: Global, depth: usize, tokens: &[Token]) -> Result<(Expr, &[Token]), Stop>
     ensures { Gives seen result (term_at (expr_at depth) tokens.now) }
 {
-    let (found, rest) = factor(alloc, depth, tokens)?;
-    let mut front = Items::new(alloc);
-    front.push(found)?;
-    let (all, rest) = more_factors(alloc, depth, front, rest)?;
+    let (all, rest) = factors(alloc, depth, tokens)?;
     Ok((times_of(all), rest))
 }
 

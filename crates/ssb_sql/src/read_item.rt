@@ -6,22 +6,15 @@ ghost use Rattle.ssb_sql.specs.ReadExpressions.{expr_at};
 ghost use Rattle.ssb_sql.specs.ReadSelects.{count_at, output_at, item_at, key_at, order_at};
 ghost use Rattle.ssb_sql.specs.declared.token.Sign.TheVariants as s;
 
+use crate::chain::chain;
 use crate::expr::Expr;
-use crate::read_expr::expression;
+use crate::read_expr::closed;
 use crate::read_parts::column;
 use crate::select::{Item, Key, Order, Output};
 use crate::steps::{Stop, after, expect, is_name_next, name, number};
 use crate::token::{Sign, Token};
+use sqlite_items::Items;
 use std::alloc::Global;
-
-#[tactic(auto, unfolding(crate::specs::Steps::closed_at))]
-fn closed(alloc: Global, depth: usize, tokens: &[Token]) -> Result<(Expr, &[Token]), Stop>
-    ensures { Gives seen result (closed_at (expr_at depth) tokens.now) }
-{
-    let (found, rest) = expression(alloc, depth, tokens)?;
-    let rest = expect(rest, Sign::Close)?;
-    Ok((found, rest))
-}
 
 #[tactic(auto, unfolding(crate::specs::Steps::parens_at))]
 fn in_parens(alloc: Global, depth: usize, tokens: &[Token]) -> Result<(Expr, &[Token]), Stop>
@@ -65,7 +58,7 @@ fn output(alloc: Global, depth: usize, tokens: &[Token]) -> Result<(Output, &[To
 }
 
 #[tactic(auto, unfolding(crate::specs::ReadSelects::item_at))]
-pub(crate) fn item(alloc: Global, depth: usize, tokens: &[Token]) -> Result<(Item, &[Token]), Stop>
+fn item(alloc: Global, depth: usize, tokens: &[Token]) -> Result<(Item, &[Token]), Stop>
     ensures { Gives seen result (item_at depth tokens.now) }
 {
     let (output, rest) = output(alloc, depth, tokens)?;
@@ -90,6 +83,21 @@ pub(crate) fn item(alloc: Global, depth: usize, tokens: &[Token]) -> Result<(Ite
     }
 }
 
+pub(crate) fn items(
+    alloc: Global,
+    depth: usize,
+    tokens: &[Token],
+) -> Result<(Items<Item>, &[Token]), Stop>
+    ensures { Gives seen result (list_at (item_at depth) tokens.now) }
+{
+    chain(
+        alloc,
+        Sign::Comma,
+        tokens,
+        |start: &[Token]| item(alloc, depth, start),
+    )
+}
+
 #[tactic(auto, unfolding(crate::specs::ReadSelects::key_at))]
 fn key(alloc: Global, tokens: &[Token]) -> Result<(Key, &[Token]), Stop>
     ensures { Gives seen result (key_at tokens.now) }
@@ -104,7 +112,7 @@ fn key(alloc: Global, tokens: &[Token]) -> Result<(Key, &[Token]), Stop>
 }
 
 #[tactic(auto, unfolding(crate::specs::ReadSelects::order_at))]
-pub(crate) fn order(alloc: Global, tokens: &[Token]) -> Result<(Order, &[Token]), Stop>
+fn order(alloc: Global, tokens: &[Token]) -> Result<(Order, &[Token]), Stop>
     ensures { Gives seen result (order_at tokens.now) }
 {
     let (key, rest) = key(alloc, tokens)?;
@@ -133,4 +141,16 @@ pub(crate) fn order(alloc: Global, tokens: &[Token]) -> Result<(Order, &[Token])
             rest,
         )),
     }
+}
+
+#[tactic(auto, using(crate::proofs::ItemFacts::order_shrinks))]
+pub(crate) fn orders(alloc: Global, tokens: &[Token]) -> Result<(Items<Order>, &[Token]), Stop>
+    ensures { Gives seen result (list_at order_at tokens.now) }
+{
+    chain(
+        alloc,
+        Sign::Comma,
+        tokens,
+        |start: &[Token]| order(alloc, start),
+    )
 }

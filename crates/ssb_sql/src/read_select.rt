@@ -9,123 +9,14 @@ ghost use Rattle.ssb_sql.specs.declared.token.Sign.TheVariants as s;
 use crate::condition::Condition;
 use crate::expr::ColumnName;
 use crate::read_condition::condition;
-use crate::read_item::{item, order};
-use crate::read_parts::column;
+use crate::read_item::{items, orders};
+use crate::read_parts::{columns, names};
 use crate::select::{Item, Order, Select};
-use crate::steps::{Stop, after, expect, name};
+use crate::steps::{Stop, after, expect};
 use crate::token::{Sign, Token};
 use sqlite_items::Items;
 use ssb_cells::Name;
 use std::alloc::Global;
-
-fn more_items(
-    alloc: Global,
-    depth: usize,
-    front: Items<Item>,
-    tokens: &[Token],
-) -> Result<(Items<Item>, &[Token]), Stop>
-    ensures { Gives seen result (more_at (after s.Comma) (item_at depth) front tokens.now) }
-{
-    let mut all = front;
-    let mut rest = tokens;
-    while let Some(start) = after(rest, Sign::Comma) {
-        let (found, end) = item(alloc, depth, start)?;
-        all.push(found)?;
-        rest = end;
-    }
-    Ok((all, rest))
-}
-
-#[tactic(auto, unfolding(crate::specs::Steps::list_at))]
-fn items(alloc: Global, depth: usize, tokens: &[Token]) -> Result<(Items<Item>, &[Token]), Stop>
-    ensures { Gives seen result (list_at (item_at depth) tokens.now) }
-{
-    let (found, rest) = item(alloc, depth, tokens)?;
-    let mut front = Items::new(alloc);
-    front.push(found)?;
-    more_items(alloc, depth, front, rest)
-}
-
-fn more_names(
-    alloc: Global,
-    front: Items<Name>,
-    tokens: &[Token],
-) -> Result<(Items<Name>, &[Token]), Stop>
-    ensures { Gives seen result (more_at (after s.Comma) name_at front tokens.now) }
-{
-    let mut all = front;
-    let mut rest = tokens;
-    while let Some(start) = after(rest, Sign::Comma) {
-        let (found, end) = name(alloc, start)?;
-        all.push(found)?;
-        rest = end;
-    }
-    Ok((all, rest))
-}
-
-#[tactic(auto, unfolding(crate::specs::Steps::list_at))]
-fn names(alloc: Global, tokens: &[Token]) -> Result<(Items<Name>, &[Token]), Stop>
-    ensures { Gives seen result (list_at name_at tokens.now) }
-{
-    let (found, rest) = name(alloc, tokens)?;
-    let mut front = Items::new(alloc);
-    front.push(found)?;
-    more_names(alloc, front, rest)
-}
-
-fn more_columns(
-    alloc: Global,
-    front: Items<ColumnName>,
-    tokens: &[Token],
-) -> Result<(Items<ColumnName>, &[Token]), Stop>
-    ensures { Gives seen result (more_at (after s.Comma) column_at front tokens.now) }
-{
-    let mut all = front;
-    let mut rest = tokens;
-    while let Some(start) = after(rest, Sign::Comma) {
-        let (found, end) = column(alloc, start)?;
-        all.push(found)?;
-        rest = end;
-    }
-    Ok((all, rest))
-}
-
-#[tactic(auto, unfolding(crate::specs::Steps::list_at))]
-fn columns(alloc: Global, tokens: &[Token]) -> Result<(Items<ColumnName>, &[Token]), Stop>
-    ensures { Gives seen result (list_at column_at tokens.now) }
-{
-    let (found, rest) = column(alloc, tokens)?;
-    let mut front = Items::new(alloc);
-    front.push(found)?;
-    more_columns(alloc, front, rest)
-}
-
-fn more_keys(
-    alloc: Global,
-    front: Items<Order>,
-    tokens: &[Token],
-) -> Result<(Items<Order>, &[Token]), Stop>
-    ensures { Gives seen result (more_at (after s.Comma) order_at front tokens.now) }
-{
-    let mut all = front;
-    let mut rest = tokens;
-    while let Some(start) = after(rest, Sign::Comma) {
-        let (found, end) = order(alloc, start)?;
-        all.push(found)?;
-        rest = end;
-    }
-    Ok((all, rest))
-}
-
-#[tactic(auto, unfolding(crate::specs::Steps::list_at))]
-fn keys(alloc: Global, tokens: &[Token]) -> Result<(Items<Order>, &[Token]), Stop>
-    ensures { Gives seen result (list_at order_at tokens.now) }
-{
-    let (found, rest) = order(alloc, tokens)?;
-    let mut front = Items::new(alloc);
-    front.push(found)?;
-    more_keys(alloc, front, rest)
-}
 
 #[tactic(auto, unfolding(crate::specs::ReadSelects::where_at))]
 fn condition_if(
@@ -145,7 +36,7 @@ fn condition_if(
 }
 
 #[tactic(auto, unfolding(crate::specs::ReadSelects::groups_at))]
-fn groups(alloc: Global, tokens: &[Token]) -> Result<(Items<ColumnName>, &[Token]), Stop>
+fn groups_if(alloc: Global, tokens: &[Token]) -> Result<(Items<ColumnName>, &[Token]), Stop>
     ensures { Gives seen result (groups_at tokens.now) }
 {
     match after(tokens, Sign::Group) {
@@ -158,13 +49,13 @@ fn groups(alloc: Global, tokens: &[Token]) -> Result<(Items<ColumnName>, &[Token
 }
 
 #[tactic(auto, unfolding(crate::specs::ReadSelects::orders_at))]
-fn orders(alloc: Global, tokens: &[Token]) -> Result<(Items<Order>, &[Token]), Stop>
+fn orders_if(alloc: Global, tokens: &[Token]) -> Result<(Items<Order>, &[Token]), Stop>
     ensures { Gives seen result (orders_at tokens.now) }
 {
     match after(tokens, Sign::Order) {
         Some(rest) => {
             let start = expect(rest, Sign::By)?;
-            keys(alloc, start)
+            orders(alloc, start)
         }
         None => Ok((Items::new(alloc), tokens)),
     }
@@ -183,8 +74,8 @@ fn rest_of(
     ensures { Gives seen result (rest_at depth items from tokens.now) }
 {
     let (condition, rest) = condition_if(alloc, depth + 1, tokens)?;
-    let (groups, rest) = groups(alloc, rest)?;
-    let (orders, rest) = orders(alloc, rest)?;
+    let (groups, rest) = groups_if(alloc, rest)?;
+    let (orders, rest) = orders_if(alloc, rest)?;
     Ok((
         Select {
             items,

@@ -6,6 +6,7 @@ ghost use Rattle.ssb_sql.specs.ReadParts.{literal_at, operand_at};
 ghost use Rattle.ssb_sql.specs.ReadConditions.{op_at, limits_at, members_at, between_of, in_of, range_at, null_at, compared_at, tail_at, bare_at};
 ghost use Rattle.ssb_sql.specs.declared.token.Sign.TheVariants as s;
 
+use crate::chain::chain;
 use crate::condition::{Condition, Literal, Operand};
 use crate::read_parts::{literal, operand};
 use crate::steps::{Stop, after, expect};
@@ -50,31 +51,16 @@ fn limits(alloc: Global, tokens: &[Token]) -> Result<((Operand, Operand), &[Toke
     Ok(((low, high), rest))
 }
 
-fn more_literals(
-    alloc: Global,
-    front: Items<Literal>,
-    tokens: &[Token],
-) -> Result<(Items<Literal>, &[Token]), Stop>
-    ensures { Gives seen result (more_at (after s.Comma) literal_at front tokens.now) }
-{
-    let mut all = front;
-    let mut rest = tokens;
-    while let Some(start) = after(rest, Sign::Comma) {
-        let (found, end) = literal(alloc, start)?;
-        all.push(found)?;
-        rest = end;
-    }
-    Ok((all, rest))
-}
-
-#[tactic(auto, unfolding(crate::specs::Steps::list_at))]
+#[tactic(auto, using(crate::proofs::PartFacts::literal_shrinks))]
 fn literals(alloc: Global, tokens: &[Token]) -> Result<(Items<Literal>, &[Token]), Stop>
     ensures { Gives seen result (list_at literal_at tokens.now) }
 {
-    let (found, rest) = literal(alloc, tokens)?;
-    let mut front = Items::new(alloc);
-    front.push(found)?;
-    more_literals(alloc, front, rest)
+    chain(
+        alloc,
+        Sign::Comma,
+        tokens,
+        |start: &[Token]| literal(alloc, start),
+    )
 }
 
 #[tactic(auto, unfolding(crate::specs::Steps::parens_at, crate::specs::Steps::closed_at))]

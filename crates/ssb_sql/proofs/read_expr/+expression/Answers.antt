@@ -1,27 +1,17 @@
-use Rattle.std.proofs.Common.{sym, arith}
+use Rattle.std.proofs.Common.{sym, arith, rules}
 use Rattle.std.proofs.lemmas.Result.{err_from_is_err_and}
-use Rattle.ssb_sql.specs.declared.token.Sign.TheVariants as s
-use Rattle.ssb_sql.specs.Steps.{after, more_at}
+use Rattle.ssb_sql.specs.Steps.{more_at}
 use Rattle.ssb_sql.specs.ReadExpressions.{factor_at, adding_at, step_at, expr_at}
 use Rattle.ssb_sql.proofs.Loop.{goes_on, is_done, turn_fails, shorter_by}
 use Rattle.ssb_sql.proofs.ExpressionSound.{factor_shrinks, step_shrinks}
 use Rattle.ssb_sql.proofs.SumFacts.{sum_reads, sum_stops}
 use Rattle.ssb_sql.proofs.read_expr.+expression.Goals as goal
 
-pub more_factors-returns-in_err-found : goal.more_factors-returns-in_err-found
-more_factors-returns-in_err-found t c =
-    let q = err_from_is_err_and c.from_residual.result c.from_residual.ensures.1 in
-    rw (q.1, q.2) (turn_fails (after s.Times) (factor_at (expr_at c.args.depth)) (factor_shrinks c.args.depth) c.in_err-found.field-0.0 c.loop-start.all c.loop-start.rest.now c.in-Some.start.now (more_at (after s.Times) (factor_at (expr_at c.args.depth)) c.args.front c.args.tokens.now) (sym c.in-Some.ensures) c.in_err-found.ensures c.loop-start.invariant)
+pub factors-chain-requires-clause-shrinks : goal.factors-chain-requires-clause-shrinks
+factors-chain-requires-clause-shrinks t c = (factor_at (expr_at c.args.depth), factor_shrinks c.args.depth, λ ts r h. search rules)
 
-pub more_factors-loop-start-smaller : goal.more_factors-loop-start-smaller
-more_factors-loop-start-smaller t c = shorter_by (after s.Times) (factor_at (expr_at c.args.depth)) (factor_shrinks c.args.depth) c.loop-start.rest.now c.in_ok-found.end.now c.in-Some.start.now c.in_ok-found.found (sym c.in-Some.ensures) c.in_ok-found.ensures
-
-pub more_factors-loop-start-preserved : goal.more_factors-loop-start-preserved
-more_factors-loop-start-preserved t c =
-    rw c.in_ok-push.ensures.ok (goes_on (after s.Times) (factor_at (expr_at c.args.depth)) (factor_shrinks c.args.depth) c.loop-start.all c.loop-start.rest.now c.in_ok-found.end.now c.in-Some.start.now c.in_ok-found.found (more_at (after s.Times) (factor_at (expr_at c.args.depth)) c.args.front c.args.tokens.now) (sym c.in-Some.ensures) c.in_ok-found.ensures c.loop-start.invariant)
-
-pub more_factors-returns : goal.more_factors-returns
-more_factors-returns t c = is_done (after s.Times) (factor_at (expr_at c.args.depth)) (factor_shrinks c.args.depth) c.loop-start.all c.loop-start.rest.now (more_at (after s.Times) (factor_at (expr_at c.args.depth)) c.args.front c.args.tokens.now) (sym c.in_default.ensures) c.loop-start.invariant
+pub factors-returns : goal.factors-returns
+factors-returns t c = c.chain.ensures (factor_at (expr_at c.args.depth)) (factor_shrinks c.args.depth) (λ ts r h. search rules)
 
 pub more_terms-returns-in_err-found : goal.more_terms-returns-in_err-found
 more_terms-returns-in_err-found t c =

@@ -10,8 +10,8 @@ use Rattle.ssb_bind.specs.declared.condition.BoundColumn.{BoundColumn}
 use Rattle.ssb_bind.specs.declared.query.Aggregate.{Aggregate}
 use Rattle.ssb_bind.specs.declared.query.Aggregate.TheVariants as aggregate
 use Rattle.ssb_bind.specs.declared.query.QueryParts.{QueryParts}
-use Rattle.ssb_bind.specs.declared.query.Source.{Source}
-use Rattle.ssb_bind.specs.declared.query.Source.TheVariants as source
+use Rattle.ssb_bind.specs.declared.query.Origin.{Origin}
+use Rattle.ssb_bind.specs.declared.query.Origin.TheVariants as origin
 use Rattle.ssb_groups.specs.Rows.{Key, key_eq, SeenRow}
 use Rattle.ssb_groups.specs.Stands.{GroupMap, Stands, arguments_at, accumulated, totals, group, summary}
 use Rattle.ssb_groups.specs.Value.{Outcome}
@@ -53,12 +53,12 @@ total_is q G i = at_by q G i (slice_get q.aggregates i) refl
 beyond_is : (q : QueryParts) (G : List SeenRow) (k : Key) → entry_beyond q (k, totals (length q.aggregates) G) ≡ has_beyond q G
 beyond_is q G k = λ j. list_any (λ i. is_beyond (total_is q G i j)) (range_with_len 0 (length q.aggregates))
 
-cell_is : (q : QueryParts) (G : List SeenRow) (k : Key) (s : Source) → entry_cell q (k, totals (length q.aggregates) G) s ≡ item_cell q G k s
-cell_is q G k (source.Group i) = refl
-cell_is q G k (source.Aggregate i) = total_is q G i
+cell_is : (q : QueryParts) (G : List SeenRow) (k : Key) (s : Origin) → entry_cell q (k, totals (length q.aggregates) G) s ≡ item_cell q G k s
+cell_is q G k (origin.Group i) = refl
+cell_is q G k (origin.Aggregate i) = total_is q G i
 
 row_is : (q : QueryParts) (G : List SeenRow) (k : Key) → entry_row q (k, totals (length q.aggregates) G) ≡ row_of q G k
-row_is q G k = λ j. map (λ item. cell_is q G k item.source j) q.items
+row_is q G k = λ j. map (λ item. cell_is q G k item.origin j) q.items
 
 -- ---- entries with the aggregates of their groups
 

@@ -7,8 +7,8 @@ use Rattle.ssb_bind.specs.declared.condition.BoundColumn.{BoundColumn}
 use Rattle.ssb_bind.specs.declared.query.Aggregate.{Aggregate}
 use Rattle.ssb_bind.specs.declared.query.Aggregate.TheVariants as aggregate
 use Rattle.ssb_bind.specs.declared.query.QueryParts.{QueryParts}
-use Rattle.ssb_bind.specs.declared.query.Source.{Source}
-use Rattle.ssb_bind.specs.declared.query.Source.TheVariants as source
+use Rattle.ssb_bind.specs.declared.query.Origin.{Origin}
+use Rattle.ssb_bind.specs.declared.query.Origin.TheVariants as origin
 use Rattle.ssb_groups.specs.Rows.{Key}
 use Rattle.ssb_groups.specs.declared.accumulator.Accumulator.{Accumulator}
 use Rattle.ssb_answer.specs.Order.{Row}
@@ -36,12 +36,12 @@ total_at q ts i = total_if (slice_get q.aggregates i) (slice_get ts i)
 abbrev pub entry_beyond : QueryParts → Entry → Bool
 entry_beyond q e = list_any (λ i. is_beyond (total_at q e.1 i)) (range_with_len 0 (length q.aggregates))
 
-abbrev pub entry_cell : QueryParts → Entry → Source → Cell
-entry_cell q e (source.Group i) = unwrap_or (slice_get e.0 i) null
-entry_cell q e (source.Aggregate i) = total_at q e.1 i
+abbrev pub entry_cell : QueryParts → Entry → Origin → Cell
+entry_cell q e (origin.Group i) = unwrap_or (slice_get e.0 i) null
+entry_cell q e (origin.Aggregate i) = total_at q e.1 i
 
 abbrev pub entry_row : QueryParts → Entry → Row
-entry_row q e = map (λ item. entry_cell q e item.source) q.items
+entry_row q e = map (λ item. entry_cell q e item.origin) q.items
 
 -- the aggregates over no row
 abbrev pub zeros : ℕ → List Accumulator

@@ -8,8 +8,8 @@ use Rattle.ssb_bind.specs.declared.condition.BoundColumn.{BoundColumn}
 use Rattle.ssb_bind.specs.declared.query.Aggregate.{Aggregate}
 use Rattle.ssb_bind.specs.declared.query.Aggregate.TheVariants as aggregate
 use Rattle.ssb_bind.specs.declared.query.QueryParts.{QueryParts}
-use Rattle.ssb_bind.specs.declared.query.Source.{Source}
-use Rattle.ssb_bind.specs.declared.query.Source.TheVariants as source
+use Rattle.ssb_bind.specs.declared.query.Origin.{Origin}
+use Rattle.ssb_bind.specs.declared.query.Origin.TheVariants as origin
 use Rattle.ssb_groups.specs.Rows.{Key, key_eq, SeenRow}
 use Rattle.ssb_groups.specs.Stands.{overflows, least, value_count, exact_sum, arguments_at, group}
 use Rattle.ssb_groups.specs.Value.{Outcome, in_range}
@@ -64,13 +64,13 @@ leaves_range q R = list_any (λ k. has_beyond q (group k R)) (keys q.groups R)
 
 -- ---- rows
 
-abbrev pub item_cell : QueryParts → List SeenRow → Key → Source → Cell
-item_cell q G k (source.Group i) = unwrap_or (slice_get k i) null
-item_cell q G k (source.Aggregate i) = agg_at q G i
+abbrev pub item_cell : QueryParts → List SeenRow → Key → Origin → Cell
+item_cell q G k (origin.Group i) = unwrap_or (slice_get k i) null
+item_cell q G k (origin.Aggregate i) = agg_at q G i
 
 -- the row of a group
 abbrev pub row_of : QueryParts → List SeenRow → Key → Row
-row_of q G k = map (λ item. item_cell q G k item.source) q.items
+row_of q G k = map (λ item. item_cell q G k item.origin) q.items
 
 -- one row for each key, in no order
 abbrev pub bag : QueryParts → List SeenRow → List Row

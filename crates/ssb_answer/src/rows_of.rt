@@ -13,7 +13,7 @@ ghost use Rattle.ssb_answer.specs.Result.{Answers, AreKeyed, is_beyond};
 use crate::answer::{Answer, AnswerRow};
 use crate::fault::AnswerFault;
 use crate::order::sort_rows;
-use ssb_bind::{Aggregate, Query, QueryParts, Source};
+use ssb_bind::{Aggregate, Origin, Query, QueryParts};
 use ssb_groups::{Accumulator, GroupKey, Groups, OwnedValue, Totals};
 use std::alloc::{AllocError, Global};
 
@@ -100,14 +100,14 @@ fn item_value(
     parts: &QueryParts,
     key: &[OwnedValue],
     totals: &[Accumulator],
-    source: Source,
+    origin: Origin,
 ) -> Result<OwnedValue, AllocError>
     requires { spec.entry_beyond parts.now (map cell_in key.now, totals.now) ≡ false }
-    ensures { IfOk result (λ v. cell_in v ≡ spec.entry_cell parts.now (map cell_in key.now, totals.now) source) }
+    ensures { IfOk result (λ v. cell_in v ≡ spec.entry_cell parts.now (map cell_in key.now, totals.now) origin) }
 {
-    match source {
-        Source::Group(at) => key_value_at(alloc, key, at),
-        Source::Aggregate(at) => Ok(total_value_at(parts, totals, at)),
+    match origin {
+        Origin::Group(at) => key_value_at(alloc, key, at),
+        Origin::Aggregate(at) => Ok(total_value_at(parts, totals, at)),
     }
 }
 
@@ -123,7 +123,7 @@ fn entry_row(
 {
     let mut fields = Vec::with_capacity(alloc, parts.items.len())?;
     for item in parts.items.as_slice() {
-        fields.push(item_value(alloc, parts, key, totals, item.source)?)?;
+        fields.push(item_value(alloc, parts, key, totals, item.origin)?)?;
     }
     Ok(AnswerRow::new(fields))
 }

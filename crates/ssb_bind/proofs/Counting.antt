@@ -2,7 +2,7 @@
 use Rattle.std.proofs.Common.{◌≡◌, ℕ, ◌+◌, ◌<◌, List, [], ◌∷◌, ◌++◌, length, drop, get_or, fold, slice_get, refl, sym, ap, ◌∙◌}
 use Rattle.ssb_load.specs.Shapes.{TableShape}
 use Rattle.ssb_sql.specs.declared.expr.ColumnName.{ColumnName}
-use Rattle.ssb_bind.specs.Columns.{and_one, counted, fitting_in, fitting_from}
+use Rattle.ssb_bind.specs.Columns.{and_one, fit_of, fitting_in, fitting_from}
 use Rattle.ssb_bind.specs.declared.condition.BoundColumn.{BoundColumn}
 use Rattle.ssb_bind.specs.declared.fit.Fit.{Fit}
 use Rattle.ssb_bind.specs.declared.fit.Fit.TheVariants as fit
@@ -16,10 +16,10 @@ several : {A : Type 0} (xs : List A) → fold and_one fit.Several xs ≡ fit.Sev
 several [] = refl
 several (x ∷ xs) = several xs
 
-pub counted-fold : {A : Type 0} (xs : List A) → fold and_one fit.Missing xs ≡ counted xs
-counted-fold [] = refl
-counted-fold (x ∷ []) = refl
-counted-fold (x ∷ y ∷ ys) = several ys
+pub fit_of-fold : {A : Type 0} (xs : List A) → fold and_one fit.Missing xs ≡ fit_of xs
+fit_of-fold [] = refl
+fit_of-fold (x ∷ []) = refl
+fit_of-fold (x ∷ y ∷ ys) = several ys
 
 -- the columns of one table of FROM more
 pub next_table : (c : List TableShape) (name : ColumnName) (from : List ℕ) (place n : ℕ) (found next whole : Fit BoundColumn) → place < length from → n ≡ get_or from place n

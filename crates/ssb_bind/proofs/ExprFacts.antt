@@ -6,9 +6,9 @@ use Rattle.ssb_sql.specs.declared.expr.Expr.TheVariants as expr
 use Rattle.ssb_sql.specs.declared.expr.Expr.TheVariants.{rolls-Chain}
 use Rattle.ssb_sql.specs.declared.expr.Expr.TheFolds.{fold-roll-Expr, fold_out-Step}
 use Rattle.ssb_sql.specs.declared.expr.Step.{Step}
-use Rattle.ssb_bind.specs.Names.{Names, all_of, expr_layer, step_layer, expr_names, step_names}
+use Rattle.ssb_bind.specs.Names.{Names, concat, expr_layer, step_layer, expr_names, step_names}
 
-pub names_of_chain : (first : Expr) (steps : List Step) → expr_names (expr.Chain first steps) ≡ expr_names first ++ all_of (map step_names steps)
+pub names_of_chain : (first : Expr) (steps : List Step) → expr_names (expr.Chain first steps) ≡ expr_names first ++ concat (map step_names steps)
 names_of_chain first steps = ap expr_names (sym (rolls-Chain first steps)) ∙ fold-roll-Expr Names Names expr_layer step_layer (Expr-F.Chain first steps)
 
 pub names_of_step : (s : Step) → step_names s ≡ expr_names s.term

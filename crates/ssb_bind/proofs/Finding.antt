@@ -3,7 +3,7 @@ use Rattle.std.proofs.Common.{◌≡◌, ℕ, ◌+◌, ◌<◌, Bool, true, fals
 use Rattle.std.specs.List.{list_any}
 use Rattle.std.proofs.lemmas.List.{drop_more}
 use Rattle.std.proofs.lemmas.List.Folds.{list_any-append}
-use Rattle.ssb_bind.specs.Names.{all_of}
+use Rattle.ssb_bind.specs.Names.{concat}
 
 step_some : {X : Type 0} (b : Bool) (x y : X) (r s : Option X) → (r ≡ Some y → s ≡ Some y) → cond b (Some x) r ≡ Some y → cond b (Some x) s ≡ Some y
 step_some true x y r s h e = e
@@ -29,22 +29,22 @@ here xs i x below e = drop_more xs i x below ∙ ap (λ y. y ∷ drop (i + 1) xs
 
 module _ {X Y : Type 0} (p : Y → Bool) (f : X → List Y) where
   abbrev found_in : List X → Option Y
-  found_in xs = find p (all_of (map f xs))
+  found_in xs = find p (concat (map f xs))
 
   pub part_has : (xs : List X) (i : ℕ) (x : X) (y : Y) (whole : Option Y) → i < length xs → x ≡ get_or xs i x → find p (f x) ≡ Some y → found_in (drop i xs) ≡ whole → Some y ≡ whole
-  part_has xs i x y whole below e h so_far = sym (find_front p (f x) (all_of (map f (drop (i + 1) xs))) y h) ∙ sym (ap found_in (here xs i x below e)) ∙ so_far
+  part_has xs i x y whole below e h so_far = sym (find_front p (f x) (concat (map f (drop (i + 1) xs))) y h) ∙ sym (ap found_in (here xs i x below e)) ∙ so_far
 
   pub part_lacks : (xs : List X) (i : ℕ) (x : X) (whole : Option Y) → i < length xs → x ≡ get_or xs i x → find p (f x) ≡ None → found_in (drop i xs) ≡ whole → found_in (drop (i + 1) xs) ≡ whole
-  part_lacks xs i x whole below e h so_far = sym (find_back p (f x) (all_of (map f (drop (i + 1) xs))) h) ∙ sym (ap found_in (here xs i x below e)) ∙ so_far
+  part_lacks xs i x whole below e h so_far = sym (find_back p (f x) (concat (map f (drop (i + 1) xs))) h) ∙ sym (ap found_in (here xs i x below e)) ∙ so_far
 
 -- ---- the same for a test
 
 module _ {X Y : Type 0} (p : Y → Bool) (f : X → List Y) where
   abbrev any_in : List X → Bool
-  any_in xs = list_any p (all_of (map f xs))
+  any_in xs = list_any p (concat (map f xs))
 
   any_here : (xs : List X) (i : ℕ) (x : X) → i < length xs → x ≡ get_or xs i x → any_in (drop i xs) ≡ (list_any p (f x) || any_in (drop (i + 1) xs))
-  any_here xs i x below e = ap any_in (here xs i x below e) ∙ list_any-append p (f x) (all_of (map f (drop (i + 1) xs)))
+  any_here xs i x below e = ap any_in (here xs i x below e) ∙ list_any-append p (f x) (concat (map f (drop (i + 1) xs)))
 
   pub any_has : (xs : List X) (i : ℕ) (x : X) (whole : Bool) → i < length xs → x ≡ get_or xs i x → list_any p (f x) ≡ true → any_in (drop i xs) ≡ whole → true ≡ whole
   any_has xs i x whole below e h so_far = sym (ap (λ b. b || any_in (drop (i + 1) xs)) h) ∙ sym (any_here xs i x below e) ∙ so_far

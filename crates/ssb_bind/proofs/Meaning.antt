@@ -8,8 +8,8 @@ use Rattle.ssb_load.specs.Catalog.{IsCatalog, is_table_named}
 use Rattle.ssb_load.specs.Shapes.{TableShape, rules_of}
 use Rattle.ssb_sql.specs.declared.select.Select.{Select}
 use Rattle.ssb_bind.specs.Bound.{bound_query, bound_from}
-use Rattle.ssb_bind.specs.Columns.{table_number, table_numbers, columns_for, bound_name, counted, the_one, is_wrong, is_wrong_fit}
-use Rattle.ssb_bind.specs.Faults.{first_of, with, when, faults, least_fault, wrong_name, too_many, Says, Judges, Keeps, Means, Answers}
+use Rattle.ssb_bind.specs.Columns.{table_number, table_numbers, columns_for, bound_name, fit_of, the_one, is_wrong, is_wrong_fit}
+use Rattle.ssb_bind.specs.Faults.{first_of, with, when, faults, least_fault, wrong_name, too_many, Says, Judges, Keeps, Means, BindsTo}
 use Rattle.ssb_bind.specs.Names.{column_names}
 use Rattle.ssb_bind.specs.Star.{IsStar, is_joined, unjoined_from}
 use Rattle.ssb_bind.specs.Tables.{fact_place, rules_in}
@@ -47,7 +47,7 @@ none_found p [] e k d below = absurd (omega arith)
 none_found p (x ∷ xs) e zero d below = (step (p x) x (find p xs) e).0
 none_found p (x ∷ xs) e (suc k) d below = none_found p xs (step (p x) x (find p xs) e).1 k d (omega arith)
 
-single : (xs : List BoundColumn) (other : BoundColumn) → is_wrong_fit wrong.Unknown (counted xs) ≡ false → is_wrong_fit wrong.Ambiguous (counted xs) ≡ false → xs ≡ the_one (counted xs) other ∷ []
+single : (xs : List BoundColumn) (other : BoundColumn) → is_wrong_fit wrong.Unknown (fit_of xs) ≡ false → is_wrong_fit wrong.Ambiguous (fit_of xs) ≡ false → xs ≡ the_one (fit_of xs) other ∷ []
 single [] other e h = absurd cc
 single (x ∷ []) other e h = refl
 single (x ∷ y ∷ ys) other e h = absurd cc
@@ -78,7 +78,7 @@ is_bound c s q from e h = h ∙ ap (λ numbers. bound_from c numbers s) e
 
 -- a query that is bound and judged
 pub answers : (c : List TableShape) (s : Select) (q : QueryParts) (from : List ℕ) (judged : Result (Unit {0}) BindFault) (kept : Result QueryParts BindFault) → from ≡ table_numbers c s.from → q ≡ bound_from c from s
-    → Judges (first_of (faults c q s)) judged → Keeps q judged kept → Answers c s kept
+    → Judges (first_of (faults c q s)) judged → Keeps q judged kept → BindsTo c s kept
 answers c s q from (Ok u) kept e h j k = rw k (means c s q (is_bound c s q from e h) j)
 answers c s q from (Err f) kept e h j k = rw k (fails c s q f (is_bound c s q from e h) j)
 

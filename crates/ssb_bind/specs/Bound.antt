@@ -2,8 +2,7 @@
 -- Source: SQL-92, 7.9 <query specification>, cut down to the language.
 use Rattle.std.specs.Prelude.{ℕ, ◌+◌, nat_eq, Bool, true, false, ◌&&◌, if◌then◌else◌, List, [], ◌∷◌, map, Option, Some, None, unwrap_or}
 use Rattle.std.specs.List.{filter_map, position}
-use Rattle.ssb_cells.specs.declared.value.ColType.{ColType}
-use Rattle.ssb_cells.specs.declared.value.ColType.TheVariants as kinds
+use Rattle.std.specs.Option.{option_or}
 use Rattle.ssb_load.specs.Shapes.{TableShape}
 use Rattle.ssb_sql.specs.declared.condition.Condition.{Condition}
 use Rattle.ssb_sql.specs.declared.condition.Condition.TheOpen.{Condition-F}
@@ -20,7 +19,7 @@ use Rattle.ssb_sql.specs.declared.select.Output.TheVariants as output
 use Rattle.ssb_sql.specs.declared.select.Select.{Select}
 use Rattle.ssb_bind.specs.Columns.{bound_name, table_numbers}
 use Rattle.ssb_bind.specs.Orders.{bound_order}
-use Rattle.ssb_bind.specs.Tables.{rules_in, kind_at, fact_place}
+use Rattle.ssb_bind.specs.Tables.{rules_in, fact_place}
 use Rattle.ssb_bind.specs.declared.condition.BoundColumn.{BoundColumn}
 use Rattle.ssb_bind.specs.declared.condition.BoundCondition.{BoundCondition}
 use Rattle.ssb_bind.specs.declared.condition.BoundCondition.TheVariants as test
@@ -33,8 +32,8 @@ use Rattle.ssb_bind.specs.declared.query.Aggregate.{Aggregate}
 use Rattle.ssb_bind.specs.declared.query.Aggregate.TheVariants as aggregate
 use Rattle.ssb_bind.specs.declared.query.BoundItem.{BoundItem}
 use Rattle.ssb_bind.specs.declared.query.QueryParts.{QueryParts}
-use Rattle.ssb_bind.specs.declared.query.Source.{Source}
-use Rattle.ssb_bind.specs.declared.query.Source.TheVariants as source
+use Rattle.ssb_bind.specs.declared.query.Origin.{Origin}
+use Rattle.ssb_bind.specs.declared.query.Origin.TheVariants as origin
 
 abbrev pub bound_operand : List TableShape → List ℕ → Operand → BoundOperand
 bound_operand c from (operand.Column name) = bound.Column (bound_name c from name)
@@ -86,27 +85,20 @@ aggregate_of c from (output.Count e) = Some (aggregate.Count (bound_expr c from 
 abbrev pub aggregates_of : List TableShape → List ℕ → List Item → List Aggregate
 aggregates_of c from items = filter_map (λ item. aggregate_of c from item.output) items
 
-abbrev pub is_same : BoundColumn → BoundColumn → Bool
-is_same x y = nat_eq x.table y.table && nat_eq x.column y.column
+abbrev pub is_same_column : BoundColumn → BoundColumn → Bool
+is_same_column x y = nat_eq x.table y.table && nat_eq x.column y.column
 
 -- the place of a column among the group columns
 abbrev pub group_place : List BoundColumn → BoundColumn → Option ℕ
-group_place groups x = position (is_same x) groups
+group_place groups x = position (is_same_column x) groups
 
 -- A select column by its place: that of its group column, or of its aggregate, of which so many stand before it. A column that is
 -- no group column, which no bound query has, takes the first.
-abbrev pub source_of : List TableShape → List ℕ → List BoundColumn → ℕ → Output → Source
-source_of c from groups before (output.Column name) = source.Group (unwrap_or (group_place groups (bound_name c from name)) 0)
-source_of c from groups before (output.Sum e) = source.Aggregate before
-source_of c from groups before output.CountRows = source.Aggregate before
-source_of c from groups before (output.Count e) = source.Aggregate before
-
--- sums and counts are numbers
-abbrev pub kind_of_output : List TableShape → List ℕ → Output → ColType
-kind_of_output c from (output.Column name) = unwrap_or (kind_at (rules_in c) from (bound_name c from name)) kinds.Int
-kind_of_output c from (output.Sum e) = kinds.Int
-kind_of_output c from output.CountRows = kinds.Int
-kind_of_output c from (output.Count e) = kinds.Int
+abbrev pub origin_of : List TableShape → List ℕ → List BoundColumn → ℕ → Output → Origin
+origin_of c from groups before (output.Column name) = origin.Group (unwrap_or (group_place groups (bound_name c from name)) 0)
+origin_of c from groups before (output.Sum e) = origin.Aggregate before
+origin_of c from groups before output.CountRows = origin.Aggregate before
+origin_of c from groups before (output.Count e) = origin.Aggregate before
 
 -- the AS name, or else the name of the column
 abbrev pub own_name : Output → Option (List ℕ)
@@ -115,17 +107,12 @@ own_name (output.Sum e) = None
 own_name output.CountRows = None
 own_name (output.Count e) = None
 
-abbrev pub or_else : {A : Type 0} → Option A → Option A → Option A
-or_else (Some x) other = Some x
-or_else None other = other
-
 abbrev pub name_of_item : Item → Option (List ℕ)
-name_of_item item = or_else item.alias (own_name item.output)
+name_of_item item = option_or item.alias (own_name item.output)
 
 abbrev pub bound_item : List TableShape → List ℕ → List BoundColumn → ℕ → Item → BoundItem
 bound_item c from groups before item = record {
-  source = source_of c from groups before item.output;
-  kind = kind_of_output c from item.output;
+  origin = origin_of c from groups before item.output;
   name = name_of_item item;
 }
 

@@ -44,10 +44,10 @@ unfoldable pub columns_for : List TableShape → List ℕ → ColumnName → Lis
 columns_for c from name = fitting_from c name 0 from
 
 -- none, one alone, or several
-abbrev pub counted : {A : Type 0} → List A → Fit A
-counted [] = fit.Missing
-counted (x ∷ []) = fit.One x
-counted (x ∷ y ∷ rest) = fit.Several
+abbrev pub fit_of : {A : Type 0} → List A → Fit A
+fit_of [] = fit.Missing
+fit_of (x ∷ []) = fit.One x
+fit_of (x ∷ y ∷ rest) = fit.Several
 
 -- one more
 abbrev pub and_one : {A : Type 0} → Fit A → A → Fit A
@@ -63,7 +63,7 @@ the_one fit.Several other = other
 
 -- The column that a name stands for: of a name that does not fit one alone, which no bound query has, the first of FROM.
 abbrev pub bound_name : List TableShape → List ℕ → ColumnName → BoundColumn
-bound_name c from name = the_one (counted (columns_for c from name)) (record { table = 0; column = 0 })
+bound_name c from name = the_one (fit_of (columns_for c from name)) (record { table = 0; column = 0 })
 
 abbrev pub is_wrong_fit : {A : Type 0} → Wrong → Fit A → Bool
 is_wrong_fit wrong.Unknown fit.Missing = true
@@ -75,4 +75,4 @@ is_wrong_fit wrong.Ambiguous fit.Several = true
 
 -- a name that fits no column, or several
 abbrev pub is_wrong : List TableShape → List ℕ → Wrong → ColumnName → Bool
-is_wrong c from w name = is_wrong_fit w (counted (columns_for c from name))
+is_wrong c from w name = is_wrong_fit w (fit_of (columns_for c from name))

@@ -137,6 +137,6 @@ pub record Means (c : List TableShape) (s : Select) (q : QueryParts) : Type 0 wh
   pub no_fault : least_fault c s ≡ None
 
 -- the query that the select means, or the least fault
-abbrev pub Answers : List TableShape → Select → Result QueryParts BindFault → Type 0
-Answers c s (Ok q) = Means c s q
-Answers c s (Err f) = Says (least_fault c s) f
+abbrev pub BindsTo : List TableShape → Select → Result QueryParts BindFault → Type 0
+BindsTo c s (Ok q) = Means c s q
+BindsTo c s (Err f) = Says (least_fault c s) f

@@ -17,9 +17,9 @@ use Rattle.ssb_sql.specs.declared.select.Output.TheVariants as output
 use Rattle.ssb_sql.specs.declared.select.Select.{Select}
 
 -- lists one after the other
-abbrev pub all_of : {A : Type 0} → List (List A) → List A
-all_of [] = []
-all_of (xs ∷ rest) = xs ++ all_of rest
+abbrev pub concat : {A : Type 0} → List (List A) → List A
+concat [] = []
+concat (xs ∷ rest) = xs ++ concat rest
 
 abbrev pub Names : Type 0
 Names = List ColumnName
@@ -30,8 +30,8 @@ expr_layer (Expr-F.Column name) = name ∷ []
 expr_layer (Expr-F.Number n) = []
 expr_layer (Expr-F.Positive part) = part
 expr_layer (Expr-F.Negative part) = part
-expr_layer (Expr-F.Chain first steps) = first ++ all_of steps
-expr_layer (Expr-F.Times factors) = all_of factors
+expr_layer (Expr-F.Chain first steps) = first ++ concat steps
+expr_layer (Expr-F.Times factors) = concat factors
 
 abbrev pub step_layer : Step-F Names Names → Names
 step_layer s = s.term
@@ -49,8 +49,8 @@ operand_names (operand.Literal l) = []
 
 -- one form of condition, with the names of the conditions in it
 abbrev pub condition_layer : Condition-F Names → Names
-condition_layer (Condition-F.Any parts) = all_of parts
-condition_layer (Condition-F.All parts) = all_of parts
+condition_layer (Condition-F.Any parts) = concat parts
+condition_layer (Condition-F.All parts) = concat parts
 condition_layer (Condition-F.Not part) = part
 condition_layer (Condition-F.Compare op a b) = operand_names a ++ operand_names b
 condition_layer (Condition-F.Between x a b) = operand_names x ++ (operand_names a ++ operand_names b)
@@ -79,4 +79,4 @@ item_names item = output_names item.output
 
 -- the names of columns of a query
 abbrev pub column_names : Select → Names
-column_names s = all_of (map item_names s.items) ++ (where_names s.condition ++ s.groups)
+column_names s = concat (map item_names s.items) ++ (where_names s.condition ++ s.groups)

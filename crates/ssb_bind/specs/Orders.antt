@@ -5,7 +5,7 @@ use Rattle.std.specs.Str.{bytes_eq}
 use Rattle.ssb_sql.specs.declared.select.Key.{Key}
 use Rattle.ssb_sql.specs.declared.select.Key.TheVariants as key
 use Rattle.ssb_sql.specs.declared.select.Order.{Order}
-use Rattle.ssb_bind.specs.Columns.{counted, the_one}
+use Rattle.ssb_bind.specs.Columns.{fit_of, the_one}
 use Rattle.ssb_bind.specs.declared.fit.Fit.{Fit}
 use Rattle.ssb_bind.specs.declared.fit.Fit.TheVariants as fit
 use Rattle.ssb_bind.specs.declared.query.BoundItem.{BoundItem}
@@ -30,7 +30,7 @@ places_for items k = places_from k 0 items
 
 -- A key stands for the one select column that it fits: of a key that does not fit one alone, which no bound query has, for the first.
 abbrev pub bound_order : List BoundItem → Order → BoundOrder
-bound_order items o = record { item = the_one (counted (places_for items o.key)) 0; descending = o.descending }
+bound_order items o = record { item = the_one (fit_of (places_for items o.key)) 0; descending = o.descending }
 
 abbrev pub fits_one : {A : Type 0} → Fit A → Bool
 fits_one (fit.One x) = true
@@ -40,4 +40,4 @@ fits_one fit.Several = false
 -- the number of the first key that does not fit one select column alone, of those from a number on
 abbrev pub bad_from : List BoundItem → ℕ → List Order → Option ℕ
 bad_from items number [] = None
-bad_from items number (o ∷ os) = if fits_one (counted (places_for items o.key)) then bad_from items (number + 1) os else Some number
+bad_from items number (o ∷ os) = if fits_one (fit_of (places_for items o.key)) then bad_from items (number + 1) os else Some number

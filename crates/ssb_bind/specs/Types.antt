@@ -24,23 +24,23 @@ use Rattle.ssb_bind.specs.declared.query.TableRules.{TableRules}
 -- Expressions: a column has its type, a number is one, and a sign or an operation needs numbers. None is the type of an
 -- expression that has none.
 
-abbrev pub is_number : Option ColType → Bool
-is_number (Some kinds.Int) = true
-is_number (Some kinds.Text) = false
-is_number None = false
+abbrev pub is_int_type : Option ColType → Bool
+is_int_type (Some kinds.Int) = true
+is_int_type (Some kinds.Text) = false
+is_int_type None = false
 
 abbrev pub number_if : Bool → Option ColType
 number_if b = if b then Some kinds.Int else None
 
 -- a number, if each of these is one
 abbrev pub number_of_all : List (Option ColType) → Option ColType
-number_of_all ts = number_if (list_all is_number ts)
+number_of_all ts = number_if (list_all is_int_type ts)
 
 abbrev pub type_layer : List TableRules → List ℕ → BoundExpr-F (Option ColType) (Option ColType) → Option ColType
 type_layer tables from (BoundExpr-F.Column x) = kind_at tables from x
 type_layer tables from (BoundExpr-F.Number n) = Some kinds.Int
-type_layer tables from (BoundExpr-F.Positive part) = number_if (is_number part)
-type_layer tables from (BoundExpr-F.Negative part) = number_if (is_number part)
+type_layer tables from (BoundExpr-F.Positive part) = number_if (is_int_type part)
+type_layer tables from (BoundExpr-F.Negative part) = number_if (is_int_type part)
 type_layer tables from (BoundExpr-F.Chain first steps) = number_of_all (first ∷ steps)
 type_layer tables from (BoundExpr-F.Times factors) = number_of_all factors
 
@@ -56,7 +56,7 @@ type_of_step tables from = fold-BoundStep (Option ColType) (Option ColType) (typ
 
 -- SUM is of numbers; COUNT is of any type
 abbrev pub is_untyped : List TableRules → List ℕ → Aggregate → Bool
-is_untyped tables from (aggregate.Sum e) = not (is_number (type_of tables from e))
+is_untyped tables from (aggregate.Sum e) = not (is_int_type (type_of tables from e))
 is_untyped tables from aggregate.CountRows = false
 is_untyped tables from (aggregate.Count e) = is_none (type_of tables from e)
 

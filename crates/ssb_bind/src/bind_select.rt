@@ -10,12 +10,11 @@ use crate::bind_expr::bound_expr;
 use crate::condition::BoundColumn;
 use crate::groups::group_place;
 use crate::orders::bound_orders;
-use crate::query::{Aggregate, BoundItem, QueryParts, Source, TableRules};
+use crate::query::{Aggregate, BoundItem, Origin, QueryParts, TableRules};
 use crate::resolve::bound_name;
 use crate::star::fact_place;
-use crate::types::kind_at;
 use sqlite_items::Items;
-use ssb_cells::{ColType, Name};
+use ssb_cells::Name;
 use ssb_load::{ColumnDef, Rule, TableDef};
 use ssb_sql::{ColumnName, Item, Output, Select};
 use std::alloc::{AllocError, Global};
@@ -95,34 +94,21 @@ fn aggregates_of(
     Ok(all)
 }
 
-fn source_of(
+fn origin_of(
     catalog: &[TableDef],
     from: &[usize],
     groups: &[BoundColumn],
     before: usize,
     output: &Output,
-) -> Source
-    ensures { result ≡ spec.source_of catalog.now from.now groups.now before output.now }
+) -> Origin
+    ensures { result ≡ spec.origin_of catalog.now from.now groups.now before output.now }
 {
     match output {
         Output::Column(name) => {
             let column = bound_name(catalog, from, name);
-            Source::Group(group_place(groups, column).unwrap_or(0))
+            Origin::Group(group_place(groups, column).unwrap_or(0))
         }
-        _ => Source::Aggregate(before),
-    }
-}
-
-fn kind_of(catalog: &[TableDef], tables: &[TableRules], from: &[usize], output: &Output) -> ColType
-    requires { tables.now ≡ rules_in catalog.now }
-    ensures { result ≡ spec.kind_of_output catalog.now from.now output.now }
-{
-    match output {
-        Output::Column(name) => {
-            let column = bound_name(catalog, from, name);
-            kind_at(tables, from, column).unwrap_or(ColType::Int)
-        }
-        _ => ColType::Int,
+        _ => Origin::Aggregate(before),
     }
 }
 
@@ -139,18 +125,15 @@ fn name_of(alloc: Global, item: &Item) -> Result<Option<Name>, AllocError>
 fn bound_item(
     alloc: Global,
     catalog: &[TableDef],
-    tables: &[TableRules],
     from: &[usize],
     groups: &[BoundColumn],
     before: usize,
     item: &Item,
 ) -> Result<BoundItem, AllocError>
-    requires { tables.now ≡ rules_in catalog.now }
     ensures { IfOk result (λ i. i ≡ spec.bound_item catalog.now from.now groups.now before item.now) }
 {
     Ok(BoundItem {
-        source: source_of(catalog, from, groups, before, &item.output),
-        kind: kind_of(catalog, tables, from, &item.output),
+        origin: origin_of(catalog, from, groups, before, &item.output),
         name: name_of(alloc, item)?,
     })
 }
@@ -164,18 +147,16 @@ fn is_aggregate(output: &Output) -> bool
 fn bound_items(
     alloc: Global,
     catalog: &[TableDef],
-    tables: &[TableRules],
     from: &[usize],
     groups: &[BoundColumn],
     items: &[Item],
 ) -> Result<Items<BoundItem>, AllocError>
-    requires { tables.now ≡ rules_in catalog.now }
     ensures { IfOk result (λ all. all ≡ spec.bound_items catalog.now from.now groups.now 0 items.now) }
 {
     let mut all = Items::new(alloc);
     let mut before = 0;
     for item in items {
-        all.push(bound_item(alloc, catalog, tables, from, groups, before, item)?)?;
+        all.push(bound_item(alloc, catalog, from, groups, before, item)?)?;
         if is_aggregate(&item.output) {
             before += 1;
         }
@@ -195,21 +176,13 @@ pub(crate) fn bound_query(
 {
     let numbers = from.as_slice();
     let tables = rules_in(alloc, catalog)?;
-    let rules = tables.as_slice();
     let groups = bound_names(alloc, catalog, numbers, select.groups.as_slice())?;
     let columns = groups.as_slice();
-    let items = bound_items(
-        alloc,
-        catalog,
-        rules,
-        numbers,
-        columns,
-        select.items.as_slice(),
-    )?;
+    let items = bound_items(alloc, catalog, numbers, columns, select.items.as_slice())?;
     let orders = bound_orders(alloc, items.as_slice(), select.orders.as_slice())?;
     let aggregates = aggregates_of(alloc, catalog, numbers, select.items.as_slice())?;
     let condition = bound_where(alloc, catalog, numbers, &select.condition)?;
-    let fact = fact_place(rules, numbers).unwrap_or(0);
+    let fact = fact_place(tables.as_slice(), numbers).unwrap_or(0);
     Ok(QueryParts {
         tables,
         from,

@@ -25,7 +25,7 @@ fn keep(query: QueryParts, checked: Result<(), BindFault>) -> Result<QueryParts,
 
 #[tactic(auto, using(crate::proofs::Meaning::answers))]
 fn judged(alloc: Global, catalog: &[TableDef], select: &Select) -> Result<QueryParts, BindFault>
-    ensures { spec.Answers catalog.now select.now result }
+    ensures { spec.BindsTo catalog.now select.now result }
 {
     let from = table_numbers(alloc, catalog, select.from.as_slice())?;
     let query = bound_query(alloc, catalog, from, select)?;
@@ -42,7 +42,7 @@ fn judged(alloc: Global, catalog: &[TableDef], select: &Select) -> Result<QueryP
 /// applies. `Memory` where a growth was refused.
 #[tactic(auto, using(crate::proofs::Meaning::star))]
 pub fn bind(alloc: Global, catalog: &Catalog, select: Select) -> Result<Query, BindFault>
-    ensures { spec.Answers catalog.now select result }
+    ensures { spec.BindsTo catalog.now select result }
 {
     let parts = judged(alloc, catalog.tables(), &select)?;
     Ok(Query::new(parts))

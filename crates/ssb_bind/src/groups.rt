@@ -3,7 +3,7 @@
 ghost use Rattle.std.specs.Prelude.{◌≡◌, find, is_none};
 ghost use Rattle.std.specs.List.{filter_map};
 ghost use Rattle.std.specs.Option.{option_copied};
-ghost use Rattle.ssb_bind.specs.Bound.{is_same, group_place};
+ghost use Rattle.ssb_bind.specs.Bound.{is_same_column, group_place};
 ghost use Rattle.ssb_bind.specs.Faults as spec;
 
 use crate::condition::BoundColumn;
@@ -11,8 +11,8 @@ use crate::resolve::bound_name;
 use ssb_load::TableDef;
 use ssb_sql::{ColumnName, Item, Output};
 
-fn is_same(x: BoundColumn, y: BoundColumn) -> bool
-    ensures { result ≡ is_same x y }
+fn is_same_column(x: BoundColumn, y: BoundColumn) -> bool
+    ensures { result ≡ is_same_column x y }
 {
     x.table == y.table && x.column == y.column
 }
@@ -21,7 +21,9 @@ fn is_same(x: BoundColumn, y: BoundColumn) -> bool
 pub(crate) fn group_place(groups: &[BoundColumn], column: BoundColumn) -> Option<usize>
     ensures { result ≡ group_place groups.now column }
 {
-    groups.iter().position(|group| is_same(column, *group))
+    groups
+        .iter()
+        .position(|group| is_same_column(column, *group))
 }
 
 fn is_ungrouped(

@@ -33,7 +33,7 @@ fn unknown_table<'a>(catalog: &[TableDef], from: &'a [Name]) -> Option<&'a Name>
     None
 }
 
-fn is_same(name: &Name, other: &Name) -> bool
+fn is_same_name(name: &Name, other: &Name) -> bool
     ensures { result ≡ bytes_eq name.now other.now }
 {
     name.as_str() == other.as_str()
@@ -42,7 +42,7 @@ fn is_same(name: &Name, other: &Name) -> bool
 fn stands_in(names: &[Name], name: &Name) -> bool
     ensures { result ≡ list_any (bytes_eq name.now) names.now }
 {
-    names.iter().any(|other| is_same(name, other))
+    names.iter().any(|other| is_same_name(name, other))
 }
 
 fn repeated(from: &[Name]) -> Option<&Name>

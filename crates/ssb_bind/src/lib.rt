@@ -10,6 +10,7 @@ mod bind_expr;
 mod bind_select;
 mod bind_to_catalog;
 pub mod condition;
+mod copy;
 pub mod expr;
 pub mod fault;
 mod fit;
@@ -21,12 +22,10 @@ mod orders;
 pub mod query;
 mod resolve;
 mod star;
-#[cfg(test)]
-mod tests;
 mod types;
 
 pub use bind_to_catalog::bind;
 pub use condition::{BoundColumn, BoundCondition, BoundOperand};
 pub use expr::{BoundExpr, BoundStep};
 pub use fault::{BindFault, TooMany};
-pub use query::{Aggregate, BoundItem, BoundOrder, Query, QueryParts, Source, TableRules};
+pub use query::{Aggregate, BoundItem, BoundOrder, Origin, Query, QueryParts, TableRules};

@@ -43,7 +43,7 @@ fn in_steps<'a>(
     wrong: Wrong,
     steps: &'a [Step],
 ) -> Option<&'a ColumnName>
-    ensures { option_copied result ≡ find (is_wrong catalog.now from.now wrong) (names.all_of (map names.step_names steps.now)) }
+    ensures { option_copied result ≡ find (is_wrong catalog.now from.now wrong) (names.concat (map names.step_names steps.now)) }
 {
     for step in steps {
         if let Some(name) = in_expr(catalog, from, wrong, &step.term) {
@@ -60,7 +60,7 @@ fn in_factors<'a>(
     wrong: Wrong,
     factors: &'a [Expr],
 ) -> Option<&'a ColumnName>
-    ensures { option_copied result ≡ find (is_wrong catalog.now from.now wrong) (names.all_of (map names.expr_names factors.now)) }
+    ensures { option_copied result ≡ find (is_wrong catalog.now from.now wrong) (names.concat (map names.expr_names factors.now)) }
 {
     for factor in factors {
         if let Some(name) = in_expr(catalog, from, wrong, factor) {
@@ -147,7 +147,7 @@ fn in_parts<'a>(
     wrong: Wrong,
     parts: &'a [Condition],
 ) -> Option<&'a ColumnName>
-    ensures { option_copied result ≡ find (is_wrong catalog.now from.now wrong) (names.all_of (map names.condition_names parts.now)) }
+    ensures { option_copied result ≡ find (is_wrong catalog.now from.now wrong) (names.concat (map names.condition_names parts.now)) }
 {
     for part in parts {
         if let Some(name) = in_condition(catalog, from, wrong, part) {
@@ -202,7 +202,7 @@ fn in_items<'a>(
     wrong: Wrong,
     items: &'a [Item],
 ) -> Option<&'a ColumnName>
-    ensures { option_copied result ≡ find (is_wrong catalog.now from.now wrong) (names.all_of (map names.item_names items.now)) }
+    ensures { option_copied result ≡ find (is_wrong catalog.now from.now wrong) (names.concat (map names.item_names items.now)) }
 {
     for item in items {
         if let Some(name) = in_item(catalog, from, wrong, item) {

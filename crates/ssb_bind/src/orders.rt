@@ -1,7 +1,7 @@
 // Keys of ORDER BY.
 
 ghost use Rattle.std.specs.Prelude.{◌≡◌, IfOk, fold, map};
-ghost use Rattle.ssb_bind.specs.Columns.{counted};
+ghost use Rattle.ssb_bind.specs.Columns.{fit_of};
 ghost use Rattle.ssb_bind.specs.Orders as spec;
 
 use crate::fit::Fit;
@@ -31,7 +31,7 @@ fn is_key_of(key: &Key, place: usize, item: &BoundItem) -> bool
 
 // How many select columns a key fits.
 fn fit_of(items: &[BoundItem], key: &Key) -> Fit<usize>
-    ensures { result ≡ counted (spec.places_for items.now key.now) }
+    ensures { result ≡ fit_of (spec.places_for items.now key.now) }
 {
     let mut found = Fit::Missing;
     for (place, item) in items.iter().enumerate() {

@@ -81,7 +81,7 @@ fn and_fitting_in(
 // How many columns of FROM's tables a name fits.
 #[tactic(auto, using(crate::proofs::Counting::next_table))]
 pub(crate) fn fit_of(catalog: &[TableDef], from: &[usize], name: &ColumnName) -> Fit<BoundColumn>
-    ensures { result ≡ columns.counted (columns.columns_for catalog.now from.now name.now) }
+    ensures { result ≡ columns.fit_of (columns.columns_for catalog.now from.now name.now) }
 {
     let mut found = Fit::Missing;
     for (place, number) in from.iter().enumerate() {

@@ -33,8 +33,8 @@ pub(crate) fn kind_at(tables: &[TableRules], from: &[usize], column: BoundColumn
     }
 }
 
-fn is_number(kind: Option<ColType>) -> bool
-    ensures { result ≡ spec.is_number kind }
+fn is_int_type(kind: Option<ColType>) -> bool
+    ensures { result ≡ spec.is_int_type kind }
 {
     matches!(kind, Some(ColType::Int))
 }
@@ -47,10 +47,10 @@ fn number_if(all: bool) -> Option<ColType>
 
 #[cycle(expr)]
 fn are_number_steps(tables: &[TableRules], from: &[usize], steps: &[BoundStep]) -> bool
-    ensures { result ≡ list_all spec.is_number (map (spec.type_of_step tables.now from.now) steps.now) }
+    ensures { result ≡ list_all spec.is_int_type (map (spec.type_of_step tables.now from.now) steps.now) }
 {
     for step in steps {
-        if !is_number(type_of(tables, from, &step.term)) {
+        if !is_int_type(type_of(tables, from, &step.term)) {
             return false;
         }
     }
@@ -59,10 +59,10 @@ fn are_number_steps(tables: &[TableRules], from: &[usize], steps: &[BoundStep]) 
 
 #[cycle(expr)]
 fn are_number_factors(tables: &[TableRules], from: &[usize], factors: &[BoundExpr]) -> bool
-    ensures { result ≡ list_all spec.is_number (map (spec.type_of tables.now from.now) factors.now) }
+    ensures { result ≡ list_all spec.is_int_type (map (spec.type_of tables.now from.now) factors.now) }
 {
     for factor in factors {
-        if !is_number(type_of(tables, from, factor)) {
+        if !is_int_type(type_of(tables, from, factor)) {
             return false;
         }
     }
@@ -76,10 +76,10 @@ fn type_of(tables: &[TableRules], from: &[usize], expr: &BoundExpr) -> Option<Co
     match expr {
         BoundExpr::Column(column) => kind_at(tables, from, *column),
         BoundExpr::Number(_) => Some(ColType::Int),
-        BoundExpr::Positive(part) => number_if(is_number(type_of(tables, from, part.get()))),
-        BoundExpr::Negative(part) => number_if(is_number(type_of(tables, from, part.get()))),
+        BoundExpr::Positive(part) => number_if(is_int_type(type_of(tables, from, part.get()))),
+        BoundExpr::Negative(part) => number_if(is_int_type(type_of(tables, from, part.get()))),
         BoundExpr::Chain(first, steps) => number_if(
-            is_number(type_of(tables, from, first.get()))
+            is_int_type(type_of(tables, from, first.get()))
                 && are_number_steps(tables, from, steps.as_slice()),
         ),
         BoundExpr::Times(factors) => {
@@ -92,7 +92,7 @@ fn is_untyped(tables: &[TableRules], from: &[usize], aggregate: &Aggregate) -> b
     ensures { result ≡ spec.is_untyped tables.now from.now aggregate.now }
 {
     match aggregate {
-        Aggregate::Sum(expr) => !is_number(type_of(tables, from, expr)),
+        Aggregate::Sum(expr) => !is_int_type(type_of(tables, from, expr)),
         Aggregate::CountRows => false,
         Aggregate::Count(expr) => type_of(tables, from, expr).is_none(),
     }

@@ -1,7 +1,8 @@
 -- No accumulator of at most 2^32 rows wraps.
-use Rattle.std.proofs.Common.{◌≡◌, ℕ, zero, suc, ◌+◌, ◌*◌, ◌^◌, ◌≤◌, ◌<◌, pos, ◌≤ℤ◌, true, false, cond, List, [], ◌∷◌, map, length, Some, refl, arith}
+use Rattle.std.proofs.Common.{◌≡◌, ℕ, zero, suc, ◌+◌, ◌*◌, ◌^◌, ◌≤◌, ◌<◌, pos, negsuc, ◌≤ℤ◌, true, false, cond, List, [], ◌∷◌, map, length, Some, refl, arith}
 use Rattle.std.specs.Prelude.{neg_ℤ, slice_get, unwrap_or}
 use Rattle.std.specs.List.{range_with_len}
+use Rattle.std.proofs.lemmas.Bool.{ltb-true}
 use Rattle.std.proofs.lemmas.Int.{ints}
 use Rattle.ssb_cells.specs.Cell.{null, number, text}
 use Rattle.ssb_groups.specs.Joining.{Fits, FitEach}
@@ -19,13 +20,15 @@ pub record IsBounded (a : Accumulator) (n : ℕ) : Type 0 where
 amount_high : (o : Outcome) → IsRanged o → amount_of o ≤ℤ pos (2 ^ 63)
 amount_high over r = omega (arith, ints)
 amount_high (known null) r = omega (arith, ints)
-amount_high (known (number n)) r = omega (arith, ints)
+amount_high (known (number (pos n))) r = let h = ltb-true n (2 ^ 63) r in omega (arith, ints)
+amount_high (known (number (negsuc n))) r = omega (arith, ints)
 amount_high (known (text t)) r = omega (arith, ints)
 
 amount_low : (o : Outcome) → IsRanged o → neg_ℤ (pos (2 ^ 63)) ≤ℤ amount_of o
 amount_low over r = omega (arith, ints)
 amount_low (known null) r = omega (arith, ints)
-amount_low (known (number n)) r = omega (arith, ints)
+amount_low (known (number (pos n))) r = omega (arith, ints)
+amount_low (known (number (negsuc n))) r = let h = ltb-true n (2 ^ 63) r in omega (arith, ints)
 amount_low (known (text t)) r = omega (arith, ints)
 
 count_of-le : (o : Outcome) → count_of o ≤ 1

@@ -1,9 +1,10 @@
--- What is gathered of a row.
+-- What is gathered of a row, and what adding it does.
 -- For the contracts inside this crate.
-use Rattle.std.specs.Prelude.{◌≡◌, ℕ, zero, suc, Bool, List, [], ◌∷◌, map}
+use Rattle.std.specs.Prelude.{◌≡◌, ℕ, zero, suc, Bool, true, false, List, [], ◌∷◌, ◌++◌, map}
 use Rattle.std.specs.List.{list_any}
 use Rattle.ssb_cells.specs.Cell.{Cell}
-use Rattle.ssb_groups.specs.Stands.{accumulated, is_over, EachRanged}
+use Rattle.ssb_groups.specs.Rows.{Key, SeenRow}
+use Rattle.ssb_groups.specs.Stands.{GroupMap, Stands, accumulated, has_over, is_over, totals, EachRanged}
 use Rattle.ssb_groups.specs.Value.{Outcome}
 use Rattle.ssb_groups.specs.declared.accumulator.Accumulator.{Accumulator}
 
@@ -22,3 +23,20 @@ abbrev pub set_or_push : List Cell → ℕ → Cell → List Cell
 set_or_push [] at c = c ∷ []
 set_or_push (x ∷ xs) zero c = c ∷ xs
 set_or_push (x ∷ xs) (suc at) c = x ∷ set_or_push xs at c
+
+-- a row of this fact row at which an argument is Over
+pub record IsOverAt (n : ℕ) (r : SeenRow) : Type 0 where
+  pub over : has_over r ≡ true
+  pub fact : r.fact ≡ n
+  pub ranged : EachRanged r.arguments
+
+-- a row at which none is, with its key and its accumulators
+pub record IsPlain (width : ℕ) (k : Key) (each : List Accumulator) (r : SeenRow) : Type 0 where
+  pub plain : has_over r ≡ false
+  pub key : k ≡ r.key
+  pub more : each ≡ totals width (r ∷ [])
+  pub ranged : EachRanged r.arguments
+
+-- groups that come to stand for one row more, of those that P describes
+abbrev pub AddsRow : (SeenRow → Type 0) → GroupMap → GroupMap → Type 0
+AddsRow P before after = (A : List SeenRow) (r : SeenRow) → P r → Stands before A → Stands after (A ++ r ∷ [])

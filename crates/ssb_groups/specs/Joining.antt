@@ -1,8 +1,10 @@
 -- Accumulators over the values of two lists.
 -- For the contracts inside this crate.
-use Rattle.std.specs.Prelude.{ℕ, zero, suc, ◌+◌, ◌^◌, ◌<◌, ◌+ℤ◌, ⊤, List, [], ◌∷◌, Option, None, Some}
+use Rattle.std.specs.Prelude.{ℕ, zero, suc, ◌+◌, ◌^◌, ◌<◌, ◌+ℤ◌, ◌≡◌, ⊤, cond, List, [], ◌∷◌, Option, None, Some}
 use Rattle.std.specs.Int.RustNames.{FitsSigned}
 use Rattle.std.specs.Int.{w128}
+use Rattle.std.specs.Map.{lookup}
+use Rattle.ssb_groups.specs.Rows.{Key, key_eq}
 use Rattle.ssb_groups.specs.declared.accumulator.Accumulator.{Accumulator}
 
 abbrev pub joined : Accumulator → Accumulator → Accumulator
@@ -15,16 +17,14 @@ pub record Fits (a b : Accumulator) : Type 0 where
 
 -- place by place
 abbrev pub joined_each : List Accumulator → List Accumulator → List Accumulator
-joined_each [] bs = []
-joined_each (x ∷ xs) [] = []
 joined_each (x ∷ xs) (b ∷ bs) = joined x b ∷ joined_each xs bs
+joined_each xs bs = []
 
 -- as many on both sides, and each pair fits
 abbrev pub FitEach : List Accumulator → List Accumulator → Type 0
 FitEach [] [] = ⊤
-FitEach [] (b ∷ bs) = ⊥
-FitEach (x ∷ xs) [] = ⊥
 FitEach (x ∷ xs) (b ∷ bs) = Fits x b × FitEach xs bs
+FitEach xs bs = ⊥
 
 -- the first n accumulators joined, and the rest as they were
 abbrev pub joined_front : ℕ → List Accumulator → List Accumulator → List Accumulator
@@ -37,3 +37,8 @@ abbrev pub option_joined : Option (List Accumulator) → Option (List Accumulato
 option_joined None other = other
 option_joined (Some xs) None = Some xs
 option_joined (Some xs) (Some ys) = Some (joined_each xs ys)
+
+-- accumulators are joined to those of one key, where they fit, and the other keys have what they had
+abbrev pub JoinsAt : Key → List Accumulator → List (Key × List Accumulator) → List (Key × List Accumulator) → Type 0
+JoinsAt k more before after = ((xs : List Accumulator) → lookup (key_eq k) before ≡ Some xs → FitEach xs more)
+    → (q : Key) → lookup (key_eq q) after ≡ option_joined (lookup (key_eq q) before) (cond (key_eq q k) (Some more) None)

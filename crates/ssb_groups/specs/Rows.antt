@@ -13,14 +13,9 @@ Key = List Cell
 
 abbrev pub cell_eq : Cell → Cell → Bool
 cell_eq null null = true
-cell_eq null (number b) = false
-cell_eq null (text b) = false
-cell_eq (number a) null = false
 cell_eq (number a) (number b) = int_eq a b
-cell_eq (number a) (text b) = false
-cell_eq (text a) null = false
-cell_eq (text a) (number b) = false
 cell_eq (text a) (text b) = bytes_eq a b
+cell_eq a b = false
 
 -- keys are equal where their values are; nulls are equal
 abbrev pub key_eq : Key → Key → Bool

@@ -2,13 +2,11 @@
 -- Source: SQL-92, 6.5 <set function specification>, 7.7 <group by clause>; that an overflow goes before all sums is this project's own.
 use Rattle.std.specs.Prelude.{◌≡◌, ℕ, ◌+◌, ℤ, pos, ◌+ℤ◌, Bool, true, false, List, [], ◌∷◌, map, min, length, Option, None, Some, slice_get, unwrap_or, ⊤}
 use Rattle.std.specs.List.{filter, list_any, range_with_len, IsDistinct}
-use Rattle.std.specs.Int.RustNames.{FitsSigned}
-use Rattle.std.specs.Int.{w64}
 use Rattle.std.specs.Map.{lookup}
 use Rattle.ssb_cells.specs.Cell.{null, number, text}
 use Rattle.ssb_job.specs.Kept.{JobShape}
 use Rattle.ssb_groups.specs.Rows.{Key, key_eq, SeenRow}
-use Rattle.ssb_groups.specs.Value.{Outcome, over, known}
+use Rattle.ssb_groups.specs.Value.{Outcome, over, known, in_range}
 use Rattle.ssb_groups.specs.declared.accumulator.Accumulator.{Accumulator}
 
 -- ---- overflow
@@ -89,12 +87,10 @@ pub record GroupMap : Type 0 where
   pub overflow : Option ℕ
   pub counted : ℕ
 
--- a number of an `int`
+-- a value whose number, if it is one, is that of an `int`, so that the exact sum of as many as a table has rows fits in 128 bits
 abbrev pub IsRanged : Outcome → Type 0
-IsRanged over = ⊤
-IsRanged (known null) = ⊤
-IsRanged (known (number n)) = FitsSigned w64 n
-IsRanged (known (text t)) = ⊤
+IsRanged (known (number n)) = in_range n ≡ true
+IsRanged o = ⊤
 
 abbrev pub EachRanged : List Outcome → Type 0
 EachRanged [] = ⊤

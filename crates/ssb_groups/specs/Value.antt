@@ -15,7 +15,7 @@ pub data Outcome : Type 0 where
   over : Outcome
   known : Cell → Outcome
 
--- from -2^63 to 2^63 - 1
+-- the range of an `int`, which 64 bits hold: from -2^63 to 2^63 - 1
 abbrev pub in_range : ℤ → Bool
 in_range (pos n) = nat_lt n (2 ^ 63)
 in_range (negsuc n) = nat_lt n (2 ^ 63)

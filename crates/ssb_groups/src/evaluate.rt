@@ -4,10 +4,9 @@ ghost use Rattle.std.specs.Prelude.{◌≡◌, fold, map};
 ghost use Rattle.ssb_job.specs.Kept.{column_value, from_tables};
 ghost use Rattle.ssb_groups.specs.Outcomes.{outcome_of};
 ghost use Rattle.ssb_groups.specs.Seen.{argument};
-ghost use Rattle.ssb_groups.specs.Stands.{IsRanged};
 ghost use Rattle.ssb_groups.specs.Value.{add_step, product, step_value, value};
 
-use crate::outcome::Outcome;
+use crate::outcome::{Operation, Outcome};
 use ssb_bind::{Aggregate, BoundExpr, BoundStep};
 use ssb_job::{Job, JoinedRow};
 use ssb_sql::Adding;
@@ -16,8 +15,8 @@ fn add_step<'a>(so_far: Outcome<'a>, adding: Adding, term: Outcome<'a>) -> Outco
     ensures { outcome_of result ≡ add_step (outcome_of so_far.entry) (adding, outcome_of term.entry) }
 {
     match adding {
-        Adding::Plus => so_far.plus(term),
-        Adding::Minus => so_far.minus(term),
+        Adding::Plus => so_far.apply(Operation::Plus, term),
+        Adding::Minus => so_far.apply(Operation::Minus, term),
     }
 }
 
@@ -39,7 +38,7 @@ fn product<'a>(job: &'a Job, row: &JoinedRow, factors: &[BoundExpr]) -> Outcome<
 {
     let mut so_far = Outcome::Number(1);
     for factor in factors {
-        so_far = so_far.times(value(job, row, factor));
+        so_far = so_far.apply(Operation::Times, value(job, row, factor));
     }
     so_far
 }
@@ -52,7 +51,9 @@ fn value<'a>(job: &'a Job, row: &JoinedRow, expr: &BoundExpr) -> Outcome<'a>
         BoundExpr::Column(column) => Outcome::of(job.value(*column, row)),
         BoundExpr::Number(number) => Outcome::of_number(*number),
         BoundExpr::Positive(part) => value(job, row, part.get()),
-        BoundExpr::Negative(part) => Outcome::Number(0).minus(value(job, row, part.get())),
+        BoundExpr::Negative(part) => {
+            Outcome::Number(0).apply(Operation::Minus, value(job, row, part.get()))
+        },
         BoundExpr::Chain(first, steps) => {
             chain(job, row, value(job, row, first.get()), steps.as_slice())
         }
@@ -62,13 +63,11 @@ fn value<'a>(job: &'a Job, row: &JoinedRow, expr: &BoundExpr) -> Outcome<'a>
 
 // What an aggregate takes of a combination.
 pub(crate) fn argument<'a>(job: &'a Job, row: &JoinedRow, aggregate: &Aggregate) -> Outcome<'a>
-    ensures value { outcome_of result ≡ argument (column_value (from_tables job.now) row.now) aggregate.now }
-    ensures ranged { IsRanged (outcome_of result) }
+    ensures { outcome_of result ≡ argument (column_value (from_tables job.now) row.now) aggregate.now }
 {
-    let outcome = match aggregate {
+    match aggregate {
         Aggregate::Sum(expr) => value(job, row, expr),
         Aggregate::CountRows => Outcome::Number(1),
         Aggregate::Count(expr) => value(job, row, expr),
-    };
-    outcome.in_range()
+    }
 }

@@ -2,13 +2,24 @@
 
 ghost use Rattle.std.specs.Prelude.{◌≡◌, ◌∷◌, []};
 ghost use Rattle.ssb_cells.specs.Values.{cell_of};
-ghost use Rattle.ssb_groups.specs.Outcomes.{outcome_of};
+ghost use Rattle.ssb_groups.specs.Outcomes.{checked_outcome, exact, outcome_of};
 ghost use Rattle.ssb_groups.specs.Stands.{accumulated, is_over, IsRanged};
-ghost use Rattle.ssb_groups.specs.Value.{checked, column_outcome, plus, minus, times};
+ghost use Rattle.ssb_groups.specs.Value.{apply, checked, column_outcome};
 ghost use Rattle.std.specs.Prelude.{pos};
 
 use crate::accumulator::Accumulator;
 use ssb_cells::Value;
+
+/// What is done with two numbers.
+#[derive(Clone, Copy, PartialEq, Eq, Debug)]
+pub(crate) enum Operation {
+    /// Their sum.
+    Plus,
+    /// What the first is above the second.
+    Minus,
+    /// Their product.
+    Times,
+}
 
 /// The value of an expression.
 #[derive(Clone, Copy)]
@@ -21,6 +32,19 @@ pub(crate) enum Outcome<'a> {
     Number(i64),
     /// A text, of an expression that is one text column.
     Text(&'a str),
+}
+
+impl Operation {
+    // The exact number, where 64 bits hold it.
+    fn on(self, a: i64, b: i64) -> Option<i64>
+        ensures { checked_outcome result ≡ checked (exact self a b) }
+    {
+        match self {
+            Operation::Plus => a.checked_add(b),
+            Operation::Minus => a.checked_sub(b),
+            Operation::Times => a.checked_mul(b),
+        }
+    }
 }
 
 impl<'a> Outcome<'a> {
@@ -45,39 +69,14 @@ impl<'a> Outcome<'a> {
         }
     }
 
-    pub(crate) fn plus(self, other: Outcome<'a>) -> Outcome<'a>
-        ensures { outcome_of result ≡ plus (outcome_of self.entry) (outcome_of other.entry) }
+    // Over where an operand is, else null without two numbers, else exact, or Over beyond 64 bits.
+    pub(crate) fn apply(self, operation: Operation, other: Outcome<'a>) -> Outcome<'a>
+        ensures { outcome_of result ≡ apply (exact operation) (outcome_of self.entry) (outcome_of other.entry) }
     {
         match (self, other) {
             (Outcome::Over, _) | (_, Outcome::Over) => Outcome::Over,
-            (Outcome::Number(a), Outcome::Number(b)) => match a.checked_add(b) {
-                Some(sum) => Outcome::Number(sum),
-                None => Outcome::Over,
-            },
-            _ => Outcome::Null,
-        }
-    }
-
-    pub(crate) fn minus(self, other: Outcome<'a>) -> Outcome<'a>
-        ensures { outcome_of result ≡ minus (outcome_of self.entry) (outcome_of other.entry) }
-    {
-        match (self, other) {
-            (Outcome::Over, _) | (_, Outcome::Over) => Outcome::Over,
-            (Outcome::Number(a), Outcome::Number(b)) => match a.checked_sub(b) {
-                Some(difference) => Outcome::Number(difference),
-                None => Outcome::Over,
-            },
-            _ => Outcome::Null,
-        }
-    }
-
-    pub(crate) fn times(self, other: Outcome<'a>) -> Outcome<'a>
-        ensures { outcome_of result ≡ times (outcome_of self.entry) (outcome_of other.entry) }
-    {
-        match (self, other) {
-            (Outcome::Over, _) | (_, Outcome::Over) => Outcome::Over,
-            (Outcome::Number(a), Outcome::Number(b)) => match a.checked_mul(b) {
-                Some(product) => Outcome::Number(product),
+            (Outcome::Number(a), Outcome::Number(b)) => match operation.on(a, b) {
+                Some(number) => Outcome::Number(number),
                 None => Outcome::Over,
             },
             _ => Outcome::Null,
@@ -90,22 +89,10 @@ impl<'a> Outcome<'a> {
         matches!(self, Outcome::Over)
     }
 
-    // The same; its number, where it is one, is that of an `int`.
-    pub(crate) fn in_range(self) -> Outcome<'a>
-        ensures same { outcome_of result ≡ outcome_of self.entry }
-        ensures ranged { IsRanged (outcome_of result) }
-    {
-        match self {
-            Outcome::Over => Outcome::Over,
-            Outcome::Null => Outcome::Null,
-            Outcome::Number(number) => Outcome::Number(number),
-            Outcome::Text(text) => Outcome::Text(text),
-        }
-    }
-
     // The accumulator over this value alone.
     pub(crate) fn accumulator(self) -> Accumulator
-        ensures { result ≡ accumulated (outcome_of self.entry ∷ []) }
+        ensures alone { result ≡ accumulated (outcome_of self.entry ∷ []) }
+        ensures ranged { IsRanged (outcome_of self.entry) }
     {
         match self {
             Outcome::Number(number) => Accumulator {

@@ -1,14 +1,14 @@
 // The groups over the rows so far.
 
-ghost use Rattle.std.specs.Prelude.{◌≡◌, ◌+◌, ◌<◌, ◌^◌, ◌∷◌, ◌++◌, [], ◌↔◌, List, length, true, false, Some, slice_get, IfSome, OnOk, OnErr};
+ghost use Rattle.std.specs.Prelude.{◌≡◌, ◌+◌, ◌<◌, ◌^◌, [], ◌↔◌, length, Some, slice_get, IfSome, OnOk, OnErr};
 ghost use Rattle.std.specs.Option.{IsSome};
 ghost use Rattle.ssb_groups.specs.Keys.{cells_in};
-ghost use Rattle.ssb_groups.specs.Rows.{SeenRow};
-ghost use Rattle.ssb_groups.specs.Stands.{Stands, EachRanged, has_over, least_of, totals};
+ghost use Rattle.ssb_groups.specs.Gathering.{AddsRow, IsOverAt, IsPlain};
+ghost use Rattle.ssb_groups.specs.Stands.{Stands, least_of};
 
 use crate::accumulator::Accumulator;
 use crate::key::GroupKey;
-use crate::table::{Table, put};
+use crate::table::{GroupTable, put};
 use crate::totals::Totals;
 use indexmap::IndexMap;
 use ssb_job::Job;
@@ -22,7 +22,7 @@ pub(crate) struct Store {
     // What the job is, for contracts alone: it has no bytes.
     job: Snapshot<Job>,
     width: usize,
-    table: Table,
+    table: GroupTable,
     overflow: Option<u32>,
     counted: u32,
 }
@@ -78,7 +78,7 @@ impl Store {
     // One more row, at which an argument is Over.
     pub(crate) fn add_over(&mut self, fact: u32)
         requires { self.old.counted + 1 < 2 ^ 32 }
-        ensures stands { (A : List SeenRow) (r : SeenRow) → has_over r ≡ true → r.fact ≡ fact → EachRanged r.arguments → Stands self.old A → Stands self.new (A ++ r ∷ []) }
+        ensures stands { AddsRow (IsOverAt fact) self.old self.new }
         ensures job { self.new.job ≡ self.old.job }
         ensures width { self.new.width ≡ self.old.width }
         ensures counted { self.new.counted ≡ self.old.counted + 1 }
@@ -95,7 +95,7 @@ impl Store {
         more: &[Accumulator],
     ) -> Result<(), AllocError>
         requires { self.old.counted + 1 < 2 ^ 32 }
-        ensures stands { OnOk result ((A : List SeenRow) (r : SeenRow) → has_over r ≡ false → cells_in key.now ≡ r.key → more.now ≡ totals self.old.width (r ∷ []) → EachRanged r.arguments → Stands self.old A → Stands self.new (A ++ r ∷ [])) }
+        ensures stands { OnOk result (AddsRow (IsPlain self.old.width (cells_in key.now) more.now) self.old self.new) }
         ensures job { OnOk result (self.new.job ≡ self.old.job) }
         ensures width { OnOk result (self.new.width ≡ self.old.width) }
         ensures counted { OnOk result (self.new.counted ≡ self.old.counted + 1) }

@@ -1,7 +1,7 @@
 use Rattle.std.proofs.Common.{◌≡◌, find, drop, map}
 use Rattle.ssb_bind.specs.Columns.{is_wrong}
-use Rattle.ssb_bind.specs.Names.{all_of, condition_names}
+use Rattle.ssb_bind.specs.Names.{concat, condition_names}
 use Rattle.ssb_bind.proofs.names.+condition.Given as goal
 
 abbrev pub invariant-in_parts-loop-part : goal.invariant-in_parts-loop-part
-invariant-in_parts-loop-part l = find (is_wrong l.catalog l.from l.wrong) (all_of (map condition_names (drop l.part-index l.parts))) ≡ find (is_wrong l.catalog l.from l.wrong) (all_of (map condition_names l.parts))
+invariant-in_parts-loop-part l = find (is_wrong l.catalog l.from l.wrong) (concat (map condition_names (drop l.part-index l.parts))) ≡ find (is_wrong l.catalog l.from l.wrong) (concat (map condition_names l.parts))

@@ -32,5 +32,5 @@ pub in_expr-returns-in-None : goal.in_expr-returns-in-None
 in_expr-returns-in-None t c =
     let wrong = is_wrong c.args.catalog.now c.args.from.now c.args.wrong in
     let none : find wrong (names.expr_names c.in-Chain.first) ≡ None = search rules in
-    let rest : find wrong (names.all_of (map names.step_names c.in-Chain.steps)) ≡ option_copied c.in_steps.result = search rules in
+    let rest : find wrong (names.concat (map names.step_names c.in-Chain.steps)) ≡ option_copied c.in_steps.result = search rules in
     rw c.in-Chain.is (sym (ap (find wrong) (names_of_chain c.in-Chain.first c.in-Chain.steps) ∙ find_back wrong (names.expr_names c.in-Chain.first) _ none ∙ rest))

@@ -1,7 +1,7 @@
 use Rattle.std.proofs.Common.{◌≡◌, find, drop, map}
 use Rattle.ssb_bind.specs.Columns.{is_wrong}
-use Rattle.ssb_bind.specs.Names.{all_of, item_names}
+use Rattle.ssb_bind.specs.Names.{concat, item_names}
 use Rattle.ssb_bind.proofs.names.in_items.Given as goal
 
 abbrev pub invariant-loop-item : goal.invariant-loop-item
-invariant-loop-item l = find (is_wrong l.catalog l.from l.wrong) (all_of (map item_names (drop l.item-index l.items))) ≡ find (is_wrong l.catalog l.from l.wrong) (all_of (map item_names l.items))
+invariant-loop-item l = find (is_wrong l.catalog l.from l.wrong) (concat (map item_names (drop l.item-index l.items))) ≡ find (is_wrong l.catalog l.from l.wrong) (concat (map item_names l.items))

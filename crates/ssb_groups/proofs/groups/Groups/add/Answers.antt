@@ -14,7 +14,7 @@ returns-then-branch-clause-stands c = λ A before.
     let r : SeenRow = seen c.args.job.now c.args.row.now in
     let g : IsGathered c.in_ok-gather.field-0 r.arguments c.gather.new.more.items = search rules in
     let p : Stands c.self.inside.store A = subst (λ x. Stands x A) (sym c.self.view_is) before in
-    c.add_over.ensures.stands A r (sym g.over ∙ c.if-branch.true) (sym c.fact_of.ensures) g.ranged p
+    c.add_over.ensures.stands A r (record { over = sym g.over ∙ c.if-branch.true; fact = sym c.fact_of.ensures; ranged = g.ranged }) p
 
 pub returns-clause-stands : goal.returns-clause-stands
 returns-clause-stands c = λ A before.
@@ -26,4 +26,4 @@ returns-clause-stands c = λ A before.
     let more : c.as_slice-3.result.now ≡ totals c.self.inside.store.width (r ∷ []) = c.as_slice-3.ensures.value ∙ g.alone ∙ sym (totals_alone c.self.inside.store.width r wide) in
     let groups : c.as_slice-2.result.now ≡ c.args.job.now.query.groups = search rules in
     let key : cells_in c.fill_key.new.key ≡ r.key = c.in_ok-fill_key.ensures ∙ ap (map (column_value (from_tables c.args.job.now) c.args.row.now)) groups in
-    c.in_ok-add_plain.ensures.stands A r (sym g.over ∙ c.if-branch.false) key more g.ranged p
+    c.in_ok-add_plain.ensures.stands A r (record { plain = sym g.over ∙ c.if-branch.false; key = key; more = more; ranged = g.ranged }) p

@@ -13,25 +13,25 @@ use Rattle.ssb_groups.proofs.store.Store.add_plain.Goals as goal
 use Rattle.ssb_groups.proofs.store.Store.add_plain.Goals.{then-is_none+in_ok-put, else-is_none}
 
 pub returns-clause-stands : goal.returns-clause-stands
-returns-clause-stands c = λ A r plain key more ranged before.
+returns-clause-stands c = λ A r is before.
     let i : Inside = c.if-is_none.self-inside in
     let g : GroupMap = the_view c.self.inside in
     let n : GroupMap = the_view (record { job = i.job; width = i.width; table = i.table; overflow = i.overflow; counted = i.counted + 1 }) in
     let p : Stands g A = subst (λ x. Stands x A) (sym c.self.view_is) before in
     let small : g.counted + 1 < 2 ^ 32 = subst (λ (x : GroupMap). x.counted + 1 < 2 ^ 32) (sym c.self.view_is) c.requires in
-    let mine : c.args.more.now ≡ totals g.width (r ∷ []) = more ∙ ap (λ (x : GroupMap). totals x.width (r ∷ [])) (sym c.self.view_is) in
+    let mine : c.args.more.now ≡ totals g.width (r ∷ []) = is.more ∙ ap (λ (x : GroupMap). totals x.width (r ∷ [])) (sym c.self.view_is) in
     elim c.if-is_none.branch [
       | then-is_none+in_ok-put w ↦
           let none : g.overflow ≡ None = none_from g.overflow w.if-is_none.ensures in
-          Stands-plain g n A r plain ranged p (ap (λ (x : Inside). x.width) w.self-inside-is) (ap (λ (x : Inside). x.counted + 1) w.self-inside-is) (ap (λ (x : Inside). x.overflow) w.self-inside-is)
+          Stands-plain g n A r is.plain is.ranged p (ap (λ (x : Inside). x.width) w.self-inside-is) (ap (λ (x : Inside). x.counted + 1) w.self-inside-is) (ap (λ (x : Inside). x.overflow) w.self-inside-is)
           (subst (λ (x : Inside). IsDistinct key_eq (map (λ e. e.0) (entries_of x.table.entries))) (sym w.self-inside-is) (keys_distinct _ w.in_ok-put.ensures.unique))
           (λ _ q.
           ap (λ (x : Inside). lookup (key_eq q) (entries_of x.table.entries)) w.self-inside-is
-          ∙ w.in_ok-put.ensures.joined (λ xs e. subst (FitEach xs) (sym mine) (fits_row g A r p ranged none small (cells_in c.args.key.now) xs e)) q
+          ∙ w.in_ok-put.ensures.joined (λ xs e. subst (FitEach xs) (sym mine) (fits_row g A r p is.ranged none small (cells_in c.args.key.now) xs e)) q
           ∙ ap (λ m. option_joined (lookup (key_eq q) g.entries) (cond (key_eq q (cells_in c.args.key.now)) (Some m) None)) mine
-          ∙ ap (λ k. option_joined (lookup (key_eq q) g.entries) (cond (key_eq q k) (Some (totals g.width (r ∷ []))) None)) key)
+          ∙ ap (λ k. option_joined (lookup (key_eq q) g.entries) (cond (key_eq q k) (Some (totals g.width (r ∷ []))) None)) is.key)
       | else-is_none w ↦
-          Stands-plain g n A r plain ranged p (ap (λ (x : Inside). x.width) w.self-inside-is) (ap (λ (x : Inside). x.counted + 1) w.self-inside-is) (ap (λ (x : Inside). x.overflow) w.self-inside-is)
+          Stands-plain g n A r is.plain is.ranged p (ap (λ (x : Inside). x.width) w.self-inside-is) (ap (λ (x : Inside). x.counted + 1) w.self-inside-is) (ap (λ (x : Inside). x.overflow) w.self-inside-is)
           (subst (λ (x : Inside). IsDistinct key_eq (map (λ e. e.0) (entries_of x.table.entries))) (sym w.self-inside-is) (keys_distinct _ c.self.invariant))
           (λ none _. absurd (not_none_from g.overflow w.if-is_none.ensures (sym (ap (λ (x : Inside). x.overflow) w.self-inside-is) ∙ none)))
     ]

@@ -1,17 +1,13 @@
 // The records of a file, read bare.
 
-use csv::{ByteRecord, Error, ReaderBuilder};
+use csv::{ByteRecord, Error};
+use ssb_load::bar_reader;
 use std::alloc::Global;
 use std::io::Read;
 
 /// How many records a file has, each read into the same row.
 pub(crate) fn count_records<R: Read + Drop>(alloc: Global, source: R) -> Result<u64, Error> {
-    let mut reader = ReaderBuilder::new()
-        .delimiter(b'|')
-        .has_headers(false)
-        .flexible(true)
-        .quoting(false)
-        .from_reader(alloc, source);
+    let mut reader = bar_reader(alloc, source);
     let mut row = ByteRecord::new(alloc);
     for count in 0..u64::MAX {
         if !reader.read_byte_record(&mut row)? {

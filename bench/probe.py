@@ -1,5 +1,5 @@
 #!/usr/bin/env python3
-"""Measures what joining costs: a query's job over a star, against loading its fact table.
+"""Measures what joining costs: a query's job over a star, against loading its tables.
 
 Usage: probe.py [--scale S] [--runs N] [--folder FOLDER]
 
@@ -65,7 +65,7 @@ def report(folder, scale, times):
     measure.print_table(
         ["What", "Milliseconds", "ns a fact row"],
         [
-            ["loading the fact table", f"{loading:.1f}", f"{loading * 1e6 / rows:.0f}"],
+            ["loading all tables", f"{loading:.1f}", f"{loading * 1e6 / rows:.0f}"],
             ["building the job", f"{building:.1f}", ""],
             ["probing each fact row", f"{probing:.1f}", f"{probing * 1e6 / rows:.0f}"],
         ],

@@ -3,8 +3,8 @@
 
 Usage: sharp.py [PROGRAM]
 
-A row must want what SQLite answers to its query, whose text stands in examples/thirteen. Then the text
-is changed in one place: a literal, a column, a comparison, an order key, an operator of arithmetic, a
+A row must want what SQLite answers to its query, whose text stands in the program's definitions. Then the
+text is changed in one place: a literal, a column, a comparison, an order key, an operator of arithmetic, a
 conjunct, a group column. SQLite answers each changed query over the tables of each row of the query,
 and in one row the answer must be another, or none. What is left out because it means the same over
 every table, `same_for_all` says. With PROGRAM, it answers each changed query too: as SQLite does, or it
@@ -24,7 +24,8 @@ from typing import NamedTuple
 
 import run_rows
 
-TEXTS = run_rows.ROOT / "examples" / "thirteen"
+TABLES = run_rows.ROOT / "examples" / "thirteen"
+TEXTS = run_rows.ROOT / "crates" / "ssb_cli" / "specs" / "Benchmark.antt"
 ROWS = run_rows.ROWS / "thirteen"
 
 TOKEN = re.compile(r"'(?:[^']|'')*'|[a-z_]\w*|\d+|<>|<=|>=|[-(),;+*=<>]")
@@ -407,10 +408,21 @@ def read_cases(tables, folder):
 def read_columns():
     """The columns of each table, with their types."""
     tables = {}
-    for line in (TEXTS / "catalog").read_text(encoding="utf-8").splitlines():
+    for line in (TABLES / "catalog").read_text(encoding="utf-8").splitlines():
         table, column, kind, _role = line.split("|")
         tables.setdefault(table, {})[column] = kind
     return tables
+
+
+def read_texts():
+    """The thirteen texts by their names, each written line by line in the definitions."""
+    texts = {}
+    for part in TEXTS.read_text(encoding="utf-8").split("abbrev pub ")[1:]:
+        name = re.match(r"q\d_\d", part)
+        if name is not None:
+            lines = re.findall(r'^ +[(∷] ?"(.*)"$', part, flags=re.M)
+            texts[name.group().replace("_", ".").upper()] = "".join(line + "\n" for line in lines)
+    return texts
 
 
 def answer_or_none(base, query):
@@ -462,14 +474,13 @@ def main(words):
         return 2
     program = Path(words[0]).resolve() if words else None
     tables = read_columns()
-    catalog = Catalog(tables, read_tables(tables, TEXTS))
+    catalog = Catalog(tables, read_tables(tables, TABLES))
     checks = failed = 0
-    paths = sorted(TEXTS.glob("*.sql"))
+    texts = read_texts()
     with tempfile.TemporaryDirectory() as folder:
         cases = read_cases(tables, Path(folder))
-        for path in paths:
-            name = path.stem.replace("_", ".").upper()
-            query = read_query(path.read_text(encoding="utf-8"))
+        for name, text in texts.items():
+            query = read_query(text)
             wrong, count = check(query, cases.pop(name, []), catalog, program)
             checks += count
             failed += len(wrong)
@@ -479,7 +490,7 @@ def main(words):
         print(f"{name}: a row of no query")
     failed += len(cases)
     print(f"{checks - failed} passed, {failed} failed")
-    return 1 if failed or not paths else 0
+    return 1 if failed or not texts else 0
 
 
 if __name__ == "__main__":

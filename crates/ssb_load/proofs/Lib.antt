@@ -12,6 +12,7 @@ pub mod FieldFacts
 pub mod GroupFacts
 mod Handing
 pub mod HoldsFacts
+mod KeyFacts
 pub mod LawfulFacts
 mod Left
 pub mod LineFacts

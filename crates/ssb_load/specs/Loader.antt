@@ -1,10 +1,13 @@
 -- What the loader holds after some records.
 -- For the contracts inside this crate.
-use Rattle.std.specs.Prelude.{◌≡◌, ◌+◌, ◌++◌, ◌∷◌, ℕ, ℤ, Bool, true, ◌||◌, suc, zero, List, [], length, not, nat_le, Option, None, Some, ⊤, if◌then◌else◌}
+use Rattle.std.specs.Prelude.{◌≡◌, ◌+◌, ◌++◌, ◌∷◌, ℕ, ℤ, Bool, true, false, ◌||◌, suc, zero, List, [], length, not, nat_eq, nat_le, nat_lt, Option, None, Some, ⊤, if◌then◌else◌}
 use Rattle.std.specs.List.{list_all, list_any}
 use Rattle.std.specs.Ordering.{int_eq}
 use Rattle.std.specs.Str.{is_utf8}
 use Rattle.ssb_cells.specs.Cell.{Cell, Filled}
+use Rattle.ssb_cells.specs.declared.value.Value.{Value}
+use Rattle.ssb_cells.specs.declared.value.Value.TheVariants as values
+use Rattle.ssb_load.specs.Numbers.{number_of}
 use Rattle.ssb_load.specs.Records.{Fields, field}
 use Rattle.ssb_load.specs.Rules.{any_field, cell_in, columns_of, has_key, is_bad_number, is_missing, is_too_long, key_of}
 use Rattle.ssb_load.specs.Tables.{repeats}
@@ -56,6 +59,22 @@ with_record rules cs r = with_front (length rules) 0 rules cs r
 abbrev pub AddsKey : Option ℤ → List ℤ → List ℤ → Type 0
 AddsKey None old new = new ≡ old
 AddsKey (Some k) old new = (z : ℤ) → seen_in new z ≡ (if int_eq k z then true else seen_in old z)
+
+-- the number that a value of a field is, or spells
+abbrev pub number_told : Value → Option ℤ
+number_told values.Null = None
+number_told (values.Int n) = Some n
+number_told (values.Text t) = number_of t.now
+
+-- whether the key is the k-th field
+abbrev pub is_place : Option ℕ → ℕ → Bool
+is_place None k = false
+is_place (Some at) k = nat_eq at k
+
+-- the key, where it is among the first k fields
+abbrev pub key_among : ℕ → Option ℕ → Fields → Option ℤ
+key_among k None r = None
+key_among k (Some at) r = if nat_lt at k then number_of (field r at) else None
 
 -- the columns have so many values, of their types
 abbrev pub AreSized : ℕ → List Rule → List Filled → Type 0

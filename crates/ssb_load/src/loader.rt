@@ -1,22 +1,22 @@
 // A table on its way, record by record.
 
-ghost use Rattle.std.specs.Prelude.{◌≡◌, ◌≢◌, ◌+◌, ◌<◌, ◌^◌, ◌++◌, ◌∷◌, ◌||◌, [], true, false, not, List, length, IfOk, IfErr, OnOk, MatchResult, None, vec_len};
+ghost use Rattle.std.specs.Prelude.{◌≡◌, ◌≢◌, ◌+◌, ◌<◌, ◌^◌, ◌++◌, ◌∷◌, ◌||◌, [], true, false, not, is_none, if◌then◌else◌, List, length, IfOk, IfErr, IfSome, OnOk, MatchResult, None, vec_len};
 ghost use Rattle.std.specs.List.{list_all};
 ghost use Rattle.std.specs.Str.{is_utf8};
 ghost use Rattle.csv.specs.Records.{fields_of};
 ghost use Rattle.ssb_cells.specs.Tables.{AreLong, rows_in};
-ghost use Rattle.ssb_load.specs.Rules.{any_from, key_place, number_at, key_of, columns_of};
+ghost use Rattle.ssb_load.specs.Rules.{any_from, key_place, key_of, columns_of};
 ghost use Rattle.ssb_load.specs.Tables.{repeats};
-ghost use Rattle.ssb_load.specs.Loader.{fault_by};
-ghost use Rattle.ssb_load.specs.Loader.{seen_in, AddsKey, AreSized, with_record, IsFaultBy, fails_some};
+ghost use Rattle.ssb_load.specs.Loader.{seen_in, AddsKey, AreSized, IsFaultBy, fails_some, fault_by, is_place, number_told, with_record};
 
 use crate::fault::LoadFault;
 use crate::field::{field_text, is_all_text, is_wide};
-use crate::judge::{number_in_field, refuse};
+use crate::judge::refuse;
+use crate::number::number;
 use crate::rule::Rule;
 use crate::value::value_of;
 use csv::ByteRecord;
-use ssb_cells::{Column, Table};
+use ssb_cells::{Column, Table, Value};
 use std::alloc::{AllocError, Global};
 use std::collections::HashSet;
 
@@ -26,28 +26,67 @@ pub(crate) struct Loader {
     columns: Vec<Column>,
 }
 
+// The number that a field's value is. A text may spell one, where a key is no number.
+fn number_told(value: Value<'_>) -> Option<i64>
+    ensures { result ≡ number_told value.entry }
+{
+    match value {
+        Value::Null => None,
+        Value::Int(number) => Some(number),
+        Value::Text(text) => number(text),
+    }
+}
+
+fn is_place(key: Option<usize>, k: usize) -> bool
+    ensures { result ≡ is_place key k }
+{
+    match key {
+        Some(at) => at == k,
+        None => false,
+    }
+}
+
+// The key found so far, or that of one more field.
+fn key_with(found: Option<i64>, is_key: bool, value: Value<'_>) -> Option<i64>
+    ensures { result ≡ (if is_key then number_told value.entry else found) }
+{
+    if is_key { number_told(value) } else { found }
+}
+
+// A record whose fields all passed.
+#[derive(Clone, Copy)]
+struct Taken {
+    // Its key, where the table has one.
+    key: Option<i64>,
+}
+
 // Puts each field of a record into its column, or stops at one that fails a test.
 fn push_fields(
     columns: &mut Vec<Column>,
     rules: &[Rule],
+    key: Option<usize>,
     count: u64,
     row: &ByteRecord,
-) -> Result<bool, AllocError>
+) -> Result<Option<Taken>, AllocError>
     requires text { list_all is_utf8 (fields_of row.now) ≡ true }
     requires sized { AreSized count rules.now columns.old.items }
     requires room { count < 4294967295 }
-    ensures fails { IfOk result (λ taken. any_from fails_some 0 rules.now (fields_of row.now) ≡ not taken) }
-    ensures pushed { IfOk result (λ taken. taken ≡ true → columns.new.items ≡ with_record rules.now columns.old.items (fields_of row.now)) }
+    requires key { key ≡ key_place rules.now }
+    ensures fails { IfOk result (λ taken. any_from fails_some 0 rules.now (fields_of row.now) ≡ is_none taken) }
+    ensures pushed { IfOk result (λ taken. IfSome taken (λ t. columns.new.items ≡ with_record rules.now columns.old.items (fields_of row.now))) }
+    ensures key { IfOk result (λ taken. IfSome taken (λ t. t.key ≡ key_of rules.now (fields_of row.now))) }
 {
+    let mut found = None;
     for k in 0..rules.len() {
         let rule = rules[k];
         let Some(value) = value_of(rule, field_text(row, k)) else {
-            return Ok(false);
+            return Ok(None);
         };
+        found = key_with(found, is_place(key, k), value);
         let column = &mut columns[k];
         column.push(value)?;
     }
-    Ok(true)
+    Ok(Some(Taken { key: found }))
 }
 
 // Puts a key among those that were seen, if there is one and it is new.
@@ -111,12 +150,12 @@ impl Loader {
         if accepted >= u64::from(max_rows) || !is_wide(row, rules.len()) || !is_all_text(row) {
             return Err(refuse(rules, &self.seen, accepted, max_rows, row));
         }
-        match push_fields(&mut self.columns, rules, accepted, row) {
-            Ok(true) => {}
-            Ok(false) => return Err(refuse(rules, &self.seen, accepted, max_rows, row)),
+        let taken = match push_fields(&mut self.columns, rules, key, accepted, row) {
+            Ok(Some(taken)) => taken,
+            Ok(None) => return Err(refuse(rules, &self.seen, accepted, max_rows, row)),
             Err(_) => return Err(LoadFault::Memory),
-        }
-        match add_key(&mut self.seen, number_in_field(key, row)) {
+        };
+        match add_key(&mut self.seen, taken.key) {
             Ok(true) => Ok(()),
             Ok(false) => Err(refuse(rules, &self.seen, accepted, max_rows, row)),
             Err(_) => Err(LoadFault::Memory),

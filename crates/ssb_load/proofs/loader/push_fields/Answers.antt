@@ -1,9 +1,10 @@
-use Rattle.std.proofs.Common.{◌∙◌, length, sym, ap, arith}
+use Rattle.std.proofs.Common.{◌≡◌, ◌∙◌, length, sym, ap, arith}
 use Rattle.csv.specs.Records.{fields_of}
 use Rattle.ssb_load.proofs.RuleFacts.{sized-len, front-len, front-more, any-step, column-size, column-kind}
 use Rattle.ssb_load.specs.Loader.{fails_some}
 use Rattle.ssb_cells.specs.declared.value.ColType.TheVariants as kinds
 use Rattle.ssb_load.specs.declared.rule.Role.TheVariants as roles
+use Rattle.ssb_load.proofs.KeyFacts.{among-all, among-more, told}
 use Rattle.ssb_load.proofs.loader.push_fields.Goals as goal
 
 pub index_mut-column-requires : goal.index_mut-column-requires
@@ -34,4 +35,12 @@ loop-k-preserved c =
       front-more c.loop-k.k c.args.rules.now c.args.columns.now.items c.loop-k.columns.items (fields_of c.args.row.now) _ c.index_mut-column.result.now c.push.new.self c.in-Some.value c.loop-k-test.true same
           c.loop-k.invariant.0 c.index_mut-column.ensures.value c.in_ok-push.ensures.ok cell,
       any-step fails_some c.loop-k.k c.args.rules.now _ (fields_of c.args.row.now) _ c.loop-k-test.true none c.loop-k.invariant.1,
+      c.key_with-found.ensures ∙ rw c.is_place.ensures (among-more c.loop-k.k c.args.key (fields_of c.args.row.now) _ _ c.loop-k.invariant.2 (told _ _ c.in-Some.value none cell)),
     )
+
+pub returns-clause-key : goal.returns-clause-key
+returns-clause-key c =
+    let le = c.loop-k-test.false in
+    let end = c.loop-k.auto.k-end in
+    let k : c.loop-k.k ≡ length c.args.rules.now = omega (arith, le, end) in
+    c.loop-k.invariant.2 ∙ rw (k, c.requires.key) (among-all c.args.rules.now (fields_of c.args.row.now))

@@ -15,7 +15,7 @@ use Rattle.ssb_sql.specs.declared.condition.Condition.TheVariants as c
 use Rattle.ssb_sql.specs.Forms.{IsList, IsLiteral, IsOperand}
 use Rattle.ssb_sql.specs.Forms.IsLiteral.{number, positive, negative, text}
 use Rattle.ssb_sql.specs.Forms.IsOperand.{column, literal}
-use Rattle.ssb_sql.specs.Conditions.{mark_of, IsCond, IsOrs, IsConj, IsAnds, IsNeg, IsTest, any_of, all_of}
+use Rattle.ssb_sql.specs.Conditions.{mark_of, IsCond, IsOrs, IsConj, IsAnds, IsNeg, IsTest, or_chain, and_chain}
 use Rattle.ssb_sql.specs.Conditions.IsBare.{compare, between, not_between, among, not_among, null, not_null}
 use Rattle.ssb_sql.specs.Conditions.IsCond.{cond}
 use Rattle.ssb_sql.specs.Conditions.IsOrs.{no_or, or}
@@ -23,7 +23,7 @@ use Rattle.ssb_sql.specs.Conditions.IsConj.{conj}
 use Rattle.ssb_sql.specs.Conditions.IsAnds.{no_and, and}
 use Rattle.ssb_sql.specs.Conditions.IsNeg.{plain, not}
 use Rattle.ssb_sql.specs.Conditions.IsTest.{parens, bare}
-use Rattle.ssb_sql.specs.Grammar.{IsWithin}
+use Rattle.ssb_sql.specs.Room.{HasRoom}
 use Rattle.ssb_sql.specs.Steps.{Parser, after, is_fixed, is_sign, chain_at, more_at, list_at, parens_at, chained_at}
 use Rattle.ssb_sql.specs.ReadParts.{literal_at, operand_at}
 use Rattle.ssb_sql.specs.ReadConditions.{op_at, limits_at, members_at, between_of, in_of, range_at, null_at, compared_at, tail_at, bare_at, test_at, neg_at, conj_at, cond_at}
@@ -208,11 +208,11 @@ not_goes : (p : Parser Condition) (ts to : List Token) (x : Condition) → test_
 unfolding neg_at
 not_goes p ts to x e = rw (sees s.Not ts, e) refl
 
-conj_goes : (p : Parser Condition) (ts mid to : List Token) (x : Condition) (xs : List Condition) → neg_at p ts ≡ Some (x, mid) → more_at (after s.And) (neg_at p) (x ∷ []) mid ≡ Some (x ∷ xs, to) → conj_at p ts ≡ Some (all_of (x ∷ xs), to)
+conj_goes : (p : Parser Condition) (ts mid to : List Token) (x : Condition) (xs : List Condition) → neg_at p ts ≡ Some (x, mid) → more_at (after s.And) (neg_at p) (x ∷ []) mid ≡ Some (x ∷ xs, to) → conj_at p ts ≡ Some (and_chain (x ∷ xs), to)
 unfolding conj_at chained_at
 conj_goes p ts mid to x xs e f = rw (e, f) refl
 
-disj_goes : (d : ℕ) (ts mid to : List Token) (x : Condition) (xs : List Condition) → conj_at (cond_at d) ts ≡ Some (x, mid) → more_at (after s.Or) (conj_at (cond_at d)) (x ∷ []) mid ≡ Some (x ∷ xs, to) → cond_at (suc d) ts ≡ Some (any_of (x ∷ xs), to)
+disj_goes : (d : ℕ) (ts mid to : List Token) (x : Condition) (xs : List Condition) → conj_at (cond_at d) ts ≡ Some (x, mid) → more_at (after s.Or) (conj_at (cond_at d)) (x ∷ []) mid ≡ Some (x ∷ xs, to) → cond_at (suc d) ts ≡ Some (or_chain (x ∷ xs), to)
 unfolding cond_at chained_at
 disj_goes d ts mid to x xs e f = rw (e, f) refl
 
@@ -225,12 +225,12 @@ ands_end no_and sign p h = h
 ands_end (and {from = from} a b) sign p h = stops s.And sign from p
 
 mutual
-  pub cond_read : {from to : List Token} {x : Condition} → IsCond IsTested from to x → (d : ℕ) → IsWithin d from → EndsCond to → cond_at (suc d) from ≡ Some (x, to)
+  pub cond_read : {from to : List Token} {x : Condition} → IsCond IsTested from to x → (d : ℕ) → HasRoom d from → EndsCond to → cond_at (suc d) from ≡ Some (x, to)
   cond_read (cond {from = from} {mid = mid} {to = to} {x = x} {xs = xs} a b) d h z =
       disj_goes d from mid to x xs (conj_read a d h (ors_end b s.Dot (differs s.Or s.Dot refl) z.dot) (ors_end b s.And (differs s.Or s.And refl) z.and))
       (more_goes (after s.Or) (conj_at (cond_at d)) (x ∷ []) xs mid to (ors_read b d (length mid) (conj_within a d h) (omega arith) z))
 
-  pub ors_read : {from to : List Token} {xs : List Condition} → IsOrs IsTested from to xs → (d k : ℕ) → IsWithin d from → length from ≤ k → EndsCond to → chain_at (after s.Or) (conj_at (cond_at d)) k from ≡ Some (xs, to)
+  pub ors_read : {from to : List Token} {xs : List Condition} → IsOrs IsTested from to xs → (d k : ℕ) → HasRoom d from → length from ≤ k → EndsCond to → chain_at (after s.Or) (conj_at (cond_at d)) k from ≡ Some (xs, to)
   ors_read (no_or {to = to}) d k h l z = turn_done (after s.Or) (conj_at (cond_at d)) k to z.or
   ors_read (or a b) d zero h l z = absurd (omega arith)
   ors_read (or {from = from} {mid = mid} {to = to} {x = x} {xs = xs} a b) d (suc k) h l z =
@@ -238,12 +238,12 @@ mutual
       turn_goes (after s.Or) (conj_at (cond_at d)) k (Fixed s.Or ∷ from) mid to from x xs (sees s.Or from)
       (conj_read a d h (ors_end b s.Dot (differs s.Or s.Dot refl) z.dot) (ors_end b s.And (differs s.Or s.And refl) z.and)) (ors_read b d k (conj_within a d h) (omega arith) z)
 
-  pub conj_read : {from to : List Token} {x : Condition} → IsConj IsTested from to x → (d : ℕ) → IsWithin d from → Stops s.Dot to → Stops s.And to → conj_at (cond_at d) from ≡ Some (x, to)
+  pub conj_read : {from to : List Token} {x : Condition} → IsConj IsTested from to x → (d : ℕ) → HasRoom d from → Stops s.Dot to → Stops s.And to → conj_at (cond_at d) from ≡ Some (x, to)
   conj_read (conj {from = from} {mid = mid} {to = to} {x = x} {xs = xs} a b) d h n m =
       conj_goes (cond_at d) from mid to x xs (neg_read a d h (ands_end b s.Dot (differs s.And s.Dot refl) n))
       (more_goes (after s.And) (neg_at (cond_at d)) (x ∷ []) xs mid to (ands_read b d (length mid) (neg_within a d h) (omega arith) n m))
 
-  pub ands_read : {from to : List Token} {xs : List Condition} → IsAnds IsTested from to xs → (d k : ℕ) → IsWithin d from → length from ≤ k → Stops s.Dot to → Stops s.And to → chain_at (after s.And) (neg_at (cond_at d)) k from ≡ Some (xs, to)
+  pub ands_read : {from to : List Token} {xs : List Condition} → IsAnds IsTested from to xs → (d k : ℕ) → HasRoom d from → length from ≤ k → Stops s.Dot to → Stops s.And to → chain_at (after s.And) (neg_at (cond_at d)) k from ≡ Some (xs, to)
   ands_read (no_and {to = to}) d k h l n m = turn_done (after s.And) (neg_at (cond_at d)) k to m
   ands_read (and a b) d zero h l n m = absurd (omega arith)
   ands_read (and {from = from} {mid = mid} {to = to} {x = x} {xs = xs} a b) d (suc k) h l n m =
@@ -251,11 +251,11 @@ mutual
       turn_goes (after s.And) (neg_at (cond_at d)) k (Fixed s.And ∷ from) mid to from x xs (sees s.And from)
       (neg_read a d h (ands_end b s.Dot (differs s.And s.Dot refl) n)) (ands_read b d k (neg_within a d h) (omega arith) n m)
 
-  pub neg_read : {from to : List Token} {x : Condition} → IsNeg IsTested from to x → (d : ℕ) → IsWithin d from → Stops s.Dot to → neg_at (cond_at d) from ≡ Some (x, to)
+  pub neg_read : {from to : List Token} {x : Condition} → IsNeg IsTested from to x → (d : ℕ) → HasRoom d from → Stops s.Dot to → neg_at (cond_at d) from ≡ Some (x, to)
   neg_read (plain {from = from} {to = to} {x = x} a) d h n = plain_goes (cond_at d) from to x (test_begins a) (test_read a d h n)
   neg_read (not {from = from} {to = to} {x = x} a) d h n = not_goes (cond_at d) from to x (test_read a d h n)
 
-  pub test_read : {from to : List Token} {x : Condition} → IsTest IsTested from to x → (d : ℕ) → IsWithin d from → Stops s.Dot to → test_at (cond_at d) from ≡ Some (x, to)
+  pub test_read : {from to : List Token} {x : Condition} → IsTest IsTested from to x → (d : ℕ) → HasRoom d from → Stops s.Dot to → test_at (cond_at d) from ≡ Some (x, to)
   test_read (parens a) zero h n = absurd h
   test_read (parens {from = from} {to = to} {x = x} a) (suc d) h n = parens_goes (cond_at (suc d)) from to x (cond_read a d h (close_ends to))
   test_read (bare {from = from} {to = to} {x = x} a) d h n = untested_goes (cond_at d) from to x (bare_begins a s.Open (differs s.Plus s.Open refl) (differs s.Minus s.Open refl)) (bare_read a n)

@@ -4,14 +4,14 @@ use Rattle.ssb_sql.specs.declared.token.Token.{Token}
 use Rattle.ssb_sql.specs.declared.token.Sign.TheVariants as s
 use Rattle.ssb_sql.specs.declared.condition.Condition.{Condition}
 use Rattle.ssb_sql.specs.declared.condition.Condition.TheVariants as c
-use Rattle.ssb_sql.specs.Conditions.{IsCond, IsOrs, IsConj, IsAnds, IsNeg, IsTest, any_of, all_of}
+use Rattle.ssb_sql.specs.Conditions.{IsCond, IsOrs, IsConj, IsAnds, IsNeg, IsTest, or_chain, and_chain}
 use Rattle.ssb_sql.specs.Conditions.IsCond.{cond}
 use Rattle.ssb_sql.specs.Conditions.IsOrs.{no_or, or}
 use Rattle.ssb_sql.specs.Conditions.IsConj.{conj}
 use Rattle.ssb_sql.specs.Conditions.IsAnds.{no_and, and}
 use Rattle.ssb_sql.specs.Conditions.IsNeg.{plain, not}
 use Rattle.ssb_sql.specs.Conditions.IsTest.{parens, bare}
-use Rattle.ssb_sql.specs.Grammar.{IsWithin}
+use Rattle.ssb_sql.specs.Room.{HasRoom}
 use Rattle.ssb_sql.specs.Steps.{Parser, after, chained_at, Shrinks}
 use Rattle.ssb_sql.specs.ReadConditions.{test_at, neg_at, conj_at, disj_at, cond_at}
 use Rattle.ssb_sql.proofs.StepFacts.{bind_some, choose_some}
@@ -42,25 +42,25 @@ mutual
   test_shorter (bare a) = tame_bare.shorter a
 
 mutual
-  pub cond_within : {from to : List Token} {x : Condition} → IsCond IsTested from to x → (d : ℕ) → IsWithin d from → IsWithin d to
+  pub cond_within : {from to : List Token} {x : Condition} → IsCond IsTested from to x → (d : ℕ) → HasRoom d from → HasRoom d to
   cond_within (cond a b) d h = ors_within b d (conj_within a d h)
 
-  pub ors_within : {from to : List Token} {xs : List Condition} → IsOrs IsTested from to xs → (d : ℕ) → IsWithin d from → IsWithin d to
+  pub ors_within : {from to : List Token} {xs : List Condition} → IsOrs IsTested from to xs → (d : ℕ) → HasRoom d from → HasRoom d to
   ors_within no_or d h = h
   ors_within (or a b) d h = ors_within b d (conj_within a d h)
 
-  pub conj_within : {from to : List Token} {x : Condition} → IsConj IsTested from to x → (d : ℕ) → IsWithin d from → IsWithin d to
+  pub conj_within : {from to : List Token} {x : Condition} → IsConj IsTested from to x → (d : ℕ) → HasRoom d from → HasRoom d to
   conj_within (conj a b) d h = ands_within b d (neg_within a d h)
 
-  pub ands_within : {from to : List Token} {xs : List Condition} → IsAnds IsTested from to xs → (d : ℕ) → IsWithin d from → IsWithin d to
+  pub ands_within : {from to : List Token} {xs : List Condition} → IsAnds IsTested from to xs → (d : ℕ) → HasRoom d from → HasRoom d to
   ands_within no_and d h = h
   ands_within (and a b) d h = ands_within b d (neg_within a d h)
 
-  pub neg_within : {from to : List Token} {x : Condition} → IsNeg IsTested from to x → (d : ℕ) → IsWithin d from → IsWithin d to
+  pub neg_within : {from to : List Token} {x : Condition} → IsNeg IsTested from to x → (d : ℕ) → HasRoom d from → HasRoom d to
   neg_within (plain a) d h = test_within a d h
   neg_within (not a) d h = test_within a d h
 
-  pub test_within : {from to : List Token} {x : Condition} → IsTest IsTested from to x → (d : ℕ) → IsWithin d from → IsWithin d to
+  pub test_within : {from to : List Token} {x : Condition} → IsTest IsTested from to x → (d : ℕ) → HasRoom d from → HasRoom d to
   test_within (parens a) zero h = absurd h
   test_within (parens a) (suc d) h = cond_within a d h
   test_within (bare a) d h = tame_bare.within a d h
@@ -107,7 +107,7 @@ module _ (inner : Parser Condition) (h : Sound inner (IsCond IsTested)) where
   conj_sound ts x e =
       let g = bind_some (chained_at s.And (neg_at inner) ts) _ x e in
       let m = sound_chained s.And (neg_at inner) (IsNeg IsTested) (IsAnds IsTested) sound_neg ands ts g.0 g.1 in
-      spells (IsConj IsTested) ts g.0.1 (all_of g.0.0) x (subst (λ xs. IsConj IsTested ts g.0.1 (all_of xs)) m.all (conj m.one m.more)) g.2
+      spells (IsConj IsTested) ts g.0.1 (and_chain g.0.0) x (subst (λ xs. IsConj IsTested ts g.0.1 (and_chain xs)) m.all (conj m.one m.more)) g.2
 
   pub sound_conj : Sound (conj_at inner) (IsConj IsTested)
   sound_conj = record { by = conj_sound }
@@ -122,7 +122,7 @@ module _ (inner : Parser Condition) (h : Sound inner (IsCond IsTested)) where
   disj_sound ts x e =
       let g = bind_some (chained_at s.Or (conj_at inner) ts) _ x e in
       let m = sound_chained s.Or (conj_at inner) (IsConj IsTested) (IsOrs IsTested) sound_conj ors ts g.0 g.1 in
-      spells (IsCond IsTested) ts g.0.1 (any_of g.0.0) x (subst (λ xs. IsCond IsTested ts g.0.1 (any_of xs)) m.all (cond m.one m.more)) g.2
+      spells (IsCond IsTested) ts g.0.1 (or_chain g.0.0) x (subst (λ xs. IsCond IsTested ts g.0.1 (or_chain xs)) m.all (cond m.one m.more)) g.2
 
 pub sound_cond : (d : ℕ) → Sound (cond_at d) (IsCond IsTested)
 unfolding cond_at

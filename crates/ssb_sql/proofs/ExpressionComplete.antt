@@ -19,7 +19,7 @@ use Rattle.ssb_sql.specs.Expressions.IsTerm.{term}
 use Rattle.ssb_sql.specs.Expressions.IsFactors.{no_factor, times}
 use Rattle.ssb_sql.specs.Expressions.IsFactor.{plain, positive, negative}
 use Rattle.ssb_sql.specs.Expressions.IsPrimary.{column, number, parens}
-use Rattle.ssb_sql.specs.Grammar.{IsWithin}
+use Rattle.ssb_sql.specs.Room.{HasRoom}
 use Rattle.ssb_sql.specs.Steps.{Parser, after, is_fixed, is_sign, is_name_next, chain_at, more_at, chained_at}
 use Rattle.ssb_sql.specs.ReadExpressions.{bare_primary_at, primary_at, factor_at, term_at, adding_at, step_at, expr_at}
 use Rattle.ssb_sql.proofs.StepFacts.{Stops, stops, differs, sees}
@@ -135,13 +135,13 @@ unfolding step_at
 step_goes p y ts to x q = rw q refl
 
 mutual
-  pub expr_read : {from to : List Token} {x : Expr} → IsExpr from to x → (d : ℕ) → IsWithin d from → EndsExpr to → expr_at (suc d) from ≡ Some (x, to)
+  pub expr_read : {from to : List Token} {x : Expr} → IsExpr from to x → (d : ℕ) → HasRoom d from → EndsExpr to → expr_at (suc d) from ≡ Some (x, to)
   expr_read (expr {from = from} {mid = mid} {to = to} {x = x} {xs = xs} f b) d h z =
       sum_goes d from mid to x xs
       (term_read f d h (steps_end b s.Dot (differs s.Plus s.Dot refl) (differs s.Minus s.Dot refl) z.dot) (steps_end b s.Times (differs s.Plus s.Times refl) (differs s.Minus s.Times refl) z.times))
       (more_goes adding_at (step_at (expr_at d)) [] xs mid to (steps_read b d (length mid) (term_within f d h) (omega arith) z))
 
-  pub steps_read : {from to : List Token} {xs : List Step} → IsSteps from to xs → (d k : ℕ) → IsWithin d from → length from ≤ k → EndsExpr to → chain_at adding_at (step_at (expr_at d)) k from ≡ Some (xs, to)
+  pub steps_read : {from to : List Token} {xs : List Step} → IsSteps from to xs → (d k : ℕ) → HasRoom d from → length from ≤ k → EndsExpr to → chain_at adding_at (step_at (expr_at d)) k from ≡ Some (xs, to)
   steps_read (no_step {to = to}) d k h l z = turn_done adding_at (step_at (expr_at d)) k to (adding_stops to z.plus z.minus)
   steps_read (plus f b) d zero h l z = absurd (omega arith)
   steps_read (plus {from = from} {mid = mid} {to = to} {x = x} {xs = xs} f b) d (suc k) h l z =
@@ -156,12 +156,12 @@ mutual
       (step_goes (expr_at d) a.Minus from mid x (term_read f d h (steps_end b s.Dot (differs s.Plus s.Dot refl) (differs s.Minus s.Dot refl) z.dot) (steps_end b s.Times (differs s.Plus s.Times refl) (differs s.Minus s.Times refl) z.times)))
       (steps_read b d k (term_within f d h) (omega arith) z)
 
-  pub term_read : {from to : List Token} {x : Expr} → IsTerm from to x → (d : ℕ) → IsWithin d from → Stops s.Dot to → Stops s.Times to → term_at (expr_at d) from ≡ Some (x, to)
+  pub term_read : {from to : List Token} {x : Expr} → IsTerm from to x → (d : ℕ) → HasRoom d from → Stops s.Dot to → Stops s.Times to → term_at (expr_at d) from ≡ Some (x, to)
   term_read (term {from = from} {mid = mid} {to = to} {x = x} {xs = xs} f b) d h n m =
       term_goes (expr_at d) from mid to x xs (factor_read f d h (factors_end b s.Dot (differs s.Times s.Dot refl) n))
       (more_goes (after s.Times) (factor_at (expr_at d)) (x ∷ []) xs mid to (factors_read b d (length mid) (factor_within f d h) (omega arith) n m))
 
-  pub factors_read : {from to : List Token} {xs : List Expr} → IsFactors from to xs → (d k : ℕ) → IsWithin d from → length from ≤ k → Stops s.Dot to → Stops s.Times to → chain_at (after s.Times) (factor_at (expr_at d)) k from ≡ Some (xs, to)
+  pub factors_read : {from to : List Token} {xs : List Expr} → IsFactors from to xs → (d k : ℕ) → HasRoom d from → length from ≤ k → Stops s.Dot to → Stops s.Times to → chain_at (after s.Times) (factor_at (expr_at d)) k from ≡ Some (xs, to)
   factors_read (no_factor {to = to}) d k h l n m = turn_done (after s.Times) (factor_at (expr_at d)) k to m
   factors_read (times f b) d zero h l n m = absurd (omega arith)
   factors_read (times {from = from} {mid = mid} {to = to} {x = x} {xs = xs} f b) d (suc k) h l n m =
@@ -169,13 +169,13 @@ mutual
       turn_goes (after s.Times) (factor_at (expr_at d)) k (Fixed s.Times ∷ from) mid to from x xs (sees s.Times from)
       (factor_read f d h (factors_end b s.Dot (differs s.Times s.Dot refl) n)) (factors_read b d k (factor_within f d h) (omega arith) n m)
 
-  pub factor_read : {from to : List Token} {x : Expr} → IsFactor from to x → (d : ℕ) → IsWithin d from → Stops s.Dot to → factor_at (expr_at d) from ≡ Some (x, to)
+  pub factor_read : {from to : List Token} {x : Expr} → IsFactor from to x → (d : ℕ) → HasRoom d from → Stops s.Dot to → factor_at (expr_at d) from ≡ Some (x, to)
   factor_read (plain {from = from} {to = to} {x = x} f) d h n =
       plain_goes (expr_at d) from to x (primary_begins f s.Plus (differs s.Open s.Plus refl)) (primary_begins f s.Minus (differs s.Open s.Minus refl)) (primary_read f d h n)
   factor_read (positive {from = from} {to = to} {x = x} f) d h n = positive_goes (expr_at d) from to x (primary_read f d h n)
   factor_read (negative {from = from} {to = to} {x = x} f) d h n = negative_goes (expr_at d) from to x (primary_read f d h n)
 
-  pub primary_read : {from to : List Token} {x : Expr} → IsPrimary from to x → (d : ℕ) → IsWithin d from → Stops s.Dot to → primary_at (expr_at d) from ≡ Some (x, to)
+  pub primary_read : {from to : List Token} {x : Expr} → IsPrimary from to x → (d : ℕ) → HasRoom d from → Stops s.Dot to → primary_at (expr_at d) from ≡ Some (x, to)
   primary_read (column {from = from} {to = to} {x = x} f) d h n = bare_goes (expr_at d) from to (e.Column x) (column_begins f s.Open) (bare_column_goes f n)
   primary_read (number {to = to} {n = k}) d h n = bare_goes (expr_at d) (Number k ∷ to) to (e.Number k) (number_begins k to s.Open) (bare_number_goes k to)
   primary_read (parens f) zero h n = absurd h

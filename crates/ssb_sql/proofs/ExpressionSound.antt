@@ -15,7 +15,7 @@ use Rattle.ssb_sql.specs.Expressions.IsTerm.{term}
 use Rattle.ssb_sql.specs.Expressions.IsFactors.{no_factor, times}
 use Rattle.ssb_sql.specs.Expressions.IsFactor.{plain, positive, negative}
 use Rattle.ssb_sql.specs.Expressions.IsPrimary.{column, number, parens}
-use Rattle.ssb_sql.specs.Grammar.{IsWithin}
+use Rattle.ssb_sql.specs.Room.{HasRoom}
 use Rattle.ssb_sql.specs.Steps.{Parser, after, number_at, is_name_next, more_at, chained_at, Shrinks}
 use Rattle.ssb_sql.specs.ReadParts.{column_at}
 use Rattle.ssb_sql.specs.ReadExpressions.{bare_primary_at, primary_at, factor_at, term_at, adding_at, step_at, sum_at, expr_at}
@@ -50,27 +50,27 @@ mutual
   primary_shorter (parens a) = let p = expr_shorter a in omega arith
 
 mutual
-  pub expr_within : {from to : List Token} {x : Expr} → IsExpr from to x → (d : ℕ) → IsWithin d from → IsWithin d to
+  pub expr_within : {from to : List Token} {x : Expr} → IsExpr from to x → (d : ℕ) → HasRoom d from → HasRoom d to
   expr_within (expr a b) d h = steps_within b d (term_within a d h)
 
-  pub steps_within : {from to : List Token} {xs : List Step} → IsSteps from to xs → (d : ℕ) → IsWithin d from → IsWithin d to
+  pub steps_within : {from to : List Token} {xs : List Step} → IsSteps from to xs → (d : ℕ) → HasRoom d from → HasRoom d to
   steps_within no_step d h = h
   steps_within (plus a b) d h = steps_within b d (term_within a d h)
   steps_within (minus a b) d h = steps_within b d (term_within a d h)
 
-  pub term_within : {from to : List Token} {x : Expr} → IsTerm from to x → (d : ℕ) → IsWithin d from → IsWithin d to
+  pub term_within : {from to : List Token} {x : Expr} → IsTerm from to x → (d : ℕ) → HasRoom d from → HasRoom d to
   term_within (term a b) d h = factors_within b d (factor_within a d h)
 
-  pub factors_within : {from to : List Token} {xs : List Expr} → IsFactors from to xs → (d : ℕ) → IsWithin d from → IsWithin d to
+  pub factors_within : {from to : List Token} {xs : List Expr} → IsFactors from to xs → (d : ℕ) → HasRoom d from → HasRoom d to
   factors_within no_factor d h = h
   factors_within (times a b) d h = factors_within b d (factor_within a d h)
 
-  pub factor_within : {from to : List Token} {x : Expr} → IsFactor from to x → (d : ℕ) → IsWithin d from → IsWithin d to
+  pub factor_within : {from to : List Token} {x : Expr} → IsFactor from to x → (d : ℕ) → HasRoom d from → HasRoom d to
   factor_within (plain a) d h = primary_within a d h
   factor_within (positive a) d h = primary_within a d h
   factor_within (negative a) d h = primary_within a d h
 
-  pub primary_within : {from to : List Token} {x : Expr} → IsPrimary from to x → (d : ℕ) → IsWithin d from → IsWithin d to
+  pub primary_within : {from to : List Token} {x : Expr} → IsPrimary from to x → (d : ℕ) → HasRoom d from → HasRoom d to
   primary_within (column a) d h = tame_column.within a d h
   primary_within number d h = h
   primary_within (parens a) zero h = absurd h

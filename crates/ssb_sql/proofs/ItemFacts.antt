@@ -10,7 +10,8 @@ use Rattle.ssb_sql.specs.declared.select.Key.{Key}
 use Rattle.ssb_sql.specs.declared.select.Key.TheVariants as k
 use Rattle.ssb_sql.specs.declared.select.Order.{Order}
 use Rattle.ssb_sql.specs.Expressions.{IsExpr}
-use Rattle.ssb_sql.specs.Grammar.{IsOutput, IsItem, IsKey, IsOrder, IsWithin}
+use Rattle.ssb_sql.specs.Grammar.{IsOutput, IsItem, IsKey, IsOrder}
+use Rattle.ssb_sql.specs.Room.{HasRoom}
 use Rattle.ssb_sql.specs.Grammar.IsOutput.{column, sum, count_rows, count}
 use Rattle.ssb_sql.specs.Grammar.IsItem.{unnamed, named}
 use Rattle.ssb_sql.specs.Grammar.IsKey.{name, position}
@@ -109,7 +110,7 @@ output_shorter (sum a) = let p = tame_expr.shorter a in omega arith
 output_shorter count_rows = omega arith
 output_shorter (count a) = let p = tame_expr.shorter a in omega arith
 
-output_within : {from to : List Token} {x : Output} → IsOutput from to x → (d : ℕ) → IsWithin d from → IsWithin d to
+output_within : {from to : List Token} {x : Output} → IsOutput from to x → (d : ℕ) → HasRoom d from → HasRoom d to
 output_within (column a) d h = tame_column.within a d h
 output_within (sum a) zero h = absurd h
 output_within (sum a) (suc d) h = tame_expr.within a d h
@@ -122,7 +123,7 @@ item_shorter : {from to : List Token} {x : Item} → IsItem from to x → length
 item_shorter (unnamed a) = output_shorter a
 item_shorter (named a) = let p = output_shorter a in omega arith
 
-item_within : {from to : List Token} {x : Item} → IsItem from to x → (d : ℕ) → IsWithin d from → IsWithin d to
+item_within : {from to : List Token} {x : Item} → IsItem from to x → (d : ℕ) → HasRoom d from → HasRoom d to
 item_within (unnamed a) d h = output_within a d h
 item_within (named a) d h = output_within a d h
 
@@ -133,7 +134,7 @@ key_shorter : {from to : List Token} {x : Key} → IsKey from to x → length to
 key_shorter name = omega arith
 key_shorter position = omega arith
 
-key_within : {from to : List Token} {x : Key} → IsKey from to x → (d : ℕ) → IsWithin d from → IsWithin d to
+key_within : {from to : List Token} {x : Key} → IsKey from to x → (d : ℕ) → HasRoom d from → HasRoom d to
 key_within name d h = h
 key_within position d h = h
 
@@ -142,7 +143,7 @@ order_shorter (plain a) = key_shorter a
 order_shorter (asc a) = let p = key_shorter a in omega arith
 order_shorter (desc a) = let p = key_shorter a in omega arith
 
-order_within : {from to : List Token} {x : Order} → IsOrder from to x → (d : ℕ) → IsWithin d from → IsWithin d to
+order_within : {from to : List Token} {x : Order} → IsOrder from to x → (d : ℕ) → HasRoom d from → HasRoom d to
 order_within (plain a) d h = key_within a d h
 order_within (asc a) d h = key_within a d h
 order_within (desc a) d h = key_within a d h

@@ -15,7 +15,7 @@ use Rattle.ssb_sql.specs.Forms.IsNamed.{name}
 use Rattle.ssb_sql.specs.Forms.IsColumn.{alone, dotted}
 use Rattle.ssb_sql.specs.Forms.IsLiteral.{number, positive, negative, text}
 use Rattle.ssb_sql.specs.Forms.IsOperand.{column, literal}
-use Rattle.ssb_sql.specs.Grammar.{IsWithin}
+use Rattle.ssb_sql.specs.Room.{HasRoom}
 use Rattle.ssb_sql.specs.Steps.{after, is_fixed, name_at, number_at, text_at, is_name_next, is_text_next, Shrinks}
 use Rattle.ssb_sql.specs.ReadParts.{column_of, column_at, small_at, below_at, plain_literal_at, literal_at, operand_at}
 use Rattle.ssb_sql.proofs.StepFacts.{some_is, bind_some, choose_some, if_some, after_is, Stops, stops, differs, sees}
@@ -132,7 +132,7 @@ sound_operand = record { by = operand_sound }
 name_shorter : {from to : List Token} {x : List ℕ} → IsNamed from to x → length to < length from
 name_shorter name = omega arith
 
-name_within : {from to : List Token} {x : List ℕ} → IsNamed from to x → (d : ℕ) → IsWithin d from → IsWithin d to
+name_within : {from to : List Token} {x : List ℕ} → IsNamed from to x → (d : ℕ) → HasRoom d from → HasRoom d to
 name_within name d h = h
 
 pub tame_name : Tame IsNamed
@@ -142,7 +142,7 @@ column_shorter : {from to : List Token} {x : ColumnName} → IsColumn from to x 
 column_shorter alone = omega arith
 column_shorter dotted = omega arith
 
-column_within : {from to : List Token} {x : ColumnName} → IsColumn from to x → (d : ℕ) → IsWithin d from → IsWithin d to
+column_within : {from to : List Token} {x : ColumnName} → IsColumn from to x → (d : ℕ) → HasRoom d from → HasRoom d to
 column_within alone d h = h
 column_within dotted d h = h
 
@@ -155,7 +155,7 @@ literal_shorter (positive a) = omega arith
 literal_shorter (negative a) = omega arith
 literal_shorter text = omega arith
 
-literal_within : {from to : List Token} {x : Literal} → IsLiteral from to x → (d : ℕ) → IsWithin d from → IsWithin d to
+literal_within : {from to : List Token} {x : Literal} → IsLiteral from to x → (d : ℕ) → HasRoom d from → HasRoom d to
 literal_within (number a) d h = h
 literal_within (positive a) d h = h
 literal_within (negative a) d h = h
@@ -168,7 +168,7 @@ operand_shorter : {from to : List Token} {x : Operand} → IsOperand from to x �
 operand_shorter (column a) = column_shorter a
 operand_shorter (literal a) = literal_shorter a
 
-operand_within : {from to : List Token} {x : Operand} → IsOperand from to x → (d : ℕ) → IsWithin d from → IsWithin d to
+operand_within : {from to : List Token} {x : Operand} → IsOperand from to x → (d : ℕ) → HasRoom d from → HasRoom d to
 operand_within (column a) d h = column_within a d h
 operand_within (literal a) d h = literal_within a d h
 

@@ -14,7 +14,8 @@ use Rattle.ssb_sql.specs.declared.select.Key.{Key}
 use Rattle.ssb_sql.specs.declared.select.Order.{Order}
 use Rattle.ssb_sql.specs.declared.select.Select.{Select}
 use Rattle.ssb_sql.specs.Forms.{IsList, IsNamed, IsColumn}
-use Rattle.ssb_sql.specs.Grammar.{IsOutput, IsItem, IsWhere, IsGroups, IsKey, IsOrder, IsOrders, IsEnd, Parses, IsWithin}
+use Rattle.ssb_sql.specs.Grammar.{IsOutput, IsItem, IsWhere, IsGroups, IsKey, IsOrder, IsOrders, IsEnd, Parses}
+use Rattle.ssb_sql.specs.Room.{HasRoom}
 use Rattle.ssb_sql.specs.Grammar.IsOutput.{column, sum, count_rows, count}
 use Rattle.ssb_sql.specs.Grammar.IsItem.{unnamed, named}
 use Rattle.ssb_sql.specs.Grammar.IsKey.{name, position}
@@ -59,7 +60,7 @@ unfolding output_at count_at
 count_goes d ts to x h e =
     rw (no s.Count s.Sum (Fixed s.Open ∷ ts) (differs s.Count s.Sum refl), sees s.Count (Fixed s.Open ∷ ts), sees s.Open ts, h, closed_read (expr_at d) ts to x e) refl
 
-output_read : {from to : List Token} {x : Output} → IsOutput from to x → (d : ℕ) → IsWithin d from → Stops s.Dot to → output_at d from ≡ Some (x, to)
+output_read : {from to : List Token} {x : Output} → IsOutput from to x → (d : ℕ) → HasRoom d from → Stops s.Dot to → output_at d from ≡ Some (x, to)
 output_read (column a) d h n = column_goes a d n
 output_read (sum a) zero h n = absurd h
 output_read (sum {from = from} {to = to} {x = x} a) (suc d) h n = sum_goes (suc d) from to x (expr_read a d h (close_ends to))
@@ -72,7 +73,7 @@ pub record EndsItem (to : List Token) : Type 0 where
   pub dot : Stops s.Dot to
   pub alias : Stops s.As to
 
-item_read : {from to : List Token} {x : Item} → IsItem from to x → (d : ℕ) → IsWithin d from → EndsItem to → item_at d from ≡ Some (x, to)
+item_read : {from to : List Token} {x : Item} → IsItem from to x → (d : ℕ) → HasRoom d from → EndsItem to → item_at d from ≡ Some (x, to)
 unfolding item_at
 item_read (unnamed a) d h z = rw (output_read a d h z.dot, z.alias) refl
 item_read (named {to = to} {n = n} a) d h z =
@@ -84,7 +85,7 @@ complete_item d = record { by = λ h w z. item_read h d w z }
 item_goes_on : GoesOn EndsItem
 item_goes_on = record { comma = λ ts. record { dot = no s.Comma s.Dot ts (differs s.Comma s.Dot refl); alias = no s.Comma s.As ts (differs s.Comma s.As refl) } }
 
-items_read : (d : ℕ) (from to : List Token) (xs : List Item) → IsList IsItem from (Fixed s.From ∷ to) xs → IsWithin d from → list_at (item_at d) from ≡ Some (xs, Fixed s.From ∷ to)
+items_read : (d : ℕ) (from to : List Token) (xs : List Item) → IsList IsItem from (Fixed s.From ∷ to) xs → HasRoom d from → list_at (item_at d) from ≡ Some (xs, Fixed s.From ∷ to)
 items_read d from to xs h w =
     list_read (item_at d) IsItem tame_item d EndsItem item_goes_on (complete_item d) h w
     (record { dot = no s.From s.Dot to (differs s.From s.Dot refl); alias = no s.From s.As to (differs s.From s.As refl) }) (no s.From s.Comma to (differs s.From s.Comma refl))
@@ -152,7 +153,7 @@ where_stops no_where sign p h = h
 where_stops (where_cond {from = from} a) sign p h = no s.Where sign from p
 
 -- the parts behind FROM
-where_read : {from to : List Token} {x : Option Condition} → IsWhere from to x → (d : ℕ) → IsWithin d from → Stops s.Where to → EndsCond to → where_at (suc d) from ≡ Some (x, to)
+where_read : {from to : List Token} {x : Option Condition} → IsWhere from to x → (d : ℕ) → HasRoom d from → Stops s.Where to → EndsCond to → where_at (suc d) from ≡ Some (x, to)
 unfolding where_at
 where_read no_where d h n z = rw n refl
 where_read (where_cond {from = from} a) d h n z = rw (sees s.Where from, cond_read a d h z) refl
@@ -183,10 +184,10 @@ unfolding query_at
 query_goes d a b c g items from x p q r = rw (sees s.Select a, p, sees s.From b, q) r
 
 -- what is read of a query, and that nothing is left but its end
-pub whole_read : {ts : List Token} {x : Select} → Parses ts x → (d : ℕ) → IsWithin d ts → (rest : List Token) × (query_at d ts ≡ Some (x, rest)) × (ends rest ≡ true)
+pub whole_read : {ts : List Token} {x : Select} → Parses ts x → (d : ℕ) → HasRoom d ts → (rest : List Token) × (query_at d ts ≡ Some (x, rest)) × (ends rest ≡ true)
 whole_read (query {a = a} {b = b} {c = c} {d = e} {e = f} {f = g} {items = items} {from = from} {condition = w} {groups = xs} {orders = ys} one two where_is groups_are orders_are last) d h =
-    let within_b : IsWithin d b = (tame_list IsItem tame_item).within one d h in
-    let within_c : IsWithin d c = (tame_list IsNamed tame_name).within two d within_b in
+    let within_b : HasRoom d b = (tame_list IsItem tame_item).within one d h in
+    let within_c : HasRoom d c = (tame_list IsNamed tame_name).within two d within_b in
     let stops_f = λ (sign : Sign) (i : is_sign s.Semicolon sign ≡ false) (j : is_sign s.Order sign ≡ false). orders_stop orders_are sign j (end_stops last sign i) in
     let stops_e = λ (sign : Sign) (i : is_sign s.Semicolon sign ≡ false) (j : is_sign s.Order sign ≡ false) (k : is_sign s.Group sign ≡ false). groups_stop groups_are sign k (stops_f sign i j) in
     let ends_cond : EndsCond e = record {
@@ -210,10 +211,10 @@ one_meaning ts x y a b =
     let q = whole_read b (length ts) h in
     ap (λ (r : Select × List Token). r.0) (some_is (x, p.0) (y, q.0) (sym p.1 ∙ q.1))
 
-pub spells_none : (ts : List Token) → IsWithin 64 ts → query_at 64 ts ≡ None → (y : Select) → Parses ts y → ⊥
+pub spells_none : (ts : List Token) → HasRoom 64 ts → query_at 64 ts ≡ None → (y : Select) → Parses ts y → ⊥
 spells_none ts h e y is = let f = (whole_read is 64 h).1 in absurd cc
 
-pub spells_less : (ts rest : List Token) (x : Select) → IsWithin 64 ts → query_at 64 ts ≡ Some (x, rest) → ends rest ≡ false → (y : Select) → Parses ts y → ⊥
+pub spells_less : (ts rest : List Token) (x : Select) → HasRoom 64 ts → query_at 64 ts ≡ Some (x, rest) → ends rest ≡ false → (y : Select) → Parses ts y → ⊥
 spells_less ts rest x h e n y is =
     let f = whole_read is 64 h in
     let same : rest ≡ f.0 = ap (λ (r : Select × List Token). r.1) (some_is (x, rest) (y, f.0) (sym e ∙ f.1)) in

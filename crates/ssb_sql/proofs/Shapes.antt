@@ -7,7 +7,7 @@ use Rattle.ssb_sql.specs.declared.token.Sign.TheVariants as s
 use Rattle.ssb_sql.specs.Forms.{Spelling, IsMore, IsList}
 use Rattle.ssb_sql.specs.Forms.IsMore.{no_more, comma}
 use Rattle.ssb_sql.specs.Forms.IsList.{list}
-use Rattle.ssb_sql.specs.Grammar.{IsWithin}
+use Rattle.ssb_sql.specs.Room.{HasRoom}
 use Rattle.ssb_sql.specs.Steps.{◌>>=◌, Parser, after, turn_at, chain_at, with_front, more_at, chained_at, list_at, closed_at, Shrinks}
 use Rattle.ssb_sql.proofs.StepFacts.{some_is, bind_some, after_is, after_shorter, Stops, sees}
 
@@ -18,11 +18,11 @@ pub record Sound {A : Type 0} (p : Parser A) (R : Spelling A) : Type 0 where
 -- what R spells is not empty, and leaves the open parentheses as they were
 pub record Tame {A : Type 0} (R : Spelling A) : Type 0 where
   pub shorter : {from to : List Token} {x : A} → R from to x → length to < length from
-  pub within : {from to : List Token} {x : A} → R from to x → (d : ℕ) → IsWithin d from → IsWithin d to
+  pub within : {from to : List Token} {x : A} → R from to x → (d : ℕ) → HasRoom d from → HasRoom d to
 
 -- p reads what R spells, where F holds of what follows
 pub record Complete {A : Type 0} (p : Parser A) (R : Spelling A) (d : ℕ) (F : List Token → Type 0) : Type 0 where
-  pub by : {from to : List Token} {x : A} → R from to x → IsWithin d from → F to → p from ≡ Some (x, to)
+  pub by : {from to : List Token} {x : A} → R from to x → HasRoom d from → F to → p from ≡ Some (x, to)
 
 -- a spelling of one thing is a spelling of the same thing
 pub spells : {A : Type 0} (R : Spelling A) (ts to : List Token) (y : A) (x : A × List Token) → R ts to y → Some (y, to) ≡ Some x → R ts x.1 x.0
@@ -122,14 +122,14 @@ module _ {A : Type 0} (R : Spelling A) (t : Tame R) where
   more_shorter no_more = omega arith
   more_shorter (comma a b) = let p = t.shorter a in let q = more_shorter b in omega arith
 
-  more_within : {from to : List Token} {xs : List A} → IsMore R from to xs → (d : ℕ) → IsWithin d from → IsWithin d to
+  more_within : {from to : List Token} {xs : List A} → IsMore R from to xs → (d : ℕ) → HasRoom d from → HasRoom d to
   more_within no_more d h = h
   more_within (comma a b) d h = more_within b d (t.within a d h)
 
   list_shorter : {from to : List Token} {xs : List A} → IsList R from to xs → length to < length from
   list_shorter (list a b) = let p = t.shorter a in let q = more_shorter b in omega arith
 
-  list_within : {from to : List Token} {xs : List A} → IsList R from to xs → (d : ℕ) → IsWithin d from → IsWithin d to
+  list_within : {from to : List Token} {xs : List A} → IsList R from to xs → (d : ℕ) → HasRoom d from → HasRoom d to
   list_within (list a b) d h = more_within b d (t.within a d h)
 
   pub tame_list : Tame (IsList R)
@@ -160,14 +160,14 @@ module _ {A : Type 0} (p : Parser A) (R : Spelling A) (t : Tame R) (d : ℕ) (F 
   more_ends no_more f = f
   more_ends (comma {from = from} a b) f = g.comma from
 
-  more_read : {from to : List Token} {xs : List A} → IsMore R from to xs → (k : ℕ) → IsWithin d from → length from ≤ k → F to → Stops s.Comma to → chain_at (after s.Comma) p k from ≡ Some (xs, to)
+  more_read : {from to : List Token} {xs : List A} → IsMore R from to xs → (k : ℕ) → HasRoom d from → length from ≤ k → F to → Stops s.Comma to → chain_at (after s.Comma) p k from ≡ Some (xs, to)
   more_read (no_more {to = to}) k w l f n = turn_done (after s.Comma) p k to n
   more_read (comma a b) zero w l f n = absurd (omega arith)
   more_read (comma {from = from} {mid = mid} {to = to} {x = x} {xs = xs} a b) (suc k) w l f n =
       let lt = t.shorter a in
       turn_goes (after s.Comma) p k (Fixed s.Comma ∷ from) mid to from x xs (sees s.Comma from) (h.by a w (more_ends b f)) (more_read b k (t.within a d w) (omega arith) f n)
 
-  pub list_read : {from to : List Token} {xs : List A} → IsList R from to xs → IsWithin d from → F to → Stops s.Comma to → list_at p from ≡ Some (xs, to)
+  pub list_read : {from to : List Token} {xs : List A} → IsList R from to xs → HasRoom d from → F to → Stops s.Comma to → list_at p from ≡ Some (xs, to)
   unfolding chained_at
   list_read (list {from = from} {mid = mid} {to = to} {x = x} {xs = xs} a b) w f n =
       ap (λ o. o >>= λ y. more_at (after s.Comma) p (y.0 ∷ []) y.1) (h.by a w (more_ends b f)) ∙ more_goes (after s.Comma) p (x ∷ []) xs mid to (more_read b (length mid) (t.within a d w) (omega arith) f n)

@@ -6,14 +6,16 @@ use Rattle.ssb_sql.specs.declared.fault.SqlFault.TheVariants as fault
 use Rattle.ssb_sql.specs.declared.select.Select.{Select}
 use Rattle.ssb_sql.specs.declared.token.Token.{Token}
 use Rattle.ssb_sql.specs.Exact.{Reads}
-use Rattle.ssb_sql.specs.Grammar.{Parses, IsWithin}
+use Rattle.ssb_sql.specs.Grammar.{Parses}
+use Rattle.ssb_sql.specs.Room.{HasRoom}
 use Rattle.ssb_sql.specs.Lexes.{HasNoTokens}
 use Rattle.ssb_sql.specs.Spells.{IsShallow, ReadsText, Spells}
 use Rattle.ssb_sql.specs.Tokens.{IsTokens}
+use Rattle.ssb_sql.proofs.Depth.{same_room}
 use Rattle.ssb_sql.proofs.TokenLists.{one_list}
 
-shallow-one : (text : List ℕ) (ts : List Token) → IsTokens text ts → IsWithin 64 ts → IsShallow text
-shallow-one text ts is within us also = subst (IsWithin 64) (one_list text ts us is also) within
+shallow-one : (text : List ℕ) (ts : List Token) → IsTokens text ts → HasRoom 64 ts → IsShallow text
+shallow-one text ts is within us also = (same_room 64 us).to (subst (HasRoom 64) (one_list text ts us is also) within)
 
 none-spelt : (text : List ℕ) (ts : List Token) → IsTokens text ts → ((x : Select) → Parses ts x → ⊥) → (x : Select) → Spells text x → ⊥
 none-spelt text ts is none x s = none x (subst (λ us. Parses us x) (one_list text s.tokens ts s.is_text is) s.is_query)
@@ -21,7 +23,7 @@ none-spelt text ts is none x s = none x (subst (λ us. Parses us x) (one_list te
 -- what the tokens of a text spell is what the text spells
 pub read-tokens : (text : List ℕ) (ts : List Token) (r : Result Select SqlFault) → length text ≤ 65536 → IsTokens text ts → Reads ts r → ReadsText text r
 read-tokens text ts (Ok x) short is h = record { short = short; shallow = shallow-one text ts is h.0; spells = record { tokens = ts; is_text = is; is_query = h.1 } }
-read-tokens text ts (Err fault.TooDeep) short is h = (short, record { tokens = ts; is_text = is; beyond = h })
+read-tokens text ts (Err fault.TooDeep) short is h = (short, record { tokens = ts; is_text = is; beyond = λ w. h ((same_room 64 ts).from w) })
 read-tokens text ts (Err fault.Syntax) short is h = record { short = short; shallow = shallow-one text ts is h.0; none = none-spelt text ts is h.1 }
 read-tokens text ts (Err fault.Memory) short is h = tt
 read-tokens text ts (Err fault.TooLong) short is h = absurd h

@@ -15,7 +15,7 @@ use Rattle.ssb_sql.specs.Forms.{IsList, IsColumn, IsLiteral, IsOperand}
 use Rattle.ssb_sql.specs.Forms.IsOperand.{column, literal}
 use Rattle.ssb_sql.specs.Conditions.{mark_of, IsBare}
 use Rattle.ssb_sql.specs.Conditions.IsBare.{compare, between, not_between, among, not_among, null, not_null}
-use Rattle.ssb_sql.specs.Grammar.{IsWithin}
+use Rattle.ssb_sql.specs.Room.{HasRoom}
 use Rattle.ssb_sql.specs.Steps.{after, list_at, parens_at}
 use Rattle.ssb_sql.specs.ReadParts.{literal_at, operand_at}
 use Rattle.ssb_sql.specs.ReadConditions.{op_at, limits_at, members_at, range_at, null_at, compared_at, tail_at, bare_at}
@@ -174,7 +174,7 @@ bare_shorter (null a) = let p = tame_column.shorter a in omega arith
 bare_shorter (not_null a) = let p = tame_column.shorter a in omega arith
 
 -- an operator is no parenthesis
-mark_within : (y : Op) (ts : List Token) (d : ℕ) → IsWithin d (Fixed (mark_of y) ∷ ts) → IsWithin d ts
+mark_within : (y : Op) (ts : List Token) (d : ℕ) → HasRoom d (Fixed (mark_of y) ∷ ts) → HasRoom d ts
 mark_within op.Eq ts d h = h
 mark_within op.Ne ts d h = h
 mark_within op.Lt ts d h = h
@@ -183,11 +183,11 @@ mark_within op.Gt ts d h = h
 mark_within op.Ge ts d h = h
 
 -- literals in parentheses, the first of which is read
-members_within : (mid to : List Token) (ys : List Literal) → IsList IsLiteral mid (Fixed s.Close ∷ to) ys → (d : ℕ) → IsWithin d (Fixed s.Open ∷ mid) → IsWithin d to
+members_within : (mid to : List Token) (ys : List Literal) → IsList IsLiteral mid (Fixed s.Close ∷ to) ys → (d : ℕ) → HasRoom d (Fixed s.Open ∷ mid) → HasRoom d to
 members_within mid to ys b zero h = absurd h
 members_within mid to ys b (suc d) h = tame_literals.within b d h
 
-bare_within : {from to : List Token} {x : Condition} → IsTested from to x → (d : ℕ) → IsWithin d from → IsWithin d to
+bare_within : {from to : List Token} {x : Condition} → IsTested from to x → (d : ℕ) → HasRoom d from → HasRoom d to
 bare_within (compare {mid = mid} {op = y} a b) d h = tame_operand.within b d (mark_within y mid d (tame_operand.within a d h))
 bare_within (between a b g) d h = tame_operand.within g d (tame_operand.within b d (tame_operand.within a d h))
 bare_within (not_between a b g) d h = tame_operand.within g d (tame_operand.within b d (tame_operand.within a d h))

@@ -13,7 +13,7 @@ use Rattle.ssb_sql.specs.declared.token.Sign.TheVariants as s
 use Rattle.ssb_sql.specs.declared.token.Token.{Token}
 use Rattle.ssb_sql.specs.declared.token.Token.TheVariants.{Fixed, Name, Number, Text}
 use Rattle.ssb_sql.specs.Class.{class_of}
-use Rattle.ssb_sql.specs.Tokens.{Each, IsLongest, IsTokens, Stops, begins, doubled, follows_less, goes_on, is_blank, is_dash, is_equal, is_mark, is_number, is_quote, sign_of, spelling, value_of}
+use Rattle.ssb_sql.specs.Tokens.{Each, IsLongest, IsTokens, Stops, begins, doubled, follows_less, goes_on, is_blank, is_dash, is_equal, is_mark, is_numeral, is_quote, sign_of, spelling, value_of}
 use Rattle.ssb_sql.specs.Tokens.IsTokens.{end_of_text, blank, comment, reserved, name, number, text, mark}
 use Rattle.ssb_sql.specs.Scanning.{◌>>=◌, greater_at, less_at, lex, lex_turn, number_at, number_of, past, put, run, skip, text_at, text_of, text_token_at, token_at, token_by, token_by_sign, token_of, word_at}
 use Rattle.ssb_sql.proofs.ReservedWords.{name_has_no_sign}
@@ -87,7 +87,7 @@ word_stays b bs rest w =
     let h = (and_parts (is_ascii_alphabetic b) (list_all is_word_byte bs) w).0 in
     skip_stays b (bs ++ rest) (letter_not_blank b h) (and_left (is_dash b) (begins is_dash (bs ++ rest)) (letter_not_dash b h))
 
-pub number_stays : (b : ℕ) (bs rest : List ℕ) → is_number (b ∷ bs) ≡ true → skip false (b ∷ bs ++ rest) ≡ b ∷ bs ++ rest
+pub number_stays : (b : ℕ) (bs rest : List ℕ) → is_numeral (b ∷ bs) ≡ true → skip false (b ∷ bs ++ rest) ≡ b ∷ bs ++ rest
 number_stays b bs rest w =
     let h = (and_parts (is_ascii_digit b) (list_all is_ascii_digit bs) w).0 in
     skip_stays b (bs ++ rest) (digit_not_blank b h) (and_left (is_dash b) (begins is_dash (bs ++ rest)) (digit_not_dash b h))
@@ -119,7 +119,7 @@ word_read b bs rest o w e s =
     ∙ ap (some_token (token_of (b ∷ bs))) (past_is is_word_byte (b ∷ bs) rest each s)
     ∙ ap (λ p. some_token (token_by_sign p (b ∷ bs)) rest) e
 
-number_read : (b : ℕ) (bs rest : List ℕ) → is_number (b ∷ bs) ≡ true → Stops is_word_byte rest → value_of (b ∷ bs) ≤ 9223372036854775807
+number_read : (b : ℕ) (bs rest : List ℕ) → is_numeral (b ∷ bs) ≡ true → Stops is_word_byte rest → value_of (b ∷ bs) ≤ 9223372036854775807
     → token_at (b ∷ bs ++ rest) ≡ Some (Number (value_of (b ∷ bs)), rest)
 unfolding number_at
 number_read b bs rest w s v =

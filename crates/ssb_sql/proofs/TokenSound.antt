@@ -13,7 +13,7 @@ use Rattle.ssb_sql.specs.declared.token.Sign.TheVariants as s
 use Rattle.ssb_sql.specs.declared.token.Token.{Token}
 use Rattle.ssb_sql.specs.declared.token.Token.TheVariants.{Fixed, Number, Text}
 use Rattle.ssb_sql.specs.Class.{class_of}
-use Rattle.ssb_sql.specs.Tokens.{Each, IsLongest, IsTokens, Stops, begins, doubled, goes_on, is_blank, is_dash, is_mark, is_number, is_quote, sign_of, spelling, value_of}
+use Rattle.ssb_sql.specs.Tokens.{Each, IsLongest, IsTokens, Stops, begins, doubled, goes_on, is_blank, is_dash, is_mark, is_numeral, is_quote, sign_of, spelling, value_of}
 use Rattle.ssb_sql.specs.Tokens.IsTokens.{end_of_text, blank, comment, reserved, name, number, text, mark}
 use Rattle.ssb_sql.specs.Scanning.{◌>>=◌, greater_at, less_at, lex, lex_turn, mark_at, number_at, number_of, past, put, run, skip, text_at, text_of, text_token_at, token_at, token_by, token_by_sign, token_of, word_at}
 use Rattle.ssb_sql.proofs.ReservedWords.{name_from_no_sign}
@@ -91,9 +91,9 @@ run_is_word (b ∷ bs) h =
     subst (λ w. is_word w ≡ true) (sym (run_more is_word_byte b bs (letter_in_word b h)))
     (and_from (is_ascii_alphabetic b) (list_all is_word_byte (run is_word_byte bs)) h (run_each is_word_byte bs))
 
-run_is_number : (b : ℕ) (bs : List ℕ) → is_ascii_digit b ≡ true → is_number (run is_ascii_digit (b ∷ bs)) ≡ true
+run_is_number : (b : ℕ) (bs : List ℕ) → is_ascii_digit b ≡ true → is_numeral (run is_ascii_digit (b ∷ bs)) ≡ true
 run_is_number b bs h =
-    subst (λ w. is_number w ≡ true) (sym (run_more is_ascii_digit b bs h))
+    subst (λ w. is_numeral w ≡ true) (sym (run_more is_ascii_digit b bs h))
     (and_from (is_ascii_digit b) (list_all is_ascii_digit (run is_ascii_digit bs)) h (run_each is_ascii_digit bs))
 
 -- ---- what is skipped

@@ -14,7 +14,7 @@ use Rattle.ssb_sql.specs.declared.condition.Literal.{Literal}
 use Rattle.ssb_sql.specs.declared.condition.Operand.{Operand}
 use Rattle.ssb_sql.specs.declared.condition.Condition.{Condition}
 use Rattle.ssb_sql.specs.declared.condition.Condition.TheVariants as c
-use Rattle.ssb_sql.specs.Forms.{Spelling, IsList, IsColumn, IsLiteral, IsOperand}
+use Rattle.ssb_sql.specs.Forms.{Spelling, IsList, IsColumn, IsLiteral, IsOperand, chain_of}
 
 -- op = "=" | "<>" | "<" | "<=" | ">" | ">="
 abbrev pub mark_of : Op → Sign
@@ -39,21 +39,16 @@ pub data IsBare (O : Spelling Operand) : List Token → List Token → Condition
   null : {from to : List Token} {x : ColumnName} → IsColumn from (Fixed s.Is ∷ Fixed s.Null ∷ to) x → IsBare O from to (c.IsNull x)
   not_null : {from to : List Token} {x : ColumnName} → IsColumn from (Fixed s.Is ∷ Fixed s.Not ∷ Fixed s.Null ∷ to) x → IsBare O from to (c.IsNotNull x)
 
--- a chain of one thing is that thing
-unfoldable pub any_of : List Condition → Condition
-any_of [] = c.Any []
-any_of (x ∷ []) = x
-any_of (x ∷ y ∷ ys) = c.Any (x ∷ y ∷ ys)
+abbrev pub or_chain : List Condition → Condition
+or_chain = chain_of c.Any
 
-unfoldable pub all_of : List Condition → Condition
-all_of [] = c.All []
-all_of (x ∷ []) = x
-all_of (x ∷ y ∷ ys) = c.All (x ∷ y ∷ ys)
+abbrev pub and_chain : List Condition → Condition
+and_chain = chain_of c.All
 
 mutual
   -- cond = conj {OR conj}
   pub data IsCond (T : Spelling Condition) : List Token → List Token → Condition → Type 0 where
-    cond : {from mid to : List Token} {x : Condition} {xs : List Condition} → IsConj T from mid x → IsOrs T mid to xs → IsCond T from to (any_of (x ∷ xs))
+    cond : {from mid to : List Token} {x : Condition} {xs : List Condition} → IsConj T from mid x → IsOrs T mid to xs → IsCond T from to (or_chain (x ∷ xs))
 
   pub data IsOrs (T : Spelling Condition) : List Token → List Token → List Condition → Type 0 where
     no_or : {to : List Token} → IsOrs T to to []
@@ -61,7 +56,7 @@ mutual
 
   -- conj = neg {AND neg}
   pub data IsConj (T : Spelling Condition) : List Token → List Token → Condition → Type 0 where
-    conj : {from mid to : List Token} {x : Condition} {xs : List Condition} → IsNeg T from mid x → IsAnds T mid to xs → IsConj T from to (all_of (x ∷ xs))
+    conj : {from mid to : List Token} {x : Condition} {xs : List Condition} → IsNeg T from mid x → IsAnds T mid to xs → IsConj T from to (and_chain (x ∷ xs))
 
   pub data IsAnds (T : Spelling Condition) : List Token → List Token → List Condition → Type 0 where
     no_and : {to : List Token} → IsAnds T to to []

@@ -9,17 +9,15 @@ use Rattle.ssb_sql.specs.declared.expr.Adding.TheVariants as a
 use Rattle.ssb_sql.specs.declared.expr.Step.{Step}
 use Rattle.ssb_sql.specs.declared.expr.Expr.{Expr}
 use Rattle.ssb_sql.specs.declared.expr.Expr.TheVariants as e
-use Rattle.ssb_sql.specs.Forms.{IsColumn}
+use Rattle.ssb_sql.specs.Forms.{IsColumn, chain_of}
 
 -- a chain of one thing is that thing
 unfoldable pub sum_of : Expr → List Step → Expr
 sum_of x [] = x
 sum_of x (y ∷ ys) = e.Chain x (y ∷ ys)
 
-unfoldable pub times_of : List Expr → Expr
-times_of [] = e.Times []
-times_of (x ∷ []) = x
-times_of (x ∷ y ∷ ys) = e.Times (x ∷ y ∷ ys)
+abbrev pub times_of : List Expr → Expr
+times_of = chain_of e.Times
 
 mutual
   -- expr = term {("+" | "-") term}

@@ -43,3 +43,9 @@ pub data IsLiteral : List Token → List Token → Literal → Type 0 where
 pub data IsOperand : List Token → List Token → Operand → Type 0 where
   column : {from to : List Token} {x : ColumnName} → IsColumn from to x → IsOperand from to (o.Column x)
   literal : {from to : List Token} {x : Literal} → IsLiteral from to x → IsOperand from to (o.Literal x)
+
+-- a chain of one thing is that thing
+unfoldable pub chain_of : {A : Type 0} → (List A → A) → List A → A
+chain_of make [] = make []
+chain_of make (x ∷ []) = x
+chain_of make (x ∷ y ∷ ys) = make (x ∷ y ∷ ys)

@@ -1,6 +1,6 @@
 -- Which tokens spell which query.
 -- Source: SQL-92, 7.9 <query specification>, 6.5 <set function specification>, 7.4 to 7.7 and 13.1 <order by clause>, cut down.
-use Rattle.std.specs.Prelude.{ℕ, zero, suc, true, false, List, [], ◌∷◌, Option, Some, None}
+use Rattle.std.specs.Prelude.{ℕ, true, false, List, [], ◌∷◌, Option, Some, None}
 use Rattle.ssb_sql.specs.declared.token.Token.{Token}
 use Rattle.ssb_sql.specs.declared.token.Token.TheVariants.{Fixed, Name, Number}
 use Rattle.ssb_sql.specs.declared.token.Sign.TheVariants as s
@@ -66,15 +66,3 @@ pub data Parses : List Token → Select → Type 0 where
   query : {a b c d e f : List Token} {items : List Item} {from : List (List ℕ)} {condition : Option Condition} {groups : List ColumnName} {orders : List Order}
       → IsList IsItem a (Fixed s.From ∷ b) items → IsList IsNamed b c from → IsWhere c d condition → IsGroups d e groups → IsOrders e f orders → IsEnd f
       → Parses (Fixed s.Select ∷ a) (record { items = items; from = from; condition = condition; groups = groups; orders = orders })
-
--- one less
-abbrev pub IsBelow : ℕ → (ℕ → Type 0) → Type 0
-IsBelow zero P = ⊥
-IsBelow (suc n) P = P n
-
--- each front has at most n more `(` than `)`
-abbrev pub IsWithin : ℕ → List Token → Type 0
-IsWithin n [] = Unit {0}
-IsWithin n (Fixed s.Open ∷ ts) = IsBelow n (λ m. IsWithin m ts)
-IsWithin n (Fixed s.Close ∷ ts) = IsWithin (suc n) ts
-IsWithin n (_ ∷ ts) = IsWithin n ts

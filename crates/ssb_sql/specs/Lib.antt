@@ -1,5 +1,6 @@
 pub mod Class
 pub mod Conditions
+pub mod Depth
 pub mod Exact
 pub mod Expressions
 pub mod Forms

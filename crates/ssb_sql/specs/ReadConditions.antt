@@ -12,7 +12,7 @@ use Rattle.ssb_sql.specs.declared.condition.Condition.{Condition}
 use Rattle.ssb_sql.specs.declared.condition.Condition.TheVariants as c
 use Rattle.ssb_sql.specs.Steps.{Parser, ◌>>=◌, choose, after, chained_at, list_at, closed_at, parens_at}
 use Rattle.ssb_sql.specs.ReadParts.{literal_at, operand_at}
-use Rattle.ssb_sql.specs.Conditions.{any_of, all_of}
+use Rattle.ssb_sql.specs.Conditions.{or_chain, and_chain}
 
 -- an operator, and what follows
 unfoldable pub op_at : List Token → Option (Op × List Token)
@@ -76,10 +76,10 @@ unfoldable pub neg_at : Parser Condition → Parser Condition
 neg_at inner ts = choose (after s.Not ts) (λ rest. test_at inner rest >>= λ x. Some (c.Not x.0, x.1)) (test_at inner ts)
 
 unfoldable pub conj_at : Parser Condition → Parser Condition
-conj_at inner ts = chained_at s.And (neg_at inner) ts >>= λ xs. Some (all_of xs.0, xs.1)
+conj_at inner ts = chained_at s.And (neg_at inner) ts >>= λ xs. Some (and_chain xs.0, xs.1)
 
 abbrev pub disj_at : Parser Condition → Parser Condition
-disj_at inner ts = chained_at s.Or (conj_at inner) ts >>= λ xs. Some (any_of xs.0, xs.1)
+disj_at inner ts = chained_at s.Or (conj_at inner) ts >>= λ xs. Some (or_chain xs.0, xs.1)
 
 -- a condition with fewer than this many open parentheses
 unfoldable pub cond_at : ℕ → Parser Condition

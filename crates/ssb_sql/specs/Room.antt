@@ -1,7 +1,8 @@
 -- How many more `(` there may be.
 -- For the contracts inside this crate.
-use Rattle.std.specs.Prelude.{ℕ, zero, suc, ◌+◌, Option, Some, None, if◌then◌else◌}
+use Rattle.std.specs.Prelude.{ℕ, zero, suc, ◌+◌, List, [], ◌∷◌, Option, Some, None, if◌then◌else◌}
 use Rattle.ssb_sql.specs.declared.token.Token.{Token}
+use Rattle.ssb_sql.specs.declared.token.Token.TheVariants.{Fixed}
 use Rattle.ssb_sql.specs.declared.token.Sign.TheVariants as s
 use Rattle.ssb_sql.specs.Steps.{is_fixed}
 
@@ -12,3 +13,15 @@ one_less (suc n) = Some n
 -- after one token
 unfoldable pub room_after : ℕ → Token → Option ℕ
 room_after n t = if is_fixed s.Open t then one_less n else Some (if is_fixed s.Close t then n + 1 else n)
+
+-- there is one less, and it is enough
+abbrev pub IsBelow : ℕ → (ℕ → Type 0) → Type 0
+IsBelow zero P = ⊥
+IsBelow (suc n) P = P n
+
+-- n more are enough, token by token
+abbrev pub HasRoom : ℕ → List Token → Type 0
+HasRoom n [] = Unit {0}
+HasRoom n (Fixed s.Open ∷ ts) = IsBelow n (λ m. HasRoom m ts)
+HasRoom n (Fixed s.Close ∷ ts) = HasRoom (suc n) ts
+HasRoom n (_ ∷ ts) = HasRoom n ts

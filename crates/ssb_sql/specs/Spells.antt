@@ -5,7 +5,8 @@ use Rattle.ssb_sql.specs.declared.fault.SqlFault.{SqlFault}
 use Rattle.ssb_sql.specs.declared.fault.SqlFault.TheVariants as fault
 use Rattle.ssb_sql.specs.declared.select.Select.{Select}
 use Rattle.ssb_sql.specs.declared.token.Token.{Token}
-use Rattle.ssb_sql.specs.Grammar.{Parses, IsWithin}
+use Rattle.ssb_sql.specs.Depth.{IsWithin}
+use Rattle.ssb_sql.specs.Grammar.{Parses}
 use Rattle.ssb_sql.specs.Tokens.{IsTokens}
 
 -- the text is a list of tokens, and those are the query

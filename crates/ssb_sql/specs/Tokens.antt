@@ -126,9 +126,9 @@ IsLongest _ rest = Unit {0}
 -- ---- numbers and texts
 
 -- one digit or more: SQL-92, 5.3 <unsigned integer>
-abbrev pub is_number : List ℕ → Bool
-is_number [] = false
-is_number (d ∷ ds) = is_ascii_digit d && list_all is_ascii_digit ds
+abbrev pub is_numeral : List ℕ → Bool
+is_numeral [] = false
+is_numeral (d ∷ ds) = is_ascii_digit d && list_all is_ascii_digit ds
 
 -- the value of n and then these digits
 abbrev pub value_from : ℕ → List ℕ → ℕ
@@ -160,7 +160,7 @@ pub data IsTokens : List ℕ → List Token → Type 0 where
   name : (word rest : List ℕ) {ts : List Token} → is_name word ≡ true → Stops is_word_byte rest → IsTokens rest ts
       → IsTokens (word ++ rest) (Name (str_to_ascii_lowercase word) ∷ ts)
   -- digits, as many as there are, with no letter and no `_` behind them
-  number : (digits rest : List ℕ) {ts : List Token} → is_number digits ≡ true → Stops is_word_byte rest → value_of digits ≤ 9223372036854775807 → IsTokens rest ts
+  number : (digits rest : List ℕ) {ts : List Token} → is_numeral digits ≡ true → Stops is_word_byte rest → value_of digits ≤ 9223372036854775807 → IsTokens rest ts
       → IsTokens (digits ++ rest) (Number (value_of digits) ∷ ts)
   -- a quote, the text with each quote doubled, and a quote with none behind it
   text : (t rest : List ℕ) {ts : List Token} → Stops is_quote rest → IsTokens rest ts → IsTokens (39 ∷ (doubled t ++ 39 ∷ rest)) (Text t ∷ ts)

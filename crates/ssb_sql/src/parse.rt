@@ -3,9 +3,9 @@
 ghost use Rattle.std.specs.Prelude.{◌≡◌, ◌+◌, ◌<◌, ◌↔◌, ◌^◌, List, length, IsTrue};
 ghost use Rattle.ssb_sql.specs.declared.token.Token.{Token};
 ghost use Rattle.ssb_sql.specs.declared.select.Select.{Select};
-ghost use Rattle.ssb_sql.specs.Grammar.{IsWithin, Parses};
+ghost use Rattle.ssb_sql.specs.Grammar.{Parses};
 ghost use Rattle.ssb_sql.specs.Exact.{Reads};
-ghost use Rattle.ssb_sql.specs.Room.{room_after};
+ghost use Rattle.ssb_sql.specs.Room.{HasRoom, room_after};
 
 use crate::fault::SqlFault;
 use crate::read_select::{ends, query};
@@ -33,7 +33,7 @@ fn room_after(room: u128, token: &Token) -> Option<u128>
 
 // Whether each front has at most so many more `(` than `)`.
 fn is_within(tokens: &[Token], most: usize) -> bool
-    ensures { IsTrue result ↔ IsWithin most tokens.now }
+    ensures { IsTrue result ↔ HasRoom most tokens.now }
 {
     let mut room = most as u128;
     for token in tokens {

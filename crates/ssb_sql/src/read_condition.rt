@@ -1,7 +1,7 @@
 // Reading conditions. Only parentheses nest.
 
 ghost use Rattle.std.specs.Prelude.{◌≡◌, [], ◌∷◌};
-ghost use Rattle.ssb_sql.specs.Conditions.{any_of, all_of};
+ghost use Rattle.ssb_sql.specs.Conditions.{or_chain, and_chain};
 ghost use Rattle.ssb_sql.specs.Steps.{Gives, seen, after, chained_at, closed_at};
 ghost use Rattle.ssb_sql.specs.ReadConditions.{neg_at, conj_at, cond_at, test_at};
 ghost use Rattle.ssb_sql.specs.declared.token.Sign.TheVariants as s;
@@ -14,9 +14,9 @@ use crate::token::{Sign, Token};
 use sqlite_items::{Boxed, Items};
 use std::alloc::Global;
 
-#[tactic(auto, using(crate::proofs::Chains::any_one, crate::proofs::Chains::any_many))]
-fn any_of(mut all: Items<Condition>) -> Condition
-    ensures { result ≡ any_of all }
+#[tactic(auto, using(crate::proofs::Chains::one, crate::proofs::Chains::many))]
+fn or_chain(mut all: Items<Condition>) -> Condition
+    ensures { result ≡ or_chain all }
 {
     if all.len() == 1 {
         all.remove(0)
@@ -25,9 +25,9 @@ fn any_of(mut all: Items<Condition>) -> Condition
     }
 }
 
-#[tactic(auto, using(crate::proofs::Chains::all_one, crate::proofs::Chains::all_many))]
-fn all_of(mut all: Items<Condition>) -> Condition
-    ensures { result ≡ all_of all }
+#[tactic(auto, using(crate::proofs::Chains::one, crate::proofs::Chains::many))]
+fn and_chain(mut all: Items<Condition>) -> Condition
+    ensures { result ≡ and_chain all }
 {
     if all.len() == 1 {
         all.remove(0)
@@ -95,7 +95,7 @@ fn conjunction(alloc: Global, depth: usize, tokens: &[Token]) -> Result<(Conditi
     ensures { Gives seen result (conj_at (cond_at depth) tokens.now) }
 {
     let (all, rest) = negations(alloc, depth, tokens)?;
-    Ok((all_of(all), rest))
+    Ok((and_chain(all), rest))
 }
 
 #[cycle(condition)]
@@ -130,5 +130,5 @@ pub(crate) fn condition(
         return Err(Stop::Syntax);
     }
     let (all, rest) = conjunctions(alloc, depth - 1, tokens)?;
-    Ok((any_of(all), rest))
+    Ok((or_chain(all), rest))
 }

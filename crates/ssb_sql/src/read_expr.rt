@@ -25,7 +25,7 @@ fn sum_of(alloc: Global, first: Expr, steps: Items<Step>) -> Result<Expr, AllocE
     }
 }
 
-#[tactic(auto, using(crate::proofs::Chains::times_one, crate::proofs::Chains::times_many))]
+#[tactic(auto, using(crate::proofs::Chains::one, crate::proofs::Chains::many))]
 fn times_of(mut all: Items<Expr>) -> Expr
     ensures { result ≡ times_of all }
 {

@@ -1,5 +1,5 @@
 -- What is read as a condition is one.
-use Rattle.std.proofs.Common.{◌≡◌, ℕ, zero, suc, ◌<◌, ◌≤◌, List, ◌∷◌, length, Some, subst, arith, inl, inr}
+use Rattle.std.proofs.Common.{◌≡◌, ℕ, zero, suc, ◌<◌, ◌≤◌, List, ◌∷◌, length, Some, arith, inl, inr}
 use Rattle.ssb_sql.specs.declared.token.Token.{Token}
 use Rattle.ssb_sql.specs.declared.token.Sign.TheVariants as s
 use Rattle.ssb_sql.specs.declared.condition.Condition.{Condition}
@@ -12,10 +12,10 @@ use Rattle.ssb_sql.specs.Conditions.IsAnds.{no_and, and}
 use Rattle.ssb_sql.specs.Conditions.IsNeg.{plain, not}
 use Rattle.ssb_sql.specs.Conditions.IsTest.{parens, bare}
 use Rattle.ssb_sql.specs.Room.{HasRoom}
-use Rattle.ssb_sql.specs.Steps.{Parser, after, chained_at, Shrinks}
+use Rattle.ssb_sql.specs.Steps.{Parser, after, Shrinks}
 use Rattle.ssb_sql.specs.ReadConditions.{test_at, neg_at, conj_at, disj_at, cond_at}
 use Rattle.ssb_sql.proofs.StepFacts.{bind_some, choose_some}
-use Rattle.ssb_sql.proofs.Shapes.{Sound, Tame, IsChain, spells, begins, sound_closed, sound_chained, shrinks}
+use Rattle.ssb_sql.proofs.Shapes.{Sound, Tame, IsChain, spells, begins, sound_closed, made_sound, shrinks}
 use Rattle.ssb_sql.proofs.TestSound.{IsTested, sound_bare, tame_bare}
 
 mutual
@@ -104,10 +104,7 @@ module _ (inner : Parser Condition) (h : Sound inner (IsCond IsTested)) where
 
   conj_sound : (ts : List Token) (x : Condition × List Token) → conj_at inner ts ≡ Some x → IsConj IsTested ts x.1 x.0
   unfolding conj_at
-  conj_sound ts x e =
-      let g = bind_some (chained_at s.And (neg_at inner) ts) _ x e in
-      let m = sound_chained s.And (neg_at inner) (IsNeg IsTested) (IsAnds IsTested) sound_neg ands ts g.0 g.1 in
-      spells (IsConj IsTested) ts g.0.1 (and_chain g.0.0) x (subst (λ xs. IsConj IsTested ts g.0.1 (and_chain xs)) m.all (conj m.one m.more)) g.2
+  conj_sound ts x e = made_sound s.And (neg_at inner) (IsNeg IsTested) (IsAnds IsTested) (IsConj IsTested) and_chain sound_neg ands (λ from mid to y ys a b. conj a b) ts x e
 
   pub sound_conj : Sound (conj_at inner) (IsConj IsTested)
   sound_conj = record { by = conj_sound }
@@ -119,10 +116,7 @@ module _ (inner : Parser Condition) (h : Sound inner (IsCond IsTested)) where
   }
 
   disj_sound : (ts : List Token) (x : Condition × List Token) → disj_at inner ts ≡ Some x → IsCond IsTested ts x.1 x.0
-  disj_sound ts x e =
-      let g = bind_some (chained_at s.Or (conj_at inner) ts) _ x e in
-      let m = sound_chained s.Or (conj_at inner) (IsConj IsTested) (IsOrs IsTested) sound_conj ors ts g.0 g.1 in
-      spells (IsCond IsTested) ts g.0.1 (or_chain g.0.0) x (subst (λ xs. IsCond IsTested ts g.0.1 (or_chain xs)) m.all (cond m.one m.more)) g.2
+  disj_sound ts x e = made_sound s.Or (conj_at inner) (IsConj IsTested) (IsOrs IsTested) (IsCond IsTested) or_chain sound_conj ors (λ from mid to y ys a b. cond a b) ts x e
 
 pub sound_cond : (d : ℕ) → Sound (cond_at d) (IsCond IsTested)
 unfolding cond_at

@@ -16,11 +16,11 @@ use Rattle.ssb_sql.specs.Expressions.IsFactors.{no_factor, times}
 use Rattle.ssb_sql.specs.Expressions.IsFactor.{plain, positive, negative}
 use Rattle.ssb_sql.specs.Expressions.IsPrimary.{column, number, parens}
 use Rattle.ssb_sql.specs.Room.{HasRoom}
-use Rattle.ssb_sql.specs.Steps.{Parser, after, number_at, is_name_next, more_at, chained_at, Shrinks}
+use Rattle.ssb_sql.specs.Steps.{Parser, after, number_at, is_name_next, more_at, Shrinks}
 use Rattle.ssb_sql.specs.ReadParts.{column_at}
 use Rattle.ssb_sql.specs.ReadExpressions.{bare_primary_at, primary_at, factor_at, term_at, adding_at, step_at, sum_at, expr_at}
 use Rattle.ssb_sql.proofs.StepFacts.{some_is, bind_some, choose_some, if_some, after_shorter}
-use Rattle.ssb_sql.proofs.Shapes.{Sound, Tame, IsChain, spells, starts, begins, sound_closed, sound_chained, sound_more, shrinks}
+use Rattle.ssb_sql.proofs.Shapes.{Sound, Tame, IsChain, spells, starts, begins, sound_closed, made_sound, sound_more, shrinks}
 use Rattle.ssb_sql.proofs.PartFacts.{number_is, sound_column, tame_column}
 
 mutual
@@ -164,10 +164,7 @@ module _ (inner : Parser Expr) (h : Sound inner IsExpr) where
 
   term_sound : (ts : List Token) (x : Expr × List Token) → term_at inner ts ≡ Some x → IsTerm ts x.1 x.0
   unfolding term_at
-  term_sound ts x q =
-      let g = bind_some (chained_at s.Times (factor_at inner) ts) _ x q in
-      let m = sound_chained s.Times (factor_at inner) IsFactor IsFactors sound_factor factors ts g.0 g.1 in
-      spells IsTerm ts g.0.1 (times_of g.0.0) x (subst (λ xs. IsTerm ts g.0.1 (times_of xs)) m.all (term m.one m.more)) g.2
+  term_sound ts x q = made_sound s.Times (factor_at inner) IsFactor IsFactors IsTerm times_of sound_factor factors (λ from mid to y ys a b. term a b) ts x q
 
   step_sound : (l : Adding × List Token) (x : Step × List Token) → step_at inner l ≡ Some x → (y : Expr) × IsTerm l.1 x.1 y × (record { adding = l.0; term = y } ≡ x.0)
   unfolding step_at

@@ -5,7 +5,8 @@ use Rattle.ssb_sql.specs.declared.token.Sign.{Sign}
 use Rattle.ssb_sql.specs.declared.token.Token.{Token}
 use Rattle.ssb_sql.specs.declared.steps.Stop.{Stop}
 use Rattle.ssb_sql.specs.declared.steps.Stop.TheVariants as stop
-use Rattle.ssb_sql.specs.Steps.{◌>>=◌, Fails, Parser, after, turn_at, chain_at, with_front, more_at, chained_at, Shrinks}
+use Rattle.ssb_sql.specs.Reading.{◌>>=◌}
+use Rattle.ssb_sql.specs.Steps.{Fails, Parser, after, turn_at, chain_at, with_front, more_at, chained_at, Shrinks}
 
 -- one thing in front
 abbrev put : {A : Type 0} → A → Option (List A × List Token) → Option (List A × List Token)

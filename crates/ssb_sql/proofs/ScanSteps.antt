@@ -5,7 +5,8 @@ use Rattle.std.specs.Char.{is_ascii_digit}
 use Rattle.std.proofs.lemmas.Bool.{cases_lt}
 use Rattle.std.proofs.lemmas.List.{append-nil, take_at}
 use Rattle.ssb_sql.specs.Tokens.{begins, goes_on, is_blank, is_dash, is_quote, value_from}
-use Rattle.ssb_sql.specs.Scanning.{◌>>=◌, closing_at, first, first_if, past, piece_at, put, run, skip, skip_step, text_at}
+use Rattle.ssb_sql.specs.Reading.{◌>>=◌}
+use Rattle.ssb_sql.specs.Scanning.{closing_at, first, first_if, past, piece_at, put, run, skip, skip_step, text_at}
 
 abbrev some_of : {A : Type 0} → A → Option A
 some_of x = Some x

@@ -8,7 +8,8 @@ use Rattle.ssb_sql.specs.Forms.{Spelling, IsMore, IsList}
 use Rattle.ssb_sql.specs.Forms.IsMore.{no_more, comma}
 use Rattle.ssb_sql.specs.Forms.IsList.{list}
 use Rattle.ssb_sql.specs.Room.{HasRoom}
-use Rattle.ssb_sql.specs.Steps.{◌>>=◌, Parser, after, turn_at, chain_at, with_front, more_at, chained_at, list_at, closed_at, Shrinks}
+use Rattle.ssb_sql.specs.Reading.{◌>>=◌}
+use Rattle.ssb_sql.specs.Steps.{Parser, after, turn_at, chain_at, with_front, more_at, chained_at, list_at, closed_at, Shrinks}
 use Rattle.ssb_sql.proofs.StepFacts.{some_is, bind_some, after_is, after_shorter, Stops, sees}
 
 -- what p reads is in R
@@ -102,6 +103,15 @@ sound_chained sign p R S h chain ts xs e =
     let f = bind_some (p ts) (λ x. more_at (after sign) p (x.0 ∷ []) x.1) xs e in
     let g = sound_more (after sign) p S chain (f.0.0 ∷ []) f.0.1 xs f.2 in
     record { first = f.0.0; others = g.0; mid = f.0.1; one = h.by ts f.0 f.1; more = g.1; all = g.2 }
+
+-- what is made of a chain
+pub made_sound : {A : Type 0} (sign : Sign) (p : Parser A) (R : Spelling A) (S : Spelling (List A)) (Q : Spelling A) (make : List A → A) → Sound p R → IsChain (after sign) p S
+    → ((from mid to : List Token) (x : A) (xs : List A) → R from mid x → S mid to xs → Q from to (make (x ∷ xs)))
+    → (ts : List Token) (y : A × List Token) → (chained_at sign p ts >>= λ xs. Some (make xs.0, xs.1)) ≡ Some y → Q ts y.1 y.0
+made_sound sign p R S Q make h chain build ts y e =
+    let g = bind_some (chained_at sign p ts) (λ xs. Some (make xs.0, xs.1)) y e in
+    let m = sound_chained sign p R S h chain ts g.0 g.1 in
+    spells Q ts g.0.1 (make g.0.0) y (subst (λ xs. Q ts g.0.1 (make xs)) m.all (build ts m.mid g.0.1 m.first m.others m.one m.more)) g.2
 
 module _ {A : Type 0} (p : Parser A) (R : Spelling A) (h : Sound p R) where
   commas : IsChain (after s.Comma) p (IsMore R)

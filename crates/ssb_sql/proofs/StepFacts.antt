@@ -1,12 +1,13 @@
 -- What reading steps say.
 use Rattle.std.proofs.Common.{◌≡◌, ℕ, suc, ◌<◌, Bool, true, false, cond, List, [], ◌∷◌, length, get_or, Option, Some, None, refl, sym, ap, ◌∙◌, arith, ◌⊎◌, inl, inr}
 use Rattle.std.specs.Prelude.{◌==◌}
-use Rattle.std.proofs.lemmas.Bool.{eqb-true}
+use Rattle.std.proofs.lemmas.Bool.{eq-eqb, eqb-true}
 use Rattle.ssb_sql.specs.declared.token.Token.{Token}
 use Rattle.ssb_sql.specs.declared.token.Token.TheVariants.{Fixed, Name, Number, Text}
 use Rattle.ssb_sql.specs.declared.token.Sign.{Sign}
 use Rattle.ssb_sql.specs.declared.token.Sign.TheVariants as s
-use Rattle.ssb_sql.specs.Steps.{◌>>=◌, choose, code, is_sign, is_fixed, after}
+use Rattle.ssb_sql.specs.Reading.{◌>>=◌}
+use Rattle.ssb_sql.specs.Steps.{choose, code, is_sign, is_fixed, after}
 
 pub some_is : {A : Type 0} (x y : A) → Some x ≡ Some y → x ≡ y
 some_is x y e = cc
@@ -100,41 +101,7 @@ after_shorter sign ts rest e = let n : length ts ≡ suc (length rest) = ap leng
 
 same_is : (sign : Sign) → is_sign sign sign ≡ true
 unfolding is_sign
-same_is s.Select = refl
-same_is s.From = refl
-same_is s.Where = refl
-same_is s.Group = refl
-same_is s.By = refl
-same_is s.Order = refl
-same_is s.And = refl
-same_is s.Or = refl
-same_is s.Not = refl
-same_is s.Between = refl
-same_is s.In = refl
-same_is s.Is = refl
-same_is s.Null = refl
-same_is s.As = refl
-same_is s.Asc = refl
-same_is s.Desc = refl
-same_is s.Sum = refl
-same_is s.Count = refl
-same_is s.Min = refl
-same_is s.Max = refl
-same_is s.Having = refl
-same_is s.Open = refl
-same_is s.Close = refl
-same_is s.Comma = refl
-same_is s.Dot = refl
-same_is s.Semicolon = refl
-same_is s.Plus = refl
-same_is s.Minus = refl
-same_is s.Times = refl
-same_is s.Equal = refl
-same_is s.NotEqual = refl
-same_is s.Less = refl
-same_is s.LessEqual = refl
-same_is s.Greater = refl
-same_is s.GreaterEqual = refl
+same_is sign = eq-eqb (code sign) (code sign) refl
 
 pub sees : (sign : Sign) (ts : List Token) → after sign (Fixed sign ∷ ts) ≡ Some ts
 unfolding after is_fixed

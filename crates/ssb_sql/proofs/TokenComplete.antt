@@ -15,7 +15,8 @@ use Rattle.ssb_sql.specs.declared.token.Token.TheVariants.{Fixed, Name, Number, 
 use Rattle.ssb_sql.specs.Class.{class_of}
 use Rattle.ssb_sql.specs.Tokens.{Each, IsLongest, IsTokens, Stops, begins, doubled, follows_less, goes_on, is_blank, is_dash, is_equal, is_mark, is_numeral, is_quote, sign_of, spelling, value_of}
 use Rattle.ssb_sql.specs.Tokens.IsTokens.{end_of_text, blank, comment, reserved, name, number, text, mark}
-use Rattle.ssb_sql.specs.Scanning.{◌>>=◌, greater_at, less_at, lex, lex_turn, number_at, number_of, past, put, run, skip, text_at, text_of, text_token_at, token_at, token_by, token_by_sign, token_of, word_at}
+use Rattle.ssb_sql.specs.Reading.{◌>>=◌}
+use Rattle.ssb_sql.specs.Scanning.{greater_at, less_at, lex, lex_turn, number_at, number_of, past, put, run, skip, text_at, text_of, text_token_at, token_at, token_by, token_by_sign, token_of, word_at}
 use Rattle.ssb_sql.proofs.ReservedWords.{name_has_no_sign}
 use Rattle.ssb_sql.proofs.TokenFront.{number_is}
 use Rattle.ssb_sql.proofs.TokenSound.{TokenAndRest, letter_in_word, line_end_blank}

@@ -11,7 +11,8 @@ use Rattle.ssb_sql.specs.declared.token.Token.{Token}
 use Rattle.ssb_sql.specs.declared.token.Token.TheVariants.{Fixed, Name, Number, Text}
 use Rattle.ssb_sql.specs.Tokens.{IsTokens, begins, doubled, goes_on, is_blank, is_dash, value_of}
 use Rattle.ssb_sql.specs.Tokens.IsTokens.{end_of_text, blank, comment, reserved, name, number, text, mark}
-use Rattle.ssb_sql.specs.Scanning.{◌>>=◌, CutsAtQuotes, Fails, lex, lex_turn, skip, token_at}
+use Rattle.ssb_sql.specs.Reading.{◌>>=◌}
+use Rattle.ssb_sql.specs.Scanning.{CutsAtQuotes, Fails, lex, lex_turn, skip, token_at}
 use Rattle.ssb_sql.specs.Lexes.{HasNoTokens}
 use Rattle.ssb_sql.proofs.TextUtf8.{cuts}
 use Rattle.ssb_sql.proofs.TokenComplete.{lexes, mark_spelled, mark_stays, number_stays, skip_blank, skip_comment, skip_stays, word_stays}

@@ -10,6 +10,7 @@ pub mod ReadConditions
 pub mod ReadExpressions
 pub mod ReadParts
 pub mod ReadSelects
+pub mod Reading
 pub mod Room
 pub mod Scanning
 pub mod Spells

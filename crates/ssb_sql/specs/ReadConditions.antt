@@ -10,7 +10,8 @@ use Rattle.ssb_sql.specs.declared.condition.Operand.{Operand}
 use Rattle.ssb_sql.specs.declared.condition.Operand.TheVariants as o
 use Rattle.ssb_sql.specs.declared.condition.Condition.{Condition}
 use Rattle.ssb_sql.specs.declared.condition.Condition.TheVariants as c
-use Rattle.ssb_sql.specs.Steps.{Parser, ◌>>=◌, choose, after, chained_at, list_at, closed_at, parens_at}
+use Rattle.ssb_sql.specs.Reading.{◌>>=◌}
+use Rattle.ssb_sql.specs.Steps.{Parser, choose, after, chained_at, list_at, closed_at, parens_at}
 use Rattle.ssb_sql.specs.ReadParts.{literal_at, operand_at}
 use Rattle.ssb_sql.specs.Conditions.{or_chain, and_chain}
 

@@ -8,7 +8,8 @@ use Rattle.ssb_sql.specs.declared.expr.Adding.TheVariants as a
 use Rattle.ssb_sql.specs.declared.expr.Step.{Step}
 use Rattle.ssb_sql.specs.declared.expr.Expr.{Expr}
 use Rattle.ssb_sql.specs.declared.expr.Expr.TheVariants as e
-use Rattle.ssb_sql.specs.Steps.{Parser, ◌>>=◌, choose, after, number_at, is_name_next, more_at, chained_at, closed_at}
+use Rattle.ssb_sql.specs.Reading.{◌>>=◌}
+use Rattle.ssb_sql.specs.Steps.{Parser, choose, after, number_at, is_name_next, more_at, chained_at, closed_at}
 use Rattle.ssb_sql.specs.ReadParts.{column_at}
 use Rattle.ssb_sql.specs.Expressions.{sum_of, times_of}
 

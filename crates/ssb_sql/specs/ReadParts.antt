@@ -7,7 +7,8 @@ use Rattle.ssb_sql.specs.declared.condition.Literal.{Literal}
 use Rattle.ssb_sql.specs.declared.condition.Literal.TheVariants as l
 use Rattle.ssb_sql.specs.declared.condition.Operand.{Operand}
 use Rattle.ssb_sql.specs.declared.condition.Operand.TheVariants as o
-use Rattle.ssb_sql.specs.Steps.{Parser, ◌>>=◌, choose, after, name_at, number_at, text_at, is_name_next, is_text_next}
+use Rattle.ssb_sql.specs.Reading.{◌>>=◌}
+use Rattle.ssb_sql.specs.Steps.{Parser, choose, after, name_at, number_at, text_at, is_name_next, is_text_next}
 
 abbrev pub column_of : Option (List ℕ) → List ℕ → ColumnName
 column_of t n = record { table = t; column = n }

@@ -12,7 +12,8 @@ use Rattle.ssb_sql.specs.declared.select.Key.{Key}
 use Rattle.ssb_sql.specs.declared.select.Key.TheVariants as k
 use Rattle.ssb_sql.specs.declared.select.Order.{Order}
 use Rattle.ssb_sql.specs.declared.select.Select.{Select}
-use Rattle.ssb_sql.specs.Steps.{Parser, ◌>>=◌, choose, after, name_at, number_at, is_name_next, list_at, closed_at, parens_at}
+use Rattle.ssb_sql.specs.Reading.{◌>>=◌}
+use Rattle.ssb_sql.specs.Steps.{Parser, choose, after, name_at, number_at, is_name_next, list_at, closed_at, parens_at}
 use Rattle.ssb_sql.specs.ReadParts.{column_at}
 use Rattle.ssb_sql.specs.ReadExpressions.{expr_at}
 use Rattle.ssb_sql.specs.ReadConditions.{cond_at}

@@ -1,10 +1,10 @@
 -- Reading tokens from left to right, as the code does.
 -- For the contracts inside this crate.
 use Rattle.std.specs.Prelude.{◌≡◌, ℕ, zero, suc, Bool, true, false, ◌&&◌, ◌==◌, if◌then◌else◌, nat_le, List, [], ◌∷◌, ◌++◌, Option, Some, None, Result, Ok, Err}
-use Rattle.std.specs.Borrow.{Bor}
 use Rattle.std.specs.Char.{is_ascii_digit}
 use Rattle.std.specs.Str.{IsUtf8, str_to_ascii_lowercase}
 use Rattle.ssb_cells.specs.Names.{is_word_byte}
+use Rattle.ssb_sql.specs.Reading.{◌>>=◌}
 use Rattle.ssb_sql.specs.declared.class.Class.{Class}
 use Rattle.ssb_sql.specs.declared.class.Class.TheVariants as k
 use Rattle.ssb_sql.specs.declared.fault.SqlFault.{SqlFault}
@@ -15,11 +15,6 @@ use Rattle.ssb_sql.specs.declared.token.Token.{Token}
 use Rattle.ssb_sql.specs.declared.token.Token.TheVariants.{Fixed, Name, Number, Text}
 use Rattle.ssb_sql.specs.Class.{class_of}
 use Rattle.ssb_sql.specs.Tokens.{begins, goes_on, is_blank, is_dash, is_quote, sign_of, value_of}
-
-infixl 10 ◌>>=◌
-abbrev pub ◌>>=◌ : {A B : Type 0} → Option A → (A → Option B) → Option B
-None >>= f = None
-(Some x) >>= f = f x
 
 -- the bytes in front that are such bytes, and what follows them
 unfoldable pub run : (ℕ → Bool) → List ℕ → List ℕ
@@ -135,13 +130,6 @@ Fails _ read = ⊥
 abbrev pub Gives : {X Y : Type 0} → (X → Y) → Result X SqlFault → Option Y → Type 0
 Gives view (Ok x) read = read ≡ Some (view x)
 Gives view (Err e) read = Fails e read
-
-abbrev pub seen : {A : Type 0} → A × Bor (List ℕ) → A × List ℕ
-seen x = (x.0, x.1.now)
-
-abbrev pub seen_if : {A : Type 0} → Option (A × Bor (List ℕ)) → Option (A × List ℕ)
-seen_if None = None
-seen_if (Some x) = Some (seen x)
 
 abbrev pub first : List ℕ → Option (ℕ × List ℕ)
 first [] = None

@@ -2,6 +2,7 @@
 -- For the contracts inside this crate.
 use Rattle.std.specs.Prelude.{◌≡◌, ℕ, zero, suc, Bool, true, false, if◌then◌else◌, ◌==◌, List, [], ◌∷◌, ◌++◌, length, ◌<◌, Option, Some, None, Result, Ok, Err}
 use Rattle.std.specs.Borrow.{Bor}
+use Rattle.ssb_sql.specs.Reading.{◌>>=◌, seen}
 use Rattle.ssb_sql.specs.declared.token.Token.{Token}
 use Rattle.ssb_sql.specs.declared.token.Token.TheVariants.{Fixed, Name, Number, Text}
 use Rattle.ssb_sql.specs.declared.token.Sign.{Sign}
@@ -12,11 +13,6 @@ use Rattle.ssb_sql.specs.declared.steps.Stop.TheVariants as stop
 -- what was read, and what follows it
 abbrev pub Parser : Type 0 → Type 0
 Parser A = List Token → Option (A × List Token)
-
-infixl 10 ◌>>=◌
-abbrev pub ◌>>=◌ : {A B : Type 0} → Option A → (A → Option B) → Option B
-None >>= f = None
-(Some x) >>= f = f x
 
 -- f where there is something, else g
 abbrev pub choose : {A B : Type 0} → Option A → (A → B) → B → B
@@ -31,13 +27,6 @@ Fails stop.Syntax read = read ≡ None
 abbrev pub Gives : {X Y : Type 0} → (X → Y) → Result X Stop → Option Y → Type 0
 Gives view (Ok x) read = read ≡ Some (view x)
 Gives view (Err e) read = Fails e read
-
-abbrev pub seen : {A : Type 0} → A × Bor (List Token) → A × List Token
-seen x = (x.0, x.1.now)
-
-abbrev pub seen_if : {A : Type 0} → Option (A × Bor (List Token)) → Option (A × List Token)
-seen_if None = None
-seen_if (Some x) = Some (seen x)
 
 abbrev pub code : Sign → ℕ
 code s.Select = 0

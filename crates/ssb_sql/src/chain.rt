@@ -1,7 +1,8 @@
 // Reading chains: lists with commas, conditions with AND and OR, products.
 
 ghost use Rattle.std.specs.Prelude.{◌≡◌, [], ◌∷◌};
-ghost use Rattle.ssb_sql.specs.Steps.{Gives, Parser, Reads, Shrinks, seen, after, chained_at};
+ghost use Rattle.ssb_sql.specs.Reading.{seen};
+ghost use Rattle.ssb_sql.specs.Steps.{Gives, Parser, Reads, Shrinks, after, chained_at};
 
 use crate::steps::{Stop, after};
 use crate::token::{Sign, Token};

@@ -4,7 +4,8 @@ ghost use Rattle.std.specs.Prelude.{◌≡◌, true};
 ghost use Rattle.std.specs.Char.{is_ascii_alphabetic};
 ghost use Rattle.std.specs.Str.{IsUtf8};
 ghost use Rattle.ssb_sql.specs.Tokens.{begins};
-ghost use Rattle.ssb_sql.specs.Scanning.{CutsAtQuotes, Gives, greater_at, less_at, mark_at, number_at, seen, text_token_at, token_at, word_at};
+ghost use Rattle.ssb_sql.specs.Reading.{seen};
+ghost use Rattle.ssb_sql.specs.Scanning.{CutsAtQuotes, Gives, greater_at, less_at, mark_at, number_at, text_token_at, token_at, word_at};
 ghost use Rattle.ssb_sql.specs.Lexes.{Lexes, OneListOfTokens};
 
 use crate::class::{Class, class_of};

@@ -2,7 +2,8 @@
 
 ghost use Rattle.std.specs.Prelude.{◌≡◌, [], ◌∷◌};
 ghost use Rattle.ssb_sql.specs.Conditions.{or_chain, and_chain};
-ghost use Rattle.ssb_sql.specs.Steps.{Gives, seen, after, chained_at, closed_at};
+ghost use Rattle.ssb_sql.specs.Reading.{seen};
+ghost use Rattle.ssb_sql.specs.Steps.{Gives, after, chained_at, closed_at};
 ghost use Rattle.ssb_sql.specs.ReadConditions.{neg_at, conj_at, cond_at, test_at};
 ghost use Rattle.ssb_sql.specs.declared.token.Sign.TheVariants as s;
 

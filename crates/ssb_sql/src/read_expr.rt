@@ -2,7 +2,8 @@
 
 ghost use Rattle.std.specs.Prelude.{◌≡◌, [], ◌∷◌, IfOk};
 ghost use Rattle.ssb_sql.specs.Expressions.{sum_of, times_of};
-ghost use Rattle.ssb_sql.specs.Steps.{Gives, seen, seen_if, after, chained_at, more_at, closed_at};
+ghost use Rattle.ssb_sql.specs.Reading.{seen, seen_if};
+ghost use Rattle.ssb_sql.specs.Steps.{Gives, after, chained_at, more_at, closed_at};
 ghost use Rattle.ssb_sql.specs.ReadExpressions.{bare_primary_at, primary_at, factor_at, term_at, adding_at, step_at, expr_at};
 ghost use Rattle.ssb_sql.specs.declared.token.Sign.TheVariants as s;
 

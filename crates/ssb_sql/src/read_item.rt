@@ -1,7 +1,8 @@
 // Reading items of the select list and keys of ORDER BY.
 
 ghost use Rattle.std.specs.Prelude.{◌≡◌, [], ◌∷◌};
-ghost use Rattle.ssb_sql.specs.Steps.{Gives, seen, after, more_at, list_at, closed_at, parens_at};
+ghost use Rattle.ssb_sql.specs.Reading.{seen};
+ghost use Rattle.ssb_sql.specs.Steps.{Gives, after, more_at, list_at, closed_at, parens_at};
 ghost use Rattle.ssb_sql.specs.ReadExpressions.{expr_at};
 ghost use Rattle.ssb_sql.specs.ReadSelects.{count_at, output_at, item_at, key_at, order_at};
 ghost use Rattle.ssb_sql.specs.declared.token.Sign.TheVariants as s;

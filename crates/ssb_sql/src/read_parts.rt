@@ -1,7 +1,8 @@
 // Reading columns, literals and operands.
 
 ghost use Rattle.std.specs.Prelude.{◌≡◌, ◌∷◌, [], length, ◌<◌};
-ghost use Rattle.ssb_sql.specs.Steps.{Gives, seen, after, list_at, name_at};
+ghost use Rattle.ssb_sql.specs.Reading.{seen};
+ghost use Rattle.ssb_sql.specs.Steps.{Gives, after, list_at, name_at};
 ghost use Rattle.ssb_sql.specs.ReadParts.{column_at, small_at, below_at, plain_literal_at, literal_at, operand_at};
 ghost use Rattle.ssb_sql.specs.declared.token.Sign.TheVariants as s;
 

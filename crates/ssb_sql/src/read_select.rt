@@ -1,7 +1,8 @@
 // Reading whole queries.
 
 ghost use Rattle.std.specs.Prelude.{◌≡◌, [], ◌∷◌, ◌+◌, ◌<◌, ◌^◌};
-ghost use Rattle.ssb_sql.specs.Steps.{Gives, seen, after, more_at, list_at, name_at};
+ghost use Rattle.ssb_sql.specs.Reading.{seen};
+ghost use Rattle.ssb_sql.specs.Steps.{Gives, after, more_at, list_at, name_at};
 ghost use Rattle.ssb_sql.specs.ReadParts.{column_at};
 ghost use Rattle.ssb_sql.specs.ReadSelects.{item_at, where_at, groups_at, order_at, orders_at, is_nil, ends, rest_at, query_at};
 ghost use Rattle.ssb_sql.specs.declared.token.Sign.TheVariants as s;

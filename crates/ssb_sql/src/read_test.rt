@@ -1,7 +1,8 @@
 // Reading tests that have no parentheses round them.
 
 ghost use Rattle.std.specs.Prelude.{◌≡◌, [], ◌∷◌};
-ghost use Rattle.ssb_sql.specs.Steps.{Gives, seen, seen_if, after, more_at, list_at};
+ghost use Rattle.ssb_sql.specs.Reading.{seen, seen_if};
+ghost use Rattle.ssb_sql.specs.Steps.{Gives, after, more_at, list_at};
 ghost use Rattle.ssb_sql.specs.ReadParts.{literal_at, operand_at};
 ghost use Rattle.ssb_sql.specs.ReadConditions.{op_at, limits_at, members_at, between_of, in_of, range_at, null_at, compared_at, tail_at, bare_at};
 ghost use Rattle.ssb_sql.specs.declared.token.Sign.TheVariants as s;

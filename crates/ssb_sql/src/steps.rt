@@ -2,7 +2,8 @@
 
 ghost use Rattle.std.specs.Prelude.{◌≡◌};
 ghost use Rattle.std.specs.Option.{option_copied};
-ghost use Rattle.ssb_sql.specs.Steps.{Gives, seen, is_sign, is_fixed, after, name_at, number_at, text_at, is_name_next, is_text_next};
+ghost use Rattle.ssb_sql.specs.Reading.{seen};
+ghost use Rattle.ssb_sql.specs.Steps.{Gives, is_sign, is_fixed, after, name_at, number_at, text_at, is_name_next, is_text_next};
 
 use crate::text::Text;
 use crate::token::{Sign, Token};

@@ -1,5 +1,5 @@
 use Rattle.std.proofs.Common.{◌∷◌, [], ap, sym, ◌∙◌}
-use Rattle.ssb_sql.specs.Scanning.{seen}
+use Rattle.ssb_sql.specs.Reading.{seen}
 use Rattle.ssb_sql.proofs.ScanSteps.{first_is}
 use Rattle.ssb_sql.proofs.TokenFront.{mark_here}
 use Rattle.ssb_sql.proofs.TokenSound.{quote_is}

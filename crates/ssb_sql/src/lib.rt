@@ -25,7 +25,7 @@ mod steps;
 pub mod text;
 pub mod token;
 
-pub use condition::{Condition, Literal, Operand};
+pub use condition::{Condition, Literal, Operand, copy_literals};
 pub use expr::{Adding, ColumnName, Expr, Step};
 pub use fault::SqlFault;
 pub use lex::one_list_of_tokens;

@@ -24,6 +24,7 @@ use Rattle.ssb_answer.specs.declared.fault.AnswerFault.{AnswerFault}
 use Rattle.ssb_answer.specs.declared.fault.AnswerFault.TheVariants as answer
 use Rattle.ssb_answer.specs.declared.run_fault.RunFault.{RunFault}
 use Rattle.ssb_answer.specs.declared.run_fault.RunFault.TheVariants as run
+use Rattle.ssb_bind.proofs.Relation.{one_query}
 use Rattle.ssb_answer.proofs.Orders.{one-order}
 
 -- ---- reading
@@ -68,7 +69,7 @@ Binding c s (Ok q) = Means c s q
 Binding c s (Err f) = least_fault c s ≡ Some f
 
 one-bound : (c : List TableShape) (s : Select) (r q : Result QueryParts BindFault) → Binding c s r → Binding c s q → r ≡ q
-one-bound c s (Ok x) (Ok y) a b = let e : x ≡ y = a.query ∙ sym b.query in cc
+one-bound c s (Ok x) (Ok y) a b = let e : x ≡ y = one_query c s x y a.query b.query in cc
 one-bound c s (Ok x) (Err f) a b = let e : None ≡ Some f = sym a.no_fault ∙ b in absurd cc
 one-bound c s (Err f) (Ok y) a b = let e : None ≡ Some f = sym b.no_fault ∙ a in absurd cc
 one-bound c s (Err f) (Err g) a b = let e : Some f ≡ Some g = sym a ∙ b in cc

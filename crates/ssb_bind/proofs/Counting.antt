@@ -2,7 +2,8 @@
 use Rattle.std.proofs.Common.{◌≡◌, ℕ, ◌+◌, ◌<◌, List, [], ◌∷◌, ◌++◌, length, drop, get_or, fold, slice_get, refl, sym, ap, ◌∙◌}
 use Rattle.ssb_load.specs.Shapes.{TableShape}
 use Rattle.ssb_sql.specs.declared.expr.ColumnName.{ColumnName}
-use Rattle.ssb_bind.specs.Columns.{and_one, fit_of, fitting_in, fitting_from}
+use Rattle.ssb_bind.specs.Binding.{and_one}
+use Rattle.ssb_bind.specs.Columns.{fit_of, fitting_in, fitting_from}
 use Rattle.ssb_bind.specs.declared.condition.BoundColumn.{BoundColumn}
 use Rattle.ssb_bind.specs.declared.fit.Fit.{Fit}
 use Rattle.ssb_bind.specs.declared.fit.Fit.TheVariants as fit

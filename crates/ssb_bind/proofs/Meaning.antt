@@ -1,5 +1,5 @@
 -- What is judged of the bound query is judged of the select.
-use Rattle.std.proofs.Common.{◌≡◌, ℕ, zero, suc, ◌+◌, ◌<◌, ◌≤◌, inl, inr, Bool, true, false, cond, Option, Some, None, Result, Ok, Err, List, [], ◌∷◌, length, get_or, find, is_none, nat_lt, unwrap_or, refl, sym, ap, ◌∙◌, arith}
+use Rattle.std.proofs.Common.{◌≡◌, ℕ, zero, suc, ◌+◌, ◌<◌, ◌≤◌, inl, inr, Bool, true, false, cond, Option, Some, None, Result, Ok, Err, List, [], ◌∷◌, length, get_or, find, is_none, nat_lt, unwrap_or, refl, sym, ap, subst, ◌∙◌, arith}
 use Rattle.std.proofs.lemmas.Bool.{ltb-false}
 use Rattle.std.proofs.lemmas.List.{length-map}
 use Rattle.std.proofs.lemmas.List.Quantifiers.{position-Some}
@@ -7,10 +7,12 @@ use Rattle.std.specs.List.{All}
 use Rattle.ssb_load.specs.Catalog.{IsCatalog, is_table_named}
 use Rattle.ssb_load.specs.Shapes.{TableShape, rules_of}
 use Rattle.ssb_sql.specs.declared.select.Select.{Select}
-use Rattle.ssb_bind.specs.Bound.{bound_query, bound_from}
+use Rattle.ssb_bind.specs.Binding.{bound_query, bound_from}
 use Rattle.ssb_bind.specs.Columns.{table_number, table_numbers, columns_for, bound_name, fit_of, the_one, is_wrong, is_wrong_fit}
-use Rattle.ssb_bind.specs.Faults.{first_of, with, when, faults, least_fault, wrong_name, too_many, Says, Judges, Keeps, Means, BindsTo}
+use Rattle.ssb_bind.specs.Binding.{Judges, Keeps}
+use Rattle.ssb_bind.specs.Faults.{first_of, with, when, faults, least_fault, wrong_name, too_many, Says, Means, BindsTo, unknown_table, not_grouped, bad_order, fault_of}
 use Rattle.ssb_bind.specs.Names.{column_names}
+use Rattle.ssb_bind.specs.Query.{IsQueryOf}
 use Rattle.ssb_bind.specs.Star.{IsStar, is_joined, unjoined_from}
 use Rattle.ssb_bind.specs.Tables.{fact_place, rules_in}
 use Rattle.ssb_bind.specs.declared.condition.BoundColumn.{BoundColumn}
@@ -20,6 +22,7 @@ use Rattle.ssb_bind.specs.declared.fault.TooMany.{TooMany}
 use Rattle.ssb_bind.specs.declared.fault.TooMany.TheVariants as many
 use Rattle.ssb_bind.specs.declared.fit.Wrong.TheVariants as wrong
 use Rattle.ssb_bind.specs.declared.query.QueryParts.{QueryParts}
+use Rattle.ssb_bind.proofs.Relation.{each_item, each_number, each_order, each_table, one_query}
 
 -- where none applies, none of the list does
 each_none : (fs : List (Option BindFault)) (k : ℕ) → first_of fs ≡ None → get_or fs k None ≡ None
@@ -59,16 +62,51 @@ each_single c from s e h k d below =
 
 no_wrong : (c : List TableShape) (q : QueryParts) (s : Select) → first_of (faults c q s) ≡ None → All (λ name. columns_for c q.from name ≡ bound_name c q.from name ∷ []) (column_names s)
 no_wrong c q s n =
-    each_single c q.from s (no_detail (λ name. fault.UnknownColumn name.column) _ (each_none (faults c q s) 2 n)) (no_detail (λ name. fault.AmbiguousColumn name.column) _ (each_none (faults c q s) 3 n))
+    each_single c q.from s (no_detail (λ name. fault_of wrong.Unknown name.column) _ (each_none (faults c q s) 2 n)) (no_detail (λ name. fault_of wrong.Ambiguous name.column) _ (each_none (faults c q s) 3 n))
 
 -- ---- the answer
 
+is_fact : (found : Option ℕ) → is_none found ≡ false → found ≡ Some (unwrap_or found 0)
+is_fact None e = absurd cc
+is_fact (Some k) e = refl
+
+-- the bound query is that of the select, where no refusal applies
+meets : (c : List TableShape) (s : Select) → first_of (faults c (bound_query c s) s) ≡ None → IsQueryOf c s (bound_query c s)
+unfolding bound_query
+meets c s n =
+    let q : QueryParts = bound_query c s in
+    let tables : unknown_table c s.from ≡ None = no_detail fault.UnknownTable _ (each_none (faults c q s) 0 n) in
+    let grouped : not_grouped c q.from q.groups s.items ≡ None = no_detail (λ name. fault.NotGrouped name.column) _ (each_none (faults c q s) 5 n) in
+    let ordered : bad_order s ≡ None = no_detail fault.BadOrderItem _ (each_none (faults c q s) 6 n) in
+    let fact : is_none (fact_place q.tables q.from) ≡ false = not_so _ _ (each_none (faults c q s) 7 n) in
+    record {
+      tables = refl;
+      from = each_table c s.from tables;
+      fact = is_fact (fact_place q.tables q.from) fact;
+      condition = refl;
+      groups = refl;
+      aggregates = refl;
+      items = each_item c q s.items [] 0 refl refl grouped;
+      numbers = each_number c q.from q.groups 0 s.items;
+      orders = each_order s.items 1 s.orders ordered;
+    }
+
+none_of : (c : List TableShape) (s : Select) → least_fault c s ≡ None → first_of (faults c (bound_query c s) s) ≡ None
+unfolding least_fault bound_query
+none_of c s n = n
+
+-- so that the relation says no less
+pub is_bound_query : (c : List TableShape) (s : Select) (q : QueryParts) → Means c s q → q ≡ bound_query c s
+is_bound_query c s q m = one_query c s q (bound_query c s) m.query (meets c s (none_of c s m.no_fault))
+
 means : (c : List TableShape) (s : Select) (q : QueryParts) → q ≡ bound_query c s → first_of (faults c q s) ≡ None → Means c s q
-unfolding least_fault
-means c s q h n = record { each_name = no_wrong c q s n; query = h; no_fault = sym (ap (λ x. first_of (faults c x s)) h) ∙ n }
+unfolding least_fault bound_query
+means c s q h n =
+    let none : first_of (faults c (bound_query c s) s) ≡ None = sym (ap (λ x. first_of (faults c x s)) h) ∙ n in
+    record { each_name = no_wrong c q s n; query = subst (IsQueryOf c s) (sym h) (meets c s none); no_fault = none }
 
 fails : (c : List TableShape) (s : Select) (q : QueryParts) (f : BindFault) → q ≡ bound_query c s → Says (first_of (faults c q s)) f → Says (least_fault c s) f
-unfolding least_fault
+unfolding least_fault bound_query
 fails c s q f h (inl m) = inl m
 fails c s q f h (inr n) = inr (sym (ap (λ x. first_of (faults c x s)) h) ∙ n)
 
@@ -104,10 +142,6 @@ not_more false x r e = refl
 few : (s : Select) → too_many s ≡ None → length s.from ≤ 8
 few s e = let h = ltb-false 8 (length s.from) (not_more (nat_lt 8 (length s.from)) many.Tables _ e) in omega arith
 
-is_fact : (found : Option ℕ) → is_none found ≡ false → found ≡ Some (unwrap_or found 0)
-is_fact None e = absurd cc
-is_fact (Some k) e = refl
-
 passes : {X : Type 0} (b : Bool) (x : X) (r : Option X) → cond b r (Some x) ≡ None → (b ≡ true) × (r ≡ None)
 passes true x r e = (refl, e)
 passes false x r e = absurd cc
@@ -137,5 +171,6 @@ star_of c s q lawful h n =
 
 -- what every query keeps
 pub star : (c : List TableShape) (s : Select) (q : QueryParts) → IsCatalog c → Means c s q → IsStar q
-unfolding least_fault
-star c s q lawful m = star_of c s q lawful m.query (ap (λ x. first_of (faults c x s)) m.query ∙ m.no_fault)
+star c s q lawful m =
+    let h : q ≡ bound_query c s = is_bound_query c s q m in
+    star_of c s q lawful h (ap (λ x. first_of (faults c x s)) h ∙ none_of c s m.no_fault)

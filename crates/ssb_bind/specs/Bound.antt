@@ -1,8 +1,7 @@
--- The query of a select whose names each stand for one column: the same tree, with a column in the place of each name.
+-- Conditions, expressions and aggregates with a column in the place of each name: the same trees.
 -- Source: SQL-92, 7.9 <query specification>, cut down to the language.
-use Rattle.std.specs.Prelude.{ℕ, ◌+◌, nat_eq, Bool, true, false, ◌&&◌, if◌then◌else◌, List, [], ◌∷◌, map, Option, Some, None, unwrap_or}
+use Rattle.std.specs.Prelude.{ℕ, nat_eq, Bool, ◌&&◌, List, Option, Some, None}
 use Rattle.std.specs.List.{filter_map, position}
-use Rattle.std.specs.Option.{option_or}
 use Rattle.ssb_load.specs.Shapes.{TableShape}
 use Rattle.ssb_sql.specs.declared.condition.Condition.{Condition}
 use Rattle.ssb_sql.specs.declared.condition.Condition.TheOpen.{Condition-F}
@@ -16,10 +15,7 @@ use Rattle.ssb_sql.specs.declared.expr.Step.{Step}
 use Rattle.ssb_sql.specs.declared.select.Item.{Item}
 use Rattle.ssb_sql.specs.declared.select.Output.{Output}
 use Rattle.ssb_sql.specs.declared.select.Output.TheVariants as output
-use Rattle.ssb_sql.specs.declared.select.Select.{Select}
-use Rattle.ssb_bind.specs.Columns.{bound_name, table_numbers}
-use Rattle.ssb_bind.specs.Orders.{bound_order}
-use Rattle.ssb_bind.specs.Tables.{rules_in, fact_place}
+use Rattle.ssb_bind.specs.Columns.{bound_name}
 use Rattle.ssb_bind.specs.declared.condition.BoundColumn.{BoundColumn}
 use Rattle.ssb_bind.specs.declared.condition.BoundCondition.{BoundCondition}
 use Rattle.ssb_bind.specs.declared.condition.BoundCondition.TheVariants as test
@@ -30,10 +26,6 @@ use Rattle.ssb_bind.specs.declared.expr.BoundExpr.TheVariants as expr
 use Rattle.ssb_bind.specs.declared.expr.BoundStep.{BoundStep}
 use Rattle.ssb_bind.specs.declared.query.Aggregate.{Aggregate}
 use Rattle.ssb_bind.specs.declared.query.Aggregate.TheVariants as aggregate
-use Rattle.ssb_bind.specs.declared.query.BoundItem.{BoundItem}
-use Rattle.ssb_bind.specs.declared.query.QueryParts.{QueryParts}
-use Rattle.ssb_bind.specs.declared.query.Origin.{Origin}
-use Rattle.ssb_bind.specs.declared.query.Origin.TheVariants as origin
 
 abbrev pub bound_operand : List TableShape → List ℕ → Operand → BoundOperand
 bound_operand c from (operand.Column name) = bound.Column (bound_name c from name)
@@ -91,59 +83,3 @@ is_same_column x y = nat_eq x.table y.table && nat_eq x.column y.column
 -- the place of a column among the group columns
 abbrev pub group_place : List BoundColumn → BoundColumn → Option ℕ
 group_place groups x = position (is_same_column x) groups
-
--- A select column by its place: that of its group column, or of its aggregate, of which so many stand before it. A column that is
--- no group column, which no bound query has, takes the first.
-abbrev pub origin_of : List TableShape → List ℕ → List BoundColumn → ℕ → Output → Origin
-origin_of c from groups before (output.Column name) = origin.Group (unwrap_or (group_place groups (bound_name c from name)) 0)
-origin_of c from groups before (output.Sum e) = origin.Aggregate before
-origin_of c from groups before output.CountRows = origin.Aggregate before
-origin_of c from groups before (output.Count e) = origin.Aggregate before
-
--- the AS name, or else the name of the column
-abbrev pub own_name : Output → Option (List ℕ)
-own_name (output.Column name) = Some name.column
-own_name (output.Sum e) = None
-own_name output.CountRows = None
-own_name (output.Count e) = None
-
-abbrev pub name_of_item : Item → Option (List ℕ)
-name_of_item item = option_or item.alias (own_name item.output)
-
-abbrev pub bound_item : List TableShape → List ℕ → List BoundColumn → ℕ → Item → BoundItem
-bound_item c from groups before item = record {
-  origin = origin_of c from groups before item.output;
-  name = name_of_item item;
-}
-
-abbrev pub is_aggregate : Output → Bool
-is_aggregate (output.Column name) = false
-is_aggregate (output.Sum e) = true
-is_aggregate output.CountRows = true
-is_aggregate (output.Count e) = true
-
-abbrev pub bound_items : List TableShape → List ℕ → List BoundColumn → ℕ → List Item → List BoundItem
-bound_items c from groups before [] = []
-bound_items c from groups before (item ∷ items) = bound_item c from groups before item ∷ bound_items c from groups (if is_aggregate item.output then before + 1 else before) items
-
-abbrev pub bound_over : List TableShape → List ℕ → List BoundColumn → List BoundItem → Select → QueryParts
-bound_over c from groups items s = record {
-  tables = rules_in c;
-  from = from;
-  fact = unwrap_or (fact_place (rules_in c) from) 0;
-  condition = bound_where c from s.condition;
-  groups = groups;
-  aggregates = aggregates_of c from s.items;
-  items = items;
-  orders = map (bound_order items) s.orders;
-}
-
-abbrev pub groups_of : List TableShape → List ℕ → Select → List BoundColumn
-groups_of c from s = map (bound_name c from) s.groups
-
-abbrev pub bound_from : List TableShape → List ℕ → Select → QueryParts
-bound_from c from s = bound_over c from (groups_of c from s) (bound_items c from (groups_of c from s) 0 s.items) s
-
--- the select with a column for each name
-unfoldable pub bound_query : List TableShape → Select → QueryParts
-bound_query c s = bound_from c (table_numbers c s.from) s

@@ -34,7 +34,7 @@ abbrev pub fitting_in : ColumnName → ℕ → Option TableShape → List BoundC
 fitting_in name place None = []
 fitting_in name place (Some t) = if may_be_of name.table t then fitting name.column place 0 t.columns else []
 
--- those of the tables from a place of FROM on
+-- the columns that a name fits, of the tables from a place of FROM on
 abbrev pub fitting_from : List TableShape → ColumnName → ℕ → List ℕ → List BoundColumn
 fitting_from c name place [] = []
 fitting_from c name place (n ∷ ns) = fitting_in name place (slice_get c n) ++ fitting_from c name (place + 1) ns
@@ -48,12 +48,6 @@ abbrev pub fit_of : {A : Type 0} → List A → Fit A
 fit_of [] = fit.Missing
 fit_of (x ∷ []) = fit.One x
 fit_of (x ∷ y ∷ rest) = fit.Several
-
--- one more
-abbrev pub and_one : {A : Type 0} → Fit A → A → Fit A
-and_one fit.Missing x = fit.One x
-and_one (fit.One y) x = fit.Several
-and_one fit.Several x = fit.Several
 
 -- the one alone
 abbrev pub the_one : {A : Type 0} → Fit A → A → A

@@ -1,7 +1,7 @@
 -- What a select means over a catalog, and why it means nothing: the ten refusals, least number first.
 -- Source: SQL-92, 6.3 <table reference>, 6.4 <column reference>, 7.7 <group by clause>, 7.9 <query specification>, 13.1 <declare cursor>; the shape of a
 -- star is that of the Star Schema Benchmark; the limits are this project's own.
-use Rattle.std.specs.Prelude.{◌≡◌, ◌⊎◌, ℕ, Bool, true, false, ◌++◌, if◌then◌else◌, List, [], ◌∷◌, length, nat_lt, Option, Some, None, Result, Ok, Err, find, is_none, All, ⊤}
+use Rattle.std.specs.Prelude.{◌≡◌, ◌⊎◌, ℕ, Bool, true, false, ◌++◌, if◌then◌else◌, List, [], ◌∷◌, length, nat_lt, Option, Some, None, Result, Ok, Err, find, is_none, map, unwrap_or, All}
 use Rattle.std.specs.List.{list_any, filter_map}
 use Rattle.std.specs.Str.{bytes_eq}
 use Rattle.ssb_load.specs.Shapes.{TableShape}
@@ -10,12 +10,13 @@ use Rattle.ssb_sql.specs.declared.select.Item.{Item}
 use Rattle.ssb_sql.specs.declared.select.Output.{Output}
 use Rattle.ssb_sql.specs.declared.select.Output.TheVariants as output
 use Rattle.ssb_sql.specs.declared.select.Select.{Select}
-use Rattle.ssb_bind.specs.Bound.{bound_query, group_place}
-use Rattle.ssb_bind.specs.Columns.{table_number, columns_for, bound_name, is_wrong}
+use Rattle.ssb_bind.specs.Bound.{bound_where, aggregates_of, group_place}
+use Rattle.ssb_bind.specs.Columns.{table_number, table_numbers, columns_for, bound_name, is_wrong}
 use Rattle.ssb_bind.specs.Names.{column_names}
 use Rattle.ssb_bind.specs.Orders.{bad_from}
+use Rattle.ssb_bind.specs.Query.{IsQueryOf}
 use Rattle.ssb_bind.specs.Star.{unjoined_from}
-use Rattle.ssb_bind.specs.Tables.{fact_place}
+use Rattle.ssb_bind.specs.Tables.{fact_place, rules_in}
 use Rattle.ssb_bind.specs.Types.{has_mismatch}
 use Rattle.ssb_bind.specs.declared.condition.BoundColumn.{BoundColumn}
 use Rattle.ssb_bind.specs.declared.fault.BindFault.{BindFault}
@@ -45,6 +46,10 @@ table_twice s = repeated [] s.from
 abbrev pub wrong_name : List TableShape → List ℕ → Wrong → Select → Option ColumnName
 wrong_name c from w s = find (is_wrong c from w) (column_names s)
 
+abbrev pub fault_of : Wrong → List ℕ → BindFault
+fault_of wrong.Unknown name = fault.UnknownColumn name
+fault_of wrong.Ambiguous name = fault.AmbiguousColumn name
+
 abbrev pub own_column : Output → Option ColumnName
 own_column (output.Column name) = Some name
 own_column (output.Sum e) = None
@@ -59,8 +64,8 @@ abbrev pub not_grouped : List TableShape → List ℕ → List BoundColumn → L
 not_grouped c from groups items = find (is_ungrouped c from groups) (filter_map (λ item. own_column item.output) items)
 
 -- an order key that is not the name or the position of exactly one select column: its number from 1
-abbrev pub bad_order : QueryParts → Select → Option ℕ
-bad_order q s = bad_from q.items 1 s.orders
+abbrev pub bad_order : Select → Option ℕ
+bad_order s = bad_from s.items 1 s.orders
 
 -- FROM lacks the fact table
 abbrev pub lacks_fact : QueryParts → Bool
@@ -95,16 +100,33 @@ abbrev pub when : Bool → BindFault → Option BindFault
 when true f = Some f
 when false f = None
 
--- judged of a select and of its query
+abbrev pub wrong_names : List TableShape → List ℕ → Wrong → Select → Option BindFault
+wrong_names c from w s = with (λ name. fault_of w name.column) (wrong_name c from w s)
+
+-- A select's FROM, WHERE, GROUP BY and aggregates, with a column in the place of each name: of these, types, groups and joins are judged. Its select columns
+-- and order keys are judged as they are written.
+abbrev pub draft : List TableShape → List ℕ → Select → QueryParts
+draft c from s = record {
+  tables = rules_in c;
+  from = from;
+  fact = unwrap_or (fact_place (rules_in c) from) 0;
+  condition = bound_where c from s.condition;
+  groups = map (bound_name c from) s.groups;
+  aggregates = aggregates_of c from s.items;
+  items = [];
+  orders = [];
+}
+
+-- judged of a select and of its draft
 abbrev pub faults : List TableShape → QueryParts → Select → List (Option BindFault)
 faults c q s =
     with fault.UnknownTable (unknown_table c s.from)
     ∷ with fault.TableTwice (table_twice s)
-    ∷ with (λ name. fault.UnknownColumn name.column) (wrong_name c q.from wrong.Unknown s)
-    ∷ with (λ name. fault.AmbiguousColumn name.column) (wrong_name c q.from wrong.Ambiguous s)
+    ∷ wrong_names c q.from wrong.Unknown s
+    ∷ wrong_names c q.from wrong.Ambiguous s
     ∷ when (has_mismatch q) fault.TypeMismatch
     ∷ with (λ name. fault.NotGrouped name.column) (not_grouped c q.from q.groups s.items)
-    ∷ with fault.BadOrderItem (bad_order q s)
+    ∷ with fault.BadOrderItem (bad_order s)
     ∷ when (lacks_fact q) fault.NoFactTable
     ∷ with fault.NotStar (unjoined q s)
     ∷ with fault.TooMany (too_many s)
@@ -112,7 +134,7 @@ faults c q s =
 
 -- the least that applies: a number is judged only where no lesser one applies
 unfoldable pub least_fault : List TableShape → Select → Option BindFault
-least_fault c s = first_of (faults c (bound_query c s) s)
+least_fault c s = first_of (faults c (draft c (table_numbers c s.from) s) s)
 
 -- ---- what binding answers
 
@@ -120,20 +142,10 @@ least_fault c s = first_of (faults c (bound_query c s) s)
 abbrev pub Says : Option BindFault → BindFault → Type 0
 Says applies f = (f ≡ fault.Memory) ⊎ (applies ≡ Some f)
 
--- a check for one fault, or several
-abbrev pub Judges : {A : Type 0} → Option BindFault → Result A BindFault → Type 0
-Judges applies (Ok x) = applies ≡ None
-Judges applies (Err f) = Says applies f
-
--- a value, where a check passes
-abbrev pub Keeps : {A : Type 0} → A → Result ⊤ BindFault → Result A BindFault → Type 0
-Keeps x (Ok u) kept = kept ≡ Ok x
-Keeps x (Err f) kept = kept ≡ Err f
-
--- each name stands for one column of one table of FROM, the query has it in the name's place, and no refusal applies
+-- each name stands for one column of one table of FROM, the query is that of the select, and no refusal applies
 pub record Means (c : List TableShape) (s : Select) (q : QueryParts) : Type 0 where
   pub each_name : All (λ name. columns_for c q.from name ≡ bound_name c q.from name ∷ []) (column_names s)
-  pub query : q ≡ bound_query c s
+  pub query : IsQueryOf c s q
   pub no_fault : least_fault c s ≡ None
 
 -- the query that the select means, or the least fault

@@ -1,8 +1,10 @@
+pub mod Binding
 pub mod Bound
 pub mod Columns
 pub mod Faults
 pub mod Names
 pub mod Orders
+pub mod Query
 pub mod Star
 pub mod Tables
 pub mod Types

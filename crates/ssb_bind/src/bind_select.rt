@@ -1,15 +1,17 @@
 // The query of a select whose names each stand for one column.
 
 ghost use Rattle.std.specs.Prelude.{◌≡◌, IfOk, map};
+ghost use Rattle.ssb_bind.specs.Binding as binding;
 ghost use Rattle.ssb_bind.specs.Bound as spec;
 ghost use Rattle.ssb_bind.specs.Columns.{bound_name};
+ghost use Rattle.ssb_bind.specs.Orders.{name_of_item};
 ghost use Rattle.ssb_bind.specs.Tables.{rules_in};
 
 use crate::bind_condition::bound_where;
 use crate::bind_expr::bound_expr;
 use crate::condition::BoundColumn;
 use crate::groups::group_place;
-use crate::orders::bound_orders;
+use crate::orders::{bound_orders, name_of};
 use crate::query::{Aggregate, BoundItem, Origin, QueryParts, TableRules};
 use crate::resolve::bound_name;
 use crate::star::fact_place;
@@ -101,7 +103,7 @@ fn origin_of(
     before: usize,
     output: &Output,
 ) -> Origin
-    ensures { result ≡ spec.origin_of catalog.now from.now groups.now before output.now }
+    ensures { result ≡ binding.origin_of catalog.now from.now groups.now before output.now }
 {
     match output {
         Output::Column(name) => {
@@ -112,13 +114,12 @@ fn origin_of(
     }
 }
 
-fn name_of(alloc: Global, item: &Item) -> Result<Option<Name>, AllocError>
-    ensures { IfOk result (λ name. name ≡ spec.name_of_item item.now) }
+fn own_name(alloc: Global, item: &Item) -> Result<Option<Name>, AllocError>
+    ensures { IfOk result (λ name. name ≡ name_of_item item.now) }
 {
-    match (&item.alias, &item.output) {
-        (Some(alias), _) => Ok(Some(alias.copy(alloc)?)),
-        (None, Output::Column(name)) => Ok(Some(name.column.copy(alloc)?)),
-        (None, _) => Ok(None),
+    match name_of(item) {
+        None => Ok(None),
+        Some(name) => Ok(Some(name.copy(alloc)?)),
     }
 }
 
@@ -130,16 +131,16 @@ fn bound_item(
     before: usize,
     item: &Item,
 ) -> Result<BoundItem, AllocError>
-    ensures { IfOk result (λ i. i ≡ spec.bound_item catalog.now from.now groups.now before item.now) }
+    ensures { IfOk result (λ i. i ≡ binding.bound_item catalog.now from.now groups.now before item.now) }
 {
     Ok(BoundItem {
         origin: origin_of(catalog, from, groups, before, &item.output),
-        name: name_of(alloc, item)?,
+        name: own_name(alloc, item)?,
     })
 }
 
 fn is_aggregate(output: &Output) -> bool
-    ensures { result ≡ spec.is_aggregate output.now }
+    ensures { result ≡ binding.is_aggregate output.now }
 {
     !matches!(output, Output::Column(_))
 }
@@ -151,7 +152,7 @@ fn bound_items(
     groups: &[BoundColumn],
     items: &[Item],
 ) -> Result<Items<BoundItem>, AllocError>
-    ensures { IfOk result (λ all. all ≡ spec.bound_items catalog.now from.now groups.now 0 items.now) }
+    ensures { IfOk result (λ all. all ≡ binding.bound_items catalog.now from.now groups.now 0 items.now) }
 {
     let mut all = Items::new(alloc);
     let mut before = 0;
@@ -165,21 +166,21 @@ fn bound_items(
 }
 
 // The select with a column for each name.
-#[tactic(auto, unfolding(crate::specs::Bound::bound_query))]
+#[tactic(auto, unfolding(crate::specs::Binding::bound_query))]
 pub(crate) fn bound_query(
     alloc: Global,
     catalog: &[TableDef],
     from: Items<usize>,
     select: &Select,
 ) -> Result<QueryParts, AllocError>
-    ensures { IfOk result (λ q. q ≡ spec.bound_from catalog.now from select.now) }
+    ensures { IfOk result (λ q. q ≡ binding.bound_from catalog.now from select.now) }
 {
     let numbers = from.as_slice();
     let tables = rules_in(alloc, catalog)?;
     let groups = bound_names(alloc, catalog, numbers, select.groups.as_slice())?;
     let columns = groups.as_slice();
     let items = bound_items(alloc, catalog, numbers, columns, select.items.as_slice())?;
-    let orders = bound_orders(alloc, items.as_slice(), select.orders.as_slice())?;
+    let orders = bound_orders(alloc, select.items.as_slice(), select.orders.as_slice())?;
     let aggregates = aggregates_of(alloc, catalog, numbers, select.items.as_slice())?;
     let condition = bound_where(alloc, catalog, numbers, &select.condition)?;
     let fact = fact_place(tables.as_slice(), numbers).unwrap_or(0);

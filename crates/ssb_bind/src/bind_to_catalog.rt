@@ -1,6 +1,7 @@
 // Binding a select to a catalog.
 
 ghost use Rattle.std.specs.Prelude.{◌≡◌, IfOk};
+ghost use Rattle.ssb_bind.specs.Binding as binding;
 ghost use Rattle.ssb_bind.specs.Faults as spec;
 ghost use Rattle.ssb_bind.specs.Star.{IsStar};
 
@@ -15,7 +16,7 @@ use std::alloc::Global;
 
 // The query, where nothing is wrong with it.
 fn keep(query: QueryParts, checked: Result<(), BindFault>) -> Result<QueryParts, BindFault>
-    ensures { spec.Keeps query checked result }
+    ensures { binding.Keeps query checked result }
 {
     match checked {
         Ok(()) => Ok(query),

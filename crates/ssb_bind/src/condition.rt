@@ -35,11 +35,11 @@ pub enum BoundCondition {
     Compare(Op, BoundOperand, BoundOperand),
     /// Whether the first operand lies between the second and the third.
     Between(BoundOperand, BoundOperand, BoundOperand),
-    /// Whether it does not.
+    /// Whether the first operand does not lie between the second and the third.
     NotBetween(BoundOperand, BoundOperand, BoundOperand),
     /// Whether the operand is one of the literals.
     In(BoundOperand, Items<Literal>),
-    /// Whether it is none of them.
+    /// Whether the operand is none of the literals.
     NotIn(BoundOperand, Items<Literal>),
     /// Whether the operand has no value.
     IsNull(BoundOperand),

@@ -1,21 +1,21 @@
 // How many things a name fits.
 
 ghost use Rattle.std.specs.Prelude.{◌≡◌};
-ghost use Rattle.ssb_bind.specs.Columns.{and_one};
+ghost use Rattle.ssb_bind.specs.Binding.{and_one};
 
 /// How many a name or an order key fits.
 #[derive(Clone, Copy, PartialEq, Eq, Debug)]
 pub(crate) enum Fit<T> {
     /// None.
     Missing,
-    /// This one alone.
+    /// One, and which.
     One(T),
     /// Two or more.
     Several,
 }
 
 impl<T: Copy> Fit<T> {
-    // This one too.
+    // How many there are with one more.
     pub(crate) fn and_one(self, other: T) -> Fit<T>
         ensures { result ≡ and_one self other }
     {

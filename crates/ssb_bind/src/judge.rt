@@ -4,6 +4,7 @@ ghost use Rattle.std.specs.Prelude.{◌≡◌, []};
 ghost use Rattle.std.specs.List.{list_any};
 ghost use Rattle.std.specs.Option.{option_copied};
 ghost use Rattle.std.specs.Str.{bytes_eq};
+ghost use Rattle.ssb_bind.specs.Binding as binding;
 ghost use Rattle.ssb_bind.specs.Faults as spec;
 ghost use Rattle.ssb_bind.specs.Types.{has_mismatch};
 
@@ -57,7 +58,7 @@ fn repeated(from: &[Name]) -> Option<&Name>
 }
 
 fn check_known(alloc: Global, catalog: &[TableDef], select: &Select) -> Result<(), BindFault>
-    ensures { spec.Judges (spec.with BindFault.UnknownTable (spec.unknown_table catalog.now select.now.from)) result }
+    ensures { binding.Judges (spec.with BindFault.UnknownTable (spec.unknown_table catalog.now select.now.from)) result }
 {
     match unknown_table(catalog, select.from.as_slice()) {
         None => Ok(()),
@@ -66,7 +67,7 @@ fn check_known(alloc: Global, catalog: &[TableDef], select: &Select) -> Result<(
 }
 
 fn check_once(alloc: Global, select: &Select) -> Result<(), BindFault>
-    ensures { spec.Judges (spec.with BindFault.TableTwice (spec.table_twice select.now)) result }
+    ensures { binding.Judges (spec.with BindFault.TableTwice (spec.table_twice select.now)) result }
 {
     match repeated(select.from.as_slice()) {
         None => Ok(()),
@@ -74,36 +75,32 @@ fn check_once(alloc: Global, select: &Select) -> Result<(), BindFault>
     }
 }
 
-fn check_columns(
-    alloc: Global,
-    catalog: &[TableDef],
-    from: &[usize],
-    select: &Select,
-) -> Result<(), BindFault>
-    ensures { spec.Judges (spec.with (λ name. BindFault.UnknownColumn name.column) (spec.wrong_name catalog.now from.now Wrong.Unknown select.now)) result }
+fn fault_of(wrong: Wrong, name: Name) -> BindFault
+    ensures { result ≡ spec.fault_of wrong name }
 {
-    match first_wrong(catalog, from, Wrong::Unknown, select) {
-        None => Ok(()),
-        Some(name) => Err(BindFault::UnknownColumn(name.column.copy(alloc)?)),
+    match wrong {
+        Wrong::Unknown => BindFault::UnknownColumn(name),
+        Wrong::Ambiguous => BindFault::AmbiguousColumn(name),
     }
 }
 
-fn check_single(
+fn check_names(
     alloc: Global,
     catalog: &[TableDef],
     from: &[usize],
+    wrong: Wrong,
     select: &Select,
 ) -> Result<(), BindFault>
-    ensures { spec.Judges (spec.with (λ name. BindFault.AmbiguousColumn name.column) (spec.wrong_name catalog.now from.now Wrong.Ambiguous select.now)) result }
+    ensures { binding.Judges (spec.wrong_names catalog.now from.now wrong select.now) result }
 {
-    match first_wrong(catalog, from, Wrong::Ambiguous, select) {
+    match first_wrong(catalog, from, wrong, select) {
         None => Ok(()),
-        Some(name) => Err(BindFault::AmbiguousColumn(name.column.copy(alloc)?)),
+        Some(name) => Err(fault_of(wrong, name.column.copy(alloc)?)),
     }
 }
 
 fn check_types(query: &QueryParts) -> Result<(), BindFault>
-    ensures { spec.Judges (spec.when (has_mismatch query.now) BindFault.TypeMismatch) result }
+    ensures { binding.Judges (spec.when (has_mismatch query.now) BindFault.TypeMismatch) result }
 {
     if has_mismatch(query) {
         return Err(BindFault::TypeMismatch);
@@ -117,7 +114,7 @@ fn check_groups(
     query: &QueryParts,
     select: &Select,
 ) -> Result<(), BindFault>
-    ensures { spec.Judges (spec.with (λ name. BindFault.NotGrouped name.column) (spec.not_grouped catalog.now query.now.from query.now.groups select.now.items)) result }
+    ensures { binding.Judges (spec.with (λ name. BindFault.NotGrouped name.column) (spec.not_grouped catalog.now query.now.from query.now.groups select.now.items)) result }
 {
     let from = query.from.as_slice();
     match not_grouped(
@@ -131,17 +128,17 @@ fn check_groups(
     }
 }
 
-fn check_orders(query: &QueryParts, select: &Select) -> Result<(), BindFault>
-    ensures { spec.Judges (spec.with BindFault.BadOrderItem (spec.bad_order query.now select.now)) result }
+fn check_orders(select: &Select) -> Result<(), BindFault>
+    ensures { binding.Judges (spec.with BindFault.BadOrderItem (spec.bad_order select.now)) result }
 {
-    match bad_order(query.items.as_slice(), select.orders.as_slice()) {
+    match bad_order(select.items.as_slice(), select.orders.as_slice()) {
         None => Ok(()),
         Some(number) => Err(BindFault::BadOrderItem(number)),
     }
 }
 
 fn check_fact(query: &QueryParts) -> Result<(), BindFault>
-    ensures { spec.Judges (spec.when (spec.lacks_fact query.now) BindFault.NoFactTable) result }
+    ensures { binding.Judges (spec.when (spec.lacks_fact query.now) BindFault.NoFactTable) result }
 {
     match fact_place(query.tables.as_slice(), query.from.as_slice()) {
         None => Err(BindFault::NoFactTable),
@@ -150,7 +147,7 @@ fn check_fact(query: &QueryParts) -> Result<(), BindFault>
 }
 
 fn check_star(alloc: Global, query: &QueryParts, select: &Select) -> Result<(), BindFault>
-    ensures { spec.Judges (spec.with BindFault.NotStar (spec.unjoined query.now select.now)) result }
+    ensures { binding.Judges (spec.with BindFault.NotStar (spec.unjoined query.now select.now)) result }
 {
     match unjoined(query, select.from.as_slice()) {
         None => Ok(()),
@@ -159,7 +156,7 @@ fn check_star(alloc: Global, query: &QueryParts, select: &Select) -> Result<(), 
 }
 
 fn check_limits(select: &Select) -> Result<(), BindFault>
-    ensures { spec.Judges (spec.with BindFault.TooMany (spec.too_many select.now)) result }
+    ensures { binding.Judges (spec.with BindFault.TooMany (spec.too_many select.now)) result }
 {
     match too_many(select) {
         None => Ok(()),
@@ -175,16 +172,16 @@ pub(crate) fn check(
     query: &QueryParts,
     select: &Select,
 ) -> Result<(), BindFault>
-    ensures { spec.Judges (spec.first_of (spec.faults catalog.now query.now select.now)) result }
+    ensures { binding.Judges (spec.first_of (spec.faults catalog.now query.now select.now)) result }
 {
     let from = query.from.as_slice();
     check_known(alloc, catalog, select)?;
     check_once(alloc, select)?;
-    check_columns(alloc, catalog, from, select)?;
-    check_single(alloc, catalog, from, select)?;
+    check_names(alloc, catalog, from, Wrong::Unknown, select)?;
+    check_names(alloc, catalog, from, Wrong::Ambiguous, select)?;
     check_types(query)?;
     check_groups(alloc, catalog, query, select)?;
-    check_orders(query, select)?;
+    check_orders(select)?;
     check_fact(query)?;
     check_star(alloc, query, select)?;
     check_limits(select)

@@ -16,6 +16,7 @@ pub mod fault;
 mod fit;
 mod groups;
 mod judge;
+pub mod law;
 mod limits;
 mod names;
 mod orders;

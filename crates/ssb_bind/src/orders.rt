@@ -2,35 +2,48 @@
 
 ghost use Rattle.std.specs.Prelude.{◌≡◌, IfOk, fold, map};
 ghost use Rattle.ssb_bind.specs.Columns.{fit_of};
+ghost use Rattle.std.specs.Option.{option_copied};
+ghost use Rattle.ssb_bind.specs.Binding as binding;
 ghost use Rattle.ssb_bind.specs.Orders as spec;
 
 use crate::fit::Fit;
-use crate::query::{BoundItem, BoundOrder};
+use crate::query::BoundOrder;
 use sqlite_items::Items;
 use ssb_cells::Name;
-use ssb_sql::{Key, Order};
+use ssb_sql::{Item, Key, Order, Output};
 use std::alloc::{AllocError, Global};
 
-fn is_named(name: &Name, own: &Option<Name>) -> bool
-    ensures { result ≡ spec.is_named name.now own.now }
+// The AS name, or else the name of the column.
+pub(crate) fn name_of(item: &Item) -> Option<&Name>
+    ensures { option_copied result ≡ spec.name_of_item item.now }
 {
-    match own {
+    match (&item.alias, &item.output) {
+        (Some(alias), _) => Some(alias),
+        (None, Output::Column(name)) => Some(&name.column),
+        (None, _) => None,
+    }
+}
+
+fn is_named(name: &Name, item: &Item) -> bool
+    ensures { result ≡ spec.is_named name.now (spec.name_of_item item.now) }
+{
+    match name_of(item) {
         None => false,
         Some(own) => name.as_str() == own.as_str(),
     }
 }
 
-fn is_key_of(key: &Key, place: usize, item: &BoundItem) -> bool
+fn is_key_of(key: &Key, place: usize, item: &Item) -> bool
     ensures { result ≡ spec.is_key_of key.now place item.now }
 {
     match key {
-        Key::Name(name) => is_named(name, &item.name),
+        Key::Name(name) => is_named(name, item),
         Key::Position(number) => *number > 0 && *number - 1 == place as u64,
     }
 }
 
 // How many select columns a key fits.
-fn fit_of(items: &[BoundItem], key: &Key) -> Fit<usize>
+fn fit_of(items: &[Item], key: &Key) -> Fit<usize>
     ensures { result ≡ fit_of (spec.places_for items.now key.now) }
 {
     let mut found = Fit::Missing;
@@ -42,8 +55,8 @@ fn fit_of(items: &[BoundItem], key: &Key) -> Fit<usize>
     found
 }
 
-fn bound_order(items: &[BoundItem], order: &Order) -> BoundOrder
-    ensures { result ≡ spec.bound_order items.now order.now }
+fn bound_order(items: &[Item], order: &Order) -> BoundOrder
+    ensures { result ≡ binding.bound_order items.now order.now }
 {
     let item = match fit_of(items, &order.key) {
         Fit::One(place) => place,
@@ -57,10 +70,10 @@ fn bound_order(items: &[BoundItem], order: &Order) -> BoundOrder
 
 pub(crate) fn bound_orders(
     alloc: Global,
-    items: &[BoundItem],
+    items: &[Item],
     orders: &[Order],
 ) -> Result<Items<BoundOrder>, AllocError>
-    ensures { IfOk result (λ all. all ≡ map (spec.bound_order items.now) orders.now) }
+    ensures { IfOk result (λ all. all ≡ map (binding.bound_order items.now) orders.now) }
 {
     let mut all = Items::new(alloc);
     for order in orders {
@@ -76,7 +89,7 @@ fn fits_one(found: Fit<usize>) -> bool
 }
 
 // The number of the first key, from 1, that does not fit one select column alone.
-pub(crate) fn bad_order(items: &[BoundItem], orders: &[Order]) -> Option<u64>
+pub(crate) fn bad_order(items: &[Item], orders: &[Order]) -> Option<u64>
     ensures { result ≡ spec.bad_from items.now 1 orders.now }
 {
     for (place, order) in orders.iter().enumerate() {

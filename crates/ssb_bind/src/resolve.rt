@@ -1,6 +1,7 @@
 // Names of tables and columns: which table of the catalog, and which column of FROM's tables.
 
 ghost use Rattle.std.specs.Prelude.{◌≡◌, IfOk, fold, slice_get};
+ghost use Rattle.ssb_bind.specs.Binding.{and_one};
 ghost use Rattle.ssb_bind.specs.Columns as columns;
 
 use crate::condition::BoundColumn;
@@ -46,7 +47,7 @@ fn and_fitting(
     table: usize,
     all: &[ColumnDef],
 ) -> Fit<BoundColumn>
-    ensures { result ≡ fold columns.and_one found (columns.fitting name.now table 0 all.now) }
+    ensures { result ≡ fold and_one found (columns.fitting name.now table 0 all.now) }
 {
     let mut fit = found;
     for (at, column) in all.iter().enumerate() {
@@ -64,7 +65,7 @@ fn and_fitting_in(
     place: usize,
     number: usize,
 ) -> Fit<BoundColumn>
-    ensures { result ≡ fold columns.and_one found (columns.fitting_in name.now place (slice_get catalog.now number)) }
+    ensures { result ≡ fold and_one found (columns.fitting_in name.now place (slice_get catalog.now number)) }
 {
     match catalog.get(number) {
         None => found,

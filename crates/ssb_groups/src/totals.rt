@@ -33,7 +33,7 @@ fn join_each(into: &mut [Accumulator], more: &[Accumulator])
 }
 
 impl Totals {
-    // These.
+    // The accumulators of a group's first row.
     pub(crate) fn of(alloc: Global, more: &[Accumulator]) -> Result<Totals, AllocError>
         ensures { IfOk result (λ t. t ≡ more.now) }
     {

@@ -1,5 +1,5 @@
 use Rattle.std.proofs.Common.{◌≡◌, ◌≤◌, ◌++◌, drop}
-use Rattle.ssb_bind.specs.Bound.{bound_items}
+use Rattle.ssb_bind.specs.Binding.{bound_items}
 use Rattle.ssb_bind.proofs.bind_select.bound_items.Given as goal
 
 -- aggregates are no more than the items so far

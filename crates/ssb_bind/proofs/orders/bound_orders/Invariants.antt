@@ -1,5 +1,5 @@
 use Rattle.std.proofs.Common.{◌≡◌, ◌++◌, drop, map}
-use Rattle.ssb_bind.specs.Orders.{bound_order}
+use Rattle.ssb_bind.specs.Binding.{bound_order}
 use Rattle.ssb_bind.proofs.orders.bound_orders.Given as goal
 
 abbrev pub invariant-loop-order : goal.invariant-loop-order

@@ -1,5 +1,6 @@
 use Rattle.std.proofs.Common.{◌≡◌, fold, drop}
-use Rattle.ssb_bind.specs.Columns.{and_one, fit_of}
+use Rattle.ssb_bind.specs.Binding.{and_one}
+use Rattle.ssb_bind.specs.Columns.{fit_of}
 use Rattle.ssb_bind.specs.Orders.{places_from, places_for}
 use Rattle.ssb_bind.proofs.orders.fit_of.Given as goal
 

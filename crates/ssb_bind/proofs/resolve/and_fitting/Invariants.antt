@@ -1,5 +1,6 @@
 use Rattle.std.proofs.Common.{◌≡◌, fold, drop}
-use Rattle.ssb_bind.specs.Columns.{and_one, fitting}
+use Rattle.ssb_bind.specs.Binding.{and_one}
+use Rattle.ssb_bind.specs.Columns.{fitting}
 use Rattle.ssb_bind.proofs.resolve.and_fitting.Given as goal
 
 abbrev pub invariant-loop-at : goal.invariant-loop-at

@@ -1,5 +1,6 @@
 use Rattle.std.proofs.Common.{◌≡◌, fold, drop}
-use Rattle.ssb_bind.specs.Columns.{and_one, fitting_from, columns_for, fit_of}
+use Rattle.ssb_bind.specs.Binding.{and_one}
+use Rattle.ssb_bind.specs.Columns.{fitting_from, columns_for, fit_of}
 use Rattle.ssb_bind.proofs.resolve.fit_of.Given as goal
 
 abbrev pub invariant-loop-place : goal.invariant-loop-place

@@ -1,0 +1,89 @@
+-- How the code binds and judges, step by step: the query of a select whose names each stand for one column.
+-- For the contracts inside this crate.
+use Rattle.std.specs.Prelude.{◌≡◌, ℕ, ◌+◌, Bool, true, false, if◌then◌else◌, List, [], ◌∷◌, map, Option, None, Result, Ok, Err, unwrap_or, ⊤}
+use Rattle.ssb_load.specs.Shapes.{TableShape}
+use Rattle.ssb_sql.specs.declared.select.Item.{Item}
+use Rattle.ssb_sql.specs.declared.select.Order.{Order}
+use Rattle.ssb_sql.specs.declared.select.Output.{Output}
+use Rattle.ssb_sql.specs.declared.select.Output.TheVariants as output
+use Rattle.ssb_sql.specs.declared.select.Select.{Select}
+use Rattle.ssb_bind.specs.Bound.{bound_where, aggregates_of, group_place}
+use Rattle.ssb_bind.specs.Columns.{bound_name, fit_of, the_one, table_numbers}
+use Rattle.ssb_bind.specs.Faults.{Says}
+use Rattle.ssb_bind.specs.Orders.{name_of_item, places_for}
+use Rattle.ssb_bind.specs.Tables.{rules_in, fact_place}
+use Rattle.ssb_bind.specs.declared.condition.BoundColumn.{BoundColumn}
+use Rattle.ssb_bind.specs.declared.fault.BindFault.{BindFault}
+use Rattle.ssb_bind.specs.declared.fit.Fit.{Fit}
+use Rattle.ssb_bind.specs.declared.fit.Fit.TheVariants as fit
+use Rattle.ssb_bind.specs.declared.query.BoundItem.{BoundItem}
+use Rattle.ssb_bind.specs.declared.query.BoundOrder.{BoundOrder}
+use Rattle.ssb_bind.specs.declared.query.Origin.{Origin}
+use Rattle.ssb_bind.specs.declared.query.Origin.TheVariants as origin
+use Rattle.ssb_bind.specs.declared.query.QueryParts.{QueryParts}
+
+-- one more
+abbrev pub and_one : {A : Type 0} → Fit A → A → Fit A
+and_one fit.Missing x = fit.One x
+and_one (fit.One y) x = fit.Several
+and_one fit.Several x = fit.Several
+
+-- A select column by its place: that of its group column, or of its aggregate, of which so many stand before it. A column that is
+-- no group column, which no bound query has, takes the first.
+abbrev pub origin_of : List TableShape → List ℕ → List BoundColumn → ℕ → Output → Origin
+origin_of c from groups before (output.Column name) = origin.Group (unwrap_or (group_place groups (bound_name c from name)) 0)
+origin_of c from groups before (output.Sum e) = origin.Aggregate before
+origin_of c from groups before output.CountRows = origin.Aggregate before
+origin_of c from groups before (output.Count e) = origin.Aggregate before
+
+abbrev pub bound_item : List TableShape → List ℕ → List BoundColumn → ℕ → Item → BoundItem
+bound_item c from groups before item = record {
+  origin = origin_of c from groups before item.output;
+  name = name_of_item item;
+}
+
+abbrev pub is_aggregate : Output → Bool
+is_aggregate (output.Column name) = false
+is_aggregate (output.Sum e) = true
+is_aggregate output.CountRows = true
+is_aggregate (output.Count e) = true
+
+abbrev pub bound_items : List TableShape → List ℕ → List BoundColumn → ℕ → List Item → List BoundItem
+bound_items c from groups before [] = []
+bound_items c from groups before (item ∷ items) = bound_item c from groups before item ∷ bound_items c from groups (if is_aggregate item.output then before + 1 else before) items
+
+-- A key stands for the one select column that it fits: of a key that does not fit one alone, which no bound query has, for the first.
+abbrev pub bound_order : List Item → Order → BoundOrder
+bound_order items o = record { item = the_one (fit_of (places_for items o.key)) 0; descending = o.descending }
+
+abbrev pub bound_over : List TableShape → List ℕ → List BoundColumn → List BoundItem → Select → QueryParts
+bound_over c from groups items s = record {
+  tables = rules_in c;
+  from = from;
+  fact = unwrap_or (fact_place (rules_in c) from) 0;
+  condition = bound_where c from s.condition;
+  groups = groups;
+  aggregates = aggregates_of c from s.items;
+  items = items;
+  orders = map (bound_order s.items) s.orders;
+}
+
+abbrev pub groups_of : List TableShape → List ℕ → Select → List BoundColumn
+groups_of c from s = map (bound_name c from) s.groups
+
+abbrev pub bound_from : List TableShape → List ℕ → Select → QueryParts
+bound_from c from s = bound_over c from (groups_of c from s) (bound_items c from (groups_of c from s) 0 s.items) s
+
+-- the select with a column for each name
+unfoldable pub bound_query : List TableShape → Select → QueryParts
+bound_query c s = bound_from c (table_numbers c s.from) s
+
+-- a check for one fault, or several
+abbrev pub Judges : {A : Type 0} → Option BindFault → Result A BindFault → Type 0
+Judges applies (Ok x) = applies ≡ None
+Judges applies (Err f) = Says applies f
+
+-- a value, where a check passes
+abbrev pub Keeps : {A : Type 0} → A → Result ⊤ BindFault → Result A BindFault → Type 0
+Keeps x (Ok u) kept = kept ≡ Ok x
+Keeps x (Err f) kept = kept ≡ Err f

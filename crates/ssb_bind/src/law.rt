@@ -1,0 +1,12 @@
+// What a query means, as a whole.
+
+ghost use Rattle.std.specs.Prelude.{◌≡◌, List};
+ghost use Rattle.ssb_bind.specs.Faults.{Means};
+ghost use Rattle.ssb_bind.specs.declared.query.QueryParts.{QueryParts};
+ghost use Rattle.ssb_load.specs.Shapes.{TableShape};
+ghost use Rattle.ssb_sql.specs.declared.select.Select.{Select};
+
+/// A law: a select means at most one query over a catalog.
+pub fn one_meaning()
+    ensures { (c : List TableShape) (s : Select) (p q : QueryParts) → Means c s p → Means c s q → p ≡ q }
+{}

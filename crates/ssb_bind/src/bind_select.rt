@@ -13,7 +13,7 @@ use crate::condition::BoundColumn;
 use crate::groups::group_place;
 use crate::orders::{bound_orders, name_of};
 use crate::query::{Aggregate, BoundItem, Origin, QueryParts, TableRules};
-use crate::resolve::bound_name;
+use crate::resolve::{Scope, bound_name};
 use crate::star::fact_place;
 use sqlite_items::Items;
 use ssb_cells::Name;
@@ -65,15 +65,20 @@ fn aggregate_of(
 ) -> Result<Option<Aggregate>, AllocError>
     ensures { IfOk result (λ a. a ≡ spec.aggregate_of catalog.now from.now output.now) }
 {
+    let scope = Scope {
+        alloc,
+        catalog,
+        from,
+    };
     match output {
         Output::Column(_) => Ok(None),
         Output::Sum(expr) => {
-            let expr = bound_expr(alloc, catalog, from, expr)?;
+            let expr = bound_expr(scope, expr)?;
             Ok(Some(Aggregate::Sum(expr)))
         }
         Output::CountRows => Ok(Some(Aggregate::CountRows)),
         Output::Count(expr) => {
-            let expr = bound_expr(alloc, catalog, from, expr)?;
+            let expr = bound_expr(scope, expr)?;
             Ok(Some(Aggregate::Count(expr)))
         }
     }
@@ -182,7 +187,12 @@ pub(crate) fn bound_query(
     let items = bound_items(alloc, catalog, numbers, columns, select.items.as_slice())?;
     let orders = bound_orders(alloc, select.items.as_slice(), select.orders.as_slice())?;
     let aggregates = aggregates_of(alloc, catalog, numbers, select.items.as_slice())?;
-    let condition = bound_where(alloc, catalog, numbers, &select.condition)?;
+    let scope = Scope {
+        alloc,
+        catalog,
+        from: numbers,
+    };
+    let condition = bound_where(scope, &select.condition)?;
     let fact = fact_place(tables.as_slice(), numbers).unwrap_or(0);
     Ok(QueryParts {
         tables,

@@ -12,6 +12,17 @@ use ssb_load::{ColumnDef, TableDef};
 use ssb_sql::ColumnName;
 use std::alloc::{AllocError, Global};
 
+/// Where names are bound: to the columns of these tables of a catalog.
+#[derive(Clone, Copy)]
+pub(crate) struct Scope<'a> {
+    /// Where the bound tree is kept.
+    pub alloc: Global,
+    /// The catalog's tables.
+    pub catalog: &'a [TableDef],
+    /// The tables of FROM, by their numbers in the catalog.
+    pub from: &'a [usize],
+}
+
 pub(crate) fn table_number(catalog: &[TableDef], name: &Name) -> Option<usize>
     ensures { result ≡ columns.table_number catalog.now name.now }
 {

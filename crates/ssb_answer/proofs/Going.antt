@@ -2,12 +2,14 @@
 use Rattle.std.proofs.Common.{◌≡◌, ◌∙◌, ◌++◌, ◌∷◌, [], ℕ, List, refl, sym, ap, map, subst, arith, append_assoc, Result, Ok, Err}
 use Rattle.std.proofs.lemmas.List.{append-nil}
 use Rattle.std.specs.List.{join_with_byte}
-use Rattle.ssb_answer.specs.Taking.{IsBeginning, IsPut}
+use Rattle.ssb_answer.specs.Taking.{IsBeginning}
+use Rattle.ssb_answer.specs.Writing.{IsPut}
 use Rattle.ssb_answer.proofs.Written.{grew-none, grew-both, puts-more, puts-began, begins-more, puts-end, puts-end_began}
-use Rattle.ssb_answer.specs.Text.{barred, cell_text, line, text_of}
+use Rattle.ssb_answer.specs.Text.{cell_text, line, text_of}
+use Rattle.ssb_answer.specs.Writing.{barred}
 use Rattle.ssb_answer.specs.Order.{Row}
-use Rattle.ssb_groups.specs.Keys.{cell_in}
-use Rattle.ssb_groups.specs.declared.key.OwnedValue.{OwnedValue}
+use Rattle.ssb_cells.specs.Values.{owned_cell}
+use Rattle.ssb_cells.specs.declared.owned.OwnedValue.{OwnedValue}
 use Rattle.ssb_answer.specs.Writing.{Desk, Puts, Breaks, Writes}
 
 -- the text so far is put, and this is left of it
@@ -46,16 +48,16 @@ joined x [] = sym (append-nil x)
 joined x (y ∷ ys) = ap (λ t. x ++ (124 ∷ t)) (joined y ys)
 
 -- the front of what is left
-pub field-on : (a b : Desk) (text : List ℕ) (rest fs : List OwnedValue) (f : OwnedValue) → Going a b text (barred (map cell_text (map cell_in rest))) → rest ≡ f ∷ fs
-    → Going a b text ((124 ∷ []) ++ (cell_text (cell_in f) ++ barred (map cell_text (map cell_in fs))))
-field-on a b text rest fs f w e = subst (λ r. Going a b text (barred (map cell_text (map cell_in r)))) e w
+pub field-on : (a b : Desk) (text : List ℕ) (rest fs : List OwnedValue) (f : OwnedValue) → Going a b text (barred (map cell_text (map owned_cell rest))) → rest ≡ f ∷ fs
+    → Going a b text ((124 ∷ []) ++ (cell_text (owned_cell f) ++ barred (map cell_text (map owned_cell fs))))
+field-on a b text rest fs f w e = subst (λ r. Going a b text (barred (map cell_text (map owned_cell r)))) e w
 
 pub row-on : (a b : Desk) (text : List ℕ) (rest rs : List Row) (r : Row) → Going a b text (text_of rest) → rest ≡ r ∷ rs → Going a b text (line r ++ text_of rs)
 row-on a b text rest rs r w e = subst (λ q. Going a b text (text_of q)) e w
 
 pub fields-are : (fields fs : List OwnedValue) (f : OwnedValue) → fields ≡ f ∷ fs
-    → join_with_byte 124 (map cell_text (map cell_in fields)) ≡ cell_text (cell_in f) ++ barred (map cell_text (map cell_in fs))
-fields-are fields fs f e = ap (λ q. join_with_byte 124 (map cell_text (map cell_in q))) e ∙ joined (cell_text (cell_in f)) (map cell_text (map cell_in fs))
+    → join_with_byte 124 (map cell_text (map owned_cell fields)) ≡ cell_text (owned_cell f) ++ barred (map cell_text (map owned_cell fs))
+fields-are fields fs f e = ap (λ q. join_with_byte 124 (map cell_text (map owned_cell q))) e ∙ joined (cell_text (owned_cell f)) (map cell_text (map owned_cell fs))
 
 pub writes-after : {E : Type 0} (r : Result (Unit {0}) E) (a b c : Desk) (x y : List ℕ) → Puts a b x → Writes r b c y → Writes r a c (x ++ y)
 writes-after (Ok u) a b c x y p w = puts-both a b c x y p w
@@ -71,9 +73,9 @@ ends a b c t q w e f g = puts-end a b c t q (subst (λ v. IsPut a b (v ++ t) q) 
 pub fails_began : (a b t w : List ℕ) → w ≡ [] → IsBeginning a b (w ++ t) → IsBeginning a b t
 fails_began a b t w e f = subst (λ v. IsBeginning a b (v ++ t)) e f
 
-pub breaks-line : (a c : Desk) (fields : List OwnedValue) → Breaks a c (join_with_byte 124 (map cell_text (map cell_in fields))) → Breaks a c (line (map cell_in fields))
+pub breaks-line : (a c : Desk) (fields : List OwnedValue) → Breaks a c (join_with_byte 124 (map cell_text (map owned_cell fields))) → Breaks a c (line (map owned_cell fields))
 breaks-line a c fields b = breaks-front a c _ _ b
 
 pub writes-line : {E : Type 0} (r : Result (Unit {0}) E) (a b c : Desk) (fields : List OwnedValue)
-    → Puts a b (join_with_byte 124 (map cell_text (map cell_in fields))) → Writes r b c (10 ∷ []) → Writes r a c (line (map cell_in fields))
+    → Puts a b (join_with_byte 124 (map cell_text (map owned_cell fields))) → Writes r b c (10 ∷ []) → Writes r a c (line (map owned_cell fields))
 writes-line r a b c fields p w = writes-after r a b c _ _ p w

@@ -5,7 +5,8 @@ use Rattle.std.proofs.lemmas.Bool.Decides.{nat_tests}
 use Rattle.std.proofs.lemmas.Grind.{common_steps}
 use Rattle.std.proofs.KnownBytes.{Appends-nil, Appends-trans}
 use Rattle.std.specs.Io.KnownBytes.{Appends}
-use Rattle.ssb_answer.specs.Taking.{GrewAlike, IsBeginning, IsPut, refusals}
+use Rattle.ssb_answer.specs.Taking.{GrewAlike, IsBeginning, refusals}
+use Rattle.ssb_answer.specs.Writing.{IsPut}
 
 -- these bytes are taken, and those are left
 pub record Written (old new gone rest text : List ℕ) (failed_old failed_new : ℕ) : Type 0 where

@@ -17,12 +17,6 @@ abbrev pub failures_of : {E : Type 0} → Result ℕ E → List ℕ → ℕ
 failures_of (Ok n) bytes = refusals n bytes
 failures_of (Err e) bytes = 1
 
--- the text was taken but for what is left of it
-pub record IsPut (old new text left : List ℕ) : Type 0 where
-  pub gone : List ℕ
-  pub split : text ≡ gone ++ left
-  pub taken : new ≡ old ++ gone
-
 -- what was taken since is a beginning of the text
 pub record IsBeginning (old new text : List ℕ) : Type 0 where
   pub gone : List ℕ

@@ -19,8 +19,3 @@ line row = join_with_byte 124 (map cell_text row) ++ 10 ∷ []
 abbrev pub text_of : List Row → List ℕ
 text_of [] = []
 text_of (row ∷ rows) = line row ++ text_of rows
-
--- each behind a bar
-abbrev pub barred : List (List ℕ) → List ℕ
-barred [] = []
-barred (x ∷ xs) = (124 ∷ x) ++ barred xs

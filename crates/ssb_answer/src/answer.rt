@@ -1,6 +1,6 @@
 // An answer: rows of values.
 
-use ssb_groups::OwnedValue;
+use ssb_cells::OwnedValue;
 use std::marker::Model;
 
 /// The values of a row, from left to right, seen as their list.
@@ -12,27 +12,27 @@ pub struct AnswerRow {
 impl Model for AnswerRow {
     ghost use Rattle.std.specs.Prelude.{List, map};
     ghost use Rattle.ssb_cells.specs.Cell.{Cell};
-    ghost use Rattle.ssb_groups.specs.Keys.{cell_in};
+    ghost use Rattle.ssb_cells.specs.Values.{owned_cell};
 
     ghost Value = { List Cell };
 
-    ghost view = { λ r. map cell_in r.fields.items };
+    ghost view = { λ r. map owned_cell r.fields.items };
 }
 
 impl AnswerRow {
     ghost use Rattle.std.specs.Prelude.{◌≡◌, map};
-    ghost use Rattle.ssb_groups.specs.Keys.{cell_in};
+    ghost use Rattle.ssb_cells.specs.Values.{owned_cell};
 
     // Of these values.
     pub(crate) fn new(fields: Vec<OwnedValue>) -> AnswerRow
-        ensures { result ≡ map cell_in fields.items }
+        ensures { result ≡ map owned_cell fields.items }
     {
         AnswerRow { fields }
     }
 
     /// The values.
     pub fn fields(&self) -> &[OwnedValue]
-        ensures { map cell_in result.now ≡ self.now }
+        ensures { map owned_cell result.now ≡ self.now }
     {
         self.fields.as_slice()
     }

@@ -3,20 +3,18 @@
 ghost use Rattle.std.specs.Prelude.{◌≡◌, List, map};
 ghost use Rattle.std.specs.Cmp.Lexicographic.{slice_cmp};
 ghost use Rattle.ssb_cells.specs.Order.{cell_cmp};
-ghost use Rattle.ssb_cells.specs.Values.{cell_of};
-ghost use Rattle.ssb_groups.specs.Keys.{cell_in};
+ghost use Rattle.ssb_cells.specs.Values.{cell_of, owned_cell};
 ghost use Rattle.ssb_answer.specs.Order.{Row, IsOrdered, at, by_key, row_cmp};
 ghost use Rattle.ssb_bind.specs.declared.query.BoundOrder.{BoundOrder as AnyOrder};
 
 use crate::answer::AnswerRow;
 use ssb_bind::BoundOrder;
-use ssb_cells::{Value, sort_cmp};
-use ssb_groups::OwnedValue;
+use ssb_cells::{OwnedValue, Value, sort_cmp};
 use std::cmp::Ordering;
 
 // The value at a place, null where there is none.
 fn value_at(fields: &[OwnedValue], place: usize) -> Value<'_>
-    ensures { cell_of result ≡ at (map cell_in fields.now) place }
+    ensures { cell_of result ≡ at (map owned_cell fields.now) place }
 {
     match fields.get(place) {
         Some(field) => field.value(),
@@ -26,7 +24,7 @@ fn value_at(fields: &[OwnedValue], place: usize) -> Value<'_>
 
 // All columns from left to right.
 fn compare_all(a: &[OwnedValue], b: &[OwnedValue]) -> Ordering
-    ensures { result ≡ slice_cmp cell_cmp (map cell_in a.now) (map cell_in b.now) }
+    ensures { result ≡ slice_cmp cell_cmp (map owned_cell a.now) (map owned_cell b.now) }
 {
     let mut left = a;
     let mut right = b;
@@ -52,7 +50,7 @@ fn compare_all(a: &[OwnedValue], b: &[OwnedValue]) -> Ordering
 }
 
 fn compare_by(key: BoundOrder, a: &[OwnedValue], b: &[OwnedValue]) -> Ordering
-    ensures { result ≡ by_key key (map cell_in a.now) (map cell_in b.now) }
+    ensures { result ≡ by_key key (map owned_cell a.now) (map owned_cell b.now) }
 {
     let left = value_at(a, key.item);
     let right = value_at(b, key.item);
@@ -65,7 +63,7 @@ fn compare_by(key: BoundOrder, a: &[OwnedValue], b: &[OwnedValue]) -> Ordering
 
 // By the keys, and then by all columns.
 fn compare_fields(keys: &[BoundOrder], a: &[OwnedValue], b: &[OwnedValue]) -> Ordering
-    ensures { result ≡ row_cmp keys.now (map cell_in a.now) (map cell_in b.now) }
+    ensures { result ≡ row_cmp keys.now (map owned_cell a.now) (map owned_cell b.now) }
 {
     for key in keys {
         match compare_by(*key, a, b) {

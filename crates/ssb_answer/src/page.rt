@@ -1,6 +1,7 @@
 // Bytes kept together before they are written.
 ghost use Rattle.std.specs.Prelude.{◌≡◌, ◌≤◌, ◌+◌, ◌<◌, ◌++◌, [], length, OnOk, OnErr};
-ghost use Rattle.ssb_answer.specs.Taking.{GrewAlike, IsBeginning, IsPut};
+ghost use Rattle.ssb_answer.specs.Taking.{GrewAlike, IsBeginning};
+ghost use Rattle.ssb_answer.specs.Writing.{IsPut};
 
 use crate::sink::{Sink, SinkFault, write_all};
 use std::marker::Model;

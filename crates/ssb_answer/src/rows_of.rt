@@ -3,7 +3,7 @@
 ghost use Rattle.std.specs.Prelude.{◌≡◌, ◌<◌, IfOk, IfErr, List, [], ◌∷◌, true, false, length, map, slice_get, unwrap_or};
 ghost use Rattle.std.specs.List.{list_any, range_with_len};
 ghost use Rattle.ssb_cells.specs.Cell as Cell;
-ghost use Rattle.ssb_groups.specs.Keys.{cell_in};
+ghost use Rattle.ssb_cells.specs.Values.{owned_cell};
 ghost use Rattle.ssb_groups.specs.Rows.{SeenRow};
 ghost use Rattle.ssb_groups.specs.Stands.{Stands};
 ghost use Rattle.ssb_groups.specs.Value.{in_range};
@@ -14,7 +14,8 @@ use crate::answer::{Answer, AnswerRow};
 use crate::fault::AnswerFault;
 use crate::order::sort_rows;
 use ssb_bind::{Aggregate, Origin, Query, QueryParts};
-use ssb_groups::{Accumulator, GroupKey, Groups, OwnedValue, Totals};
+use ssb_cells::OwnedValue;
+use ssb_groups::{Accumulator, GroupKey, Groups, Totals};
 use std::alloc::{AllocError, Global};
 
 fn is_in_range(number: i128) -> bool
@@ -50,7 +51,7 @@ fn has_beyond(parts: &QueryParts, totals: &[Accumulator]) -> bool
 }
 
 fn number_value(number: i128) -> OwnedValue
-    ensures { in_range number ≡ true → cell_in result ≡ Cell.number number }
+    ensures { in_range number ≡ true → owned_cell result ≡ Cell.number number }
 {
     match i64::try_from(number) {
         Ok(number) => OwnedValue::Number(number),
@@ -61,7 +62,7 @@ fn number_value(number: i128) -> OwnedValue
 // The value of an aggregate that does not leave 64 bits.
 fn total_value(aggregate: &Aggregate, total: Accumulator) -> OwnedValue
     requires { is_beyond (spec.total_cell aggregate.now total) ≡ false }
-    ensures { cell_in result ≡ spec.total_cell aggregate.now total }
+    ensures { owned_cell result ≡ spec.total_cell aggregate.now total }
 {
     match aggregate {
         Aggregate::Sum(_) => {
@@ -77,7 +78,7 @@ fn total_value(aggregate: &Aggregate, total: Accumulator) -> OwnedValue
 
 fn total_value_at(parts: &QueryParts, totals: &[Accumulator], at: usize) -> OwnedValue
     requires { is_beyond (spec.total_at parts.now totals.now at) ≡ false }
-    ensures { cell_in result ≡ spec.total_at parts.now totals.now at }
+    ensures { owned_cell result ≡ spec.total_at parts.now totals.now at }
 {
     match (parts.aggregates.as_slice().get(at), totals.get(at)) {
         (Some(aggregate), Some(total)) => total_value(aggregate, *total),
@@ -86,7 +87,7 @@ fn total_value_at(parts: &QueryParts, totals: &[Accumulator], at: usize) -> Owne
 }
 
 fn key_value_at(alloc: Global, key: &[OwnedValue], at: usize) -> Result<OwnedValue, AllocError>
-    ensures { IfOk result (λ v. cell_in v ≡ unwrap_or (slice_get (map cell_in key.now) at) Cell.null) }
+    ensures { IfOk result (λ v. owned_cell v ≡ unwrap_or (slice_get (map owned_cell key.now) at) Cell.null) }
 {
     match key.get(at) {
         Some(value) => value.copy(alloc),
@@ -102,8 +103,8 @@ fn item_value(
     totals: &[Accumulator],
     origin: Origin,
 ) -> Result<OwnedValue, AllocError>
-    requires { spec.entry_beyond parts.now (map cell_in key.now, totals.now) ≡ false }
-    ensures { IfOk result (λ v. cell_in v ≡ spec.entry_cell parts.now (map cell_in key.now, totals.now) origin) }
+    requires { spec.entry_beyond parts.now (map owned_cell key.now, totals.now) ≡ false }
+    ensures { IfOk result (λ v. owned_cell v ≡ spec.entry_cell parts.now (map owned_cell key.now, totals.now) origin) }
 {
     match origin {
         Origin::Group(at) => key_value_at(alloc, key, at),
@@ -118,8 +119,8 @@ fn entry_row(
     key: &[OwnedValue],
     totals: &[Accumulator],
 ) -> Result<AnswerRow, AllocError>
-    requires { spec.entry_beyond parts.now (map cell_in key.now, totals.now) ≡ false }
-    ensures { IfOk result (λ row. row ≡ spec.entry_row parts.now (map cell_in key.now, totals.now)) }
+    requires { spec.entry_beyond parts.now (map owned_cell key.now, totals.now) ≡ false }
+    ensures { IfOk result (λ row. row ≡ spec.entry_row parts.now (map owned_cell key.now, totals.now)) }
 {
     let mut fields = Vec::with_capacity(alloc, parts.items.len())?;
     for item in parts.items.as_slice() {
@@ -135,8 +136,8 @@ fn judged_row(
     key: &[OwnedValue],
     totals: &[Accumulator],
 ) -> Result<AnswerRow, AnswerFault>
-    ensures ok { IfOk result (λ row. (spec.entry_beyond parts.now (map cell_in key.now, totals.now) ≡ false) × (row ≡ spec.entry_row parts.now (map cell_in key.now, totals.now))) }
-    ensures err { IfErr result (spec.IsBeyondFault (spec.entry_beyond parts.now (map cell_in key.now, totals.now))) }
+    ensures ok { IfOk result (λ row. (spec.entry_beyond parts.now (map owned_cell key.now, totals.now) ≡ false) × (row ≡ spec.entry_row parts.now (map owned_cell key.now, totals.now))) }
+    ensures err { IfErr result (spec.IsBeyondFault (spec.entry_beyond parts.now (map owned_cell key.now, totals.now))) }
 {
     if has_beyond(parts, totals) {
         return Err(AnswerFault::SumOutOfRange);

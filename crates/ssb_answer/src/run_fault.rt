@@ -1,5 +1,7 @@
 // Why a run failed.
 
+ghost use Rattle.std.specs.Prelude.{◌≡◌};
+
 use crate::fault::AnswerFault;
 use ssb_bind::BindFault;
 use ssb_load::{FileFault, LoadFault};

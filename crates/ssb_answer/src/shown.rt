@@ -1,15 +1,16 @@
 // The text of a value.
 ghost use Rattle.std.specs.Prelude.{◌≡◌, ◌<◌, ◌++◌, OnOk, OnErr};
-ghost use Rattle.ssb_answer.specs.Taking.{IsBeginning, IsPut};
-ghost use Rattle.ssb_groups.specs.Keys.{cell_in};
+ghost use Rattle.ssb_answer.specs.Taking.{IsBeginning};
+ghost use Rattle.ssb_answer.specs.Writing.{IsPut};
+ghost use Rattle.ssb_cells.specs.Values.{owned_cell};
 ghost use Rattle.ssb_answer.specs.Text.{cell_text};
 
 use itoa::Buffer;
-use ssb_groups::OwnedValue;
+use ssb_cells::OwnedValue;
 
 // The text of a value, in the buffer where it is a number.
 pub(crate) fn shown<'a>(field: &'a OwnedValue, buffer: &'a mut Buffer) -> &'a [u8]
-    ensures { result.now ≡ cell_text (cell_in field.entry.now) }
+    ensures { result.now ≡ cell_text (owned_cell field.entry.now) }
 {
     match field {
         OwnedValue::Null => &[],

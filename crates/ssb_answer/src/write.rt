@@ -2,9 +2,9 @@
 ghost use Rattle.std.specs.Prelude.{◌≡◌, ◌<◌, ◌++◌, ◌∷◌, [], IfErr, OnOk, OnErr, map};
 ghost use Rattle.std.specs.List.{join_with_byte};
 ghost use Rattle.ssb_answer.specs.Taking.{GrewAlike, IsBeginning};
-ghost use Rattle.ssb_groups.specs.Keys.{cell_in};
-ghost use Rattle.ssb_answer.specs.Text.{cell_text, line, text_of, barred};
-ghost use Rattle.ssb_answer.specs.Writing.{Writes, desk};
+ghost use Rattle.ssb_cells.specs.Values.{owned_cell};
+ghost use Rattle.ssb_answer.specs.Text.{cell_text, line, text_of};
+ghost use Rattle.ssb_answer.specs.Writing.{barred, Writes, desk};
 
 use crate::answer::{Answer, AnswerRow};
 use crate::fault::AnswerFault;
@@ -12,7 +12,7 @@ use crate::page::Page;
 use crate::shown::shown;
 use crate::sink::{Sink, SinkFault};
 use itoa::Buffer;
-use ssb_groups::OwnedValue;
+use ssb_cells::OwnedValue;
 
 fn put<W: Sink>(page: &mut Page, out: &mut W, bytes: &[u8]) -> Result<(), SinkFault>
     ensures { Writes result (desk (W.taken out.old) page.old (W.failures out.old) (W.contents out.old)) (desk (W.taken out.new) page.new (W.failures out.new) (W.contents out.new)) bytes.now }
@@ -24,7 +24,7 @@ fn put<W: Sink>(page: &mut Page, out: &mut W, bytes: &[u8]) -> Result<(), SinkFa
 }
 
 fn put_field<W: Sink>(page: &mut Page, out: &mut W, field: &OwnedValue) -> Result<(), SinkFault>
-    ensures { Writes result (desk (W.taken out.old) page.old (W.failures out.old) (W.contents out.old)) (desk (W.taken out.new) page.new (W.failures out.new) (W.contents out.new)) (cell_text (cell_in field.now)) }
+    ensures { Writes result (desk (W.taken out.old) page.old (W.failures out.old) (W.contents out.old)) (desk (W.taken out.new) page.new (W.failures out.new) (W.contents out.new)) (cell_text (owned_cell field.now)) }
 {
     let mut buffer = Buffer::new();
     put(page, out, shown(field, &mut buffer))
@@ -32,7 +32,7 @@ fn put_field<W: Sink>(page: &mut Page, out: &mut W, field: &OwnedValue) -> Resul
 
 // Each field behind a bar.
 fn put_barred<W: Sink>(page: &mut Page, out: &mut W, fields: &[OwnedValue]) -> Result<(), SinkFault>
-    ensures { Writes result (desk (W.taken out.old) page.old (W.failures out.old) (W.contents out.old)) (desk (W.taken out.new) page.new (W.failures out.new) (W.contents out.new)) (barred (map cell_text (map cell_in fields.now))) }
+    ensures { Writes result (desk (W.taken out.old) page.old (W.failures out.old) (W.contents out.old)) (desk (W.taken out.new) page.new (W.failures out.new) (W.contents out.new)) (barred (map cell_text (map owned_cell fields.now))) }
 {
     let mut rest = fields;
     while let Some((field, fields)) = rest.split_first() {
@@ -49,7 +49,7 @@ fn put_barred<W: Sink>(page: &mut Page, out: &mut W, fields: &[OwnedValue]) -> R
 
 // Fields joined by bars.
 fn put_fields<W: Sink>(page: &mut Page, out: &mut W, fields: &[OwnedValue]) -> Result<(), SinkFault>
-    ensures { Writes result (desk (W.taken out.old) page.old (W.failures out.old) (W.contents out.old)) (desk (W.taken out.new) page.new (W.failures out.new) (W.contents out.new)) (join_with_byte 124 (map cell_text (map cell_in fields.now))) }
+    ensures { Writes result (desk (W.taken out.old) page.old (W.failures out.old) (W.contents out.old)) (desk (W.taken out.new) page.new (W.failures out.new) (W.contents out.new)) (join_with_byte 124 (map cell_text (map owned_cell fields.now))) }
 {
     let Some((first, rest)) = fields.split_first() else {
         return Ok(());
@@ -61,7 +61,7 @@ fn put_fields<W: Sink>(page: &mut Page, out: &mut W, fields: &[OwnedValue]) -> R
 }
 
 fn put_row<W: Sink>(page: &mut Page, out: &mut W, fields: &[OwnedValue]) -> Result<(), SinkFault>
-    ensures { Writes result (desk (W.taken out.old) page.old (W.failures out.old) (W.contents out.old)) (desk (W.taken out.new) page.new (W.failures out.new) (W.contents out.new)) (line (map cell_in fields.now)) }
+    ensures { Writes result (desk (W.taken out.old) page.old (W.failures out.old) (W.contents out.old)) (desk (W.taken out.new) page.new (W.failures out.new) (W.contents out.new)) (line (map owned_cell fields.now)) }
 {
     let Ok(()) = put_fields(page, out, fields) else {
         return Err(SinkFault);

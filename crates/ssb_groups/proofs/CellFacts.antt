@@ -2,18 +2,18 @@
 use Rattle.std.proofs.Common.{◌≡◌, ℕ, zero, suc, ◌+◌, ◌<◌, ◌≤◌, List, [], ◌∷◌, ◌++◌, length, take, get_or, map, slice_set, refl, ap, ◌∙◌, arith}
 use Rattle.ssb_cells.specs.Cell.{Cell}
 use Rattle.ssb_groups.specs.Gathering.{set_or_push}
-use Rattle.ssb_groups.specs.Keys.{cell_in}
-use Rattle.ssb_groups.specs.declared.key.OwnedValue.{OwnedValue}
+use Rattle.ssb_cells.specs.Values.{owned_cell}
+use Rattle.ssb_cells.specs.declared.owned.OwnedValue.{OwnedValue}
 
-pub set_inside : (xs : List OwnedValue) (at : ℕ) (y : OwnedValue) (c : Cell) → at < length xs → cell_in y ≡ c → map cell_in (slice_set xs at y) ≡ set_or_push (map cell_in xs) at c
+pub set_inside : (xs : List OwnedValue) (at : ℕ) (y : OwnedValue) (c : Cell) → at < length xs → owned_cell y ≡ c → map owned_cell (slice_set xs at y) ≡ set_or_push (map owned_cell xs) at c
 set_inside [] at y c h e = absurd (omega arith)
-set_inside (x ∷ xs) zero y c h e = ap (λ z. z ∷ map cell_in xs) e
-set_inside (x ∷ xs) (suc at) y c h e = ap (λ zs. cell_in x ∷ zs) (set_inside xs at y c (omega arith) e)
+set_inside (x ∷ xs) zero y c h e = ap (λ z. z ∷ map owned_cell xs) e
+set_inside (x ∷ xs) (suc at) y c h e = ap (λ zs. owned_cell x ∷ zs) (set_inside xs at y c (omega arith) e)
 
-pub push_behind : (xs : List OwnedValue) (at : ℕ) (y : OwnedValue) (c : Cell) → length xs ≤ at → cell_in y ≡ c → map cell_in (xs ++ y ∷ []) ≡ set_or_push (map cell_in xs) at c
+pub push_behind : (xs : List OwnedValue) (at : ℕ) (y : OwnedValue) (c : Cell) → length xs ≤ at → owned_cell y ≡ c → map owned_cell (xs ++ y ∷ []) ≡ set_or_push (map owned_cell xs) at c
 push_behind [] at y c h e = ap (λ z. z ∷ []) e
 push_behind (x ∷ xs) zero y c h e = absurd (omega arith)
-push_behind (x ∷ xs) (suc at) y c h e = ap (λ zs. cell_in x ∷ zs) (push_behind xs at y c (omega arith) e)
+push_behind (x ∷ xs) (suc at) y c h e = ap (λ zs. owned_cell x ∷ zs) (push_behind xs at y c (omega arith) e)
 
 -- one more cell of the front
 pub front_more : (xs : List Cell) (at next : ℕ) (c : Cell) → next ≡ at + 1 → at ≤ length xs → take next (set_or_push xs at c) ≡ take at xs ++ c ∷ []

@@ -4,13 +4,14 @@ use Rattle.std.specs.Cmp.{IsEquivalence}
 use Rattle.std.specs.Cmp.Lexicographic.{pointwise}
 use Rattle.std.proofs.lemmas.Cmp.{lists_equiv, int_eq_equiv, nat_list_eq_equiv}
 use Rattle.ssb_cells.specs.Cell.{Cell, null, number, text}
-use Rattle.ssb_groups.specs.Keys.{cell_in, cells_in}
+use Rattle.ssb_cells.specs.Values.{owned_cell}
+use Rattle.ssb_groups.specs.Keys.{cells_in}
 use Rattle.ssb_groups.specs.Rows.{cell_eq, key_eq}
 use Rattle.ssb_groups.specs.contracts.key.GroupKeyPartialEq.TheImpl as group_keys
-use Rattle.ssb_groups.specs.contracts.key.OwnedValuePartialEq.TheImpl as key_cells
+use Rattle.ssb_cells.specs.contracts.owned.OwnedValuePartialEq.TheImpl as key_cells
 use Rattle.ssb_groups.specs.declared.key.GroupKey.{GroupKey}
-use Rattle.ssb_groups.specs.declared.key.OwnedValue.{OwnedValue}
-use Rattle.ssb_groups.specs.declared.key.OwnedValue.TheVariants as cells
+use Rattle.ssb_cells.specs.declared.owned.OwnedValue.{OwnedValue}
+use Rattle.ssb_cells.specs.declared.owned.OwnedValue.TheVariants as cells
 
 cell_itself : (a : Cell) → cell_eq a a ≡ true
 cell_itself null = refl
@@ -57,7 +58,7 @@ cells_equal = key_cells.eq-value.it
 abbrev pub keys_equal : GroupKey → GroupKey → Bool
 keys_equal = group_keys.eq-value.it
 
-cell_same : (a b : OwnedValue) → cells_equal a b ≡ cell_eq (cell_in a) (cell_in b)
+cell_same : (a b : OwnedValue) → cells_equal a b ≡ cell_eq (owned_cell a) (owned_cell b)
 cell_same cells.Null cells.Null = refl
 cell_same cells.Null (cells.Number b) = refl
 cell_same cells.Null (cells.Text b) = refl
@@ -68,7 +69,7 @@ cell_same (cells.Text a) cells.Null = refl
 cell_same (cells.Text a) (cells.Number b) = refl
 cell_same (cells.Text a) (cells.Text b) = refl
 
-list_same : (xs ys : List OwnedValue) → pointwise cells_equal xs ys ≡ pointwise cell_eq (map cell_in xs) (map cell_in ys)
+list_same : (xs ys : List OwnedValue) → pointwise cells_equal xs ys ≡ pointwise cell_eq (map owned_cell xs) (map owned_cell ys)
 list_same [] [] = refl
 list_same [] (y ∷ ys) = refl
 list_same (x ∷ xs) [] = refl

@@ -1,17 +1,17 @@
 // What the aggregates take of a row, and the key of its group.
 
 ghost use Rattle.std.specs.Prelude.{◌≡◌, map, IfOk, OnOk};
-ghost use Rattle.ssb_cells.specs.Values.{cell_of};
+ghost use Rattle.ssb_cells.specs.Values.{cell_of, owned_cell};
 ghost use Rattle.ssb_job.specs.Kept.{IsCombination, column_value, from_tables};
 ghost use Rattle.ssb_groups.specs.Gathering.{IsGathered, set_or_push};
-ghost use Rattle.ssb_groups.specs.Keys.{cell_in, cells_in};
+ghost use Rattle.ssb_groups.specs.Keys.{cells_in};
 ghost use Rattle.ssb_groups.specs.Seen.{argument, fact_of};
 
 use crate::accumulator::Accumulator;
 use crate::evaluate::argument;
-use crate::key::{GroupKey, OwnedValue};
+use crate::key::GroupKey;
 use ssb_bind::{Aggregate, BoundColumn};
-use ssb_cells::Value;
+use ssb_cells::{OwnedValue, Value};
 use ssb_job::{Job, JoinedRow};
 use std::alloc::{AllocError, Global};
 
@@ -53,7 +53,7 @@ fn set_cell(
     at: usize,
     value: Value<'_>,
 ) -> Result<(), AllocError>
-    ensures { OnOk result (map cell_in cells.new.items ≡ set_or_push (map cell_in cells.old.items) at (cell_of value.entry)) }
+    ensures { OnOk result (map owned_cell cells.new.items ≡ set_or_push (map owned_cell cells.old.items) at (cell_of value.entry)) }
 {
     if at < cells.len() {
         return cells[at].set(alloc, value);
@@ -71,7 +71,7 @@ fn set_column(
     at: usize,
     column: BoundColumn,
 ) -> Result<(), AllocError>
-    ensures { OnOk result (map cell_in cells.new.items ≡ set_or_push (map cell_in cells.old.items) at (column_value (from_tables job.now) row.now column)) }
+    ensures { OnOk result (map owned_cell cells.new.items ≡ set_or_push (map owned_cell cells.old.items) at (column_value (from_tables job.now) row.now column)) }
 {
     set_cell(alloc, cells, at, job.value(column, row))
 }

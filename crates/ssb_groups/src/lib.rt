@@ -15,5 +15,5 @@ pub mod totals;
 
 pub use accumulator::Accumulator;
 pub use groups::{Groups, any_order};
-pub use key::{GroupKey, OwnedValue};
+pub use key::GroupKey;
 pub use totals::Totals;

@@ -205,7 +205,7 @@ bag_of q R es h = subst (IsPermutation (bag q R)) (sym (rows_are q R es h.right)
 leaves_of : (q : QueryParts) (R : List SeenRow) (es : List Entry) → AreGroups q R es → leaves_range q R ≡ list_any (entry_beyond q) es
 leaves_of q R es h = h.any (λ k. has_beyond q (group k R)) ∙ sym (beyond_are q R es h.right)
 
--- in order
+-- the rows of the entries, put in order, are the answer
 pub ordered : (q : QueryParts) (g : GroupMap) (R : List SeenRow) (found rows : List Row) → Stands g R → g.overflow ≡ None → g.width ≡ length q.aggregates → AreKeyed q R
     → list_any (entry_beyond q) (all_entries q.groups g.width g.entries) ≡ false → found ≡ map (entry_row q) (all_entries q.groups g.width g.entries) → IsOrdered q.orders found rows
     → Answers q R (Ok rows)
@@ -216,7 +216,7 @@ ordered q g R found rows s none w keyed fine is o =
       record { same = IsPermutation-trans (bag q R) found rows (subst (IsPermutation (bag q R)) (sym is) (bag_of q R _ h)) o.same; sorted = o.sorted },
     )
 
--- or not at all
+-- where an entry is beyond the range, that is the answer
 pub refused : (q : QueryParts) (g : GroupMap) (R : List SeenRow) (f : AnswerFault) → Stands g R → g.overflow ≡ None → g.width ≡ length q.aggregates → AreKeyed q R
     → IsBeyondFault (list_any (entry_beyond q) (all_entries q.groups g.width g.entries)) f → Answers q R (Err f)
 refused q g R (fault.RowOverflow n) s none w keyed h = absurd h

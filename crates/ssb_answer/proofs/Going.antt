@@ -63,7 +63,7 @@ pub writes-after : {E : Type 0} (r : Result (Unit {0}) E) (a b c : Desk) (x y : 
 writes-after (Ok u) a b c x y p w = puts-both a b c x y p w
 writes-after (Err e) a b c x y p w = puts-then-breaks a b c x y p w
 
--- from an empty page
+-- what went out from an empty page is a beginning of the text
 pub ends_began : (a b c t q w : List ℕ) → w ≡ [] → IsPut a b (w ++ t) q → IsBeginning b c q → IsBeginning a c t
 ends_began a b c t q w e f g = puts-end_began a b c t q (subst (λ v. IsPut a b (v ++ t) q) e f) g
 

@@ -79,7 +79,7 @@ or_both : (a b : Bool) → (a || b) ≡ false → (a ≡ false) × (b ≡ false)
 or_both true b e = cc e
 or_both false b e = (refl, e)
 
--- without one of them
+-- keys that are all different, without one of them
 apart-middle : (front back : List Key) (k : Key) → Apart (front ++ k ∷ back) → (member k (front ++ back) ≡ false) × Apart (front ++ back)
 apart-middle [] back k h = h
 apart-middle (a ∷ front) back k h =

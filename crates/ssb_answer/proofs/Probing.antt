@@ -33,7 +33,7 @@ none_more j g n w e =
     let rows : joined j (range_with_len 0 (n + 1)) ≡ joined j (range_with_len 0 n) = further j n (n + 1) (omega arith) ∙ ap (λ t. joined j (range_with_len 0 n) ++ t) e ∙ append-nil (joined j (range_with_len 0 n)) in
     record { stands = subst (λ rs. Stands g (map (seen j) rs)) (sym rows) w.stands; job = w.job; width = w.width; few = let f = w.few in omega arith }
 
--- one that is in one
+-- a fact row that is in one kept combination
 pub one_more : (j : JobShape) (g h : GroupMap) (n : ℕ) (row : List ℕ) → Grouping j g n → kept_at j n ≡ row ∷ [] → ((A : List SeenRow) → Stands g A → Stands h (A ++ seen j row ∷ [])) → h.job ≡ g.job → h.width ≡ g.width → h.counted ≡ g.counted + 1 → Grouping j h (n + 1)
 one_more j g h n row w e adds job width counted =
     let rows : map (seen j) (joined j (range_with_len 0 (n + 1))) ≡ map (seen j) (joined j (range_with_len 0 n)) ++ seen j row ∷ [] =

@@ -24,7 +24,7 @@ written-more old now next gone rest text n f g h pos w e k = record {
   clean = let c = w.clean in grind (arith, nat_tests, k, c);
 }
 
--- of what is left, as a slice of it
+-- one more write of what is left, which is a slice of the text
 pub written-slice : (old now next gone rest left text : List ℕ) (n f g h : ℕ) → 0 < n → Written old now gone rest text f g → next ≡ now ++ take n rest → h ≡ g + refusals n rest → left ≡ drop n rest → Written old next (gone ++ take n rest) left text f h
 written-slice old now next gone rest left text n f g h pos w e k s = subst (λ l. Written old next (gone ++ take n rest) l text f h) (sym s) (written-more old now next gone rest text n f g h pos w e k)
 
@@ -38,7 +38,7 @@ written-some old now next gone rest text f g w e = record { gone = gone; left = 
 pub begins-front : (old new front back : List ℕ) → IsBeginning old new front → IsBeginning old new (front ++ back)
 begins-front old new front back b = record { gone = b.gone; left = b.left ++ back; split = ap (λ t. t ++ back) b.split ∙ append_assoc b.gone b.left back; taken = b.taken }
 
--- so is one of the back, after the front
+-- a beginning of the back, behind the whole front, is a beginning of both
 pub begins-back : (old mid new front back : List ℕ) → mid ≡ old ++ front → IsBeginning mid new back → IsBeginning old new (front ++ back)
 begins-back old mid new front back m b = record {
   gone = front ++ b.gone;

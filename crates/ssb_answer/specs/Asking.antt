@@ -26,7 +26,7 @@ Asked c text (Err (run.Bind f)) = IsUnbound c text f
 Asked c text (Err (run.Answer f)) = ⊥
 Asked c text (Err run.Memory) = ⊤
 
--- the query of a text over these tables, answered
+-- a text's query over these tables, and what it answers
 pub record IsAnswered (c : List TableShape) (tables : List Columns) (text : Bytes) (r : Result (List Row) AnswerFault) : Type 0 where
   pub query : QueryParts
   pub asks : Asks c text query

@@ -43,17 +43,17 @@ entry_cell q e (origin.Aggregate i) = total_at q e.1 i
 abbrev pub entry_row : QueryParts → Entry → Row
 entry_row q e = map (λ item. entry_cell q e item.origin) q.items
 
--- the aggregates over no row
+-- so many aggregates over no row
 abbrev pub zeros : ℕ → List Accumulator
 zeros width = replicate width (record { values = 0; total = pos 0 })
 
--- without GROUP BY the whole is one group, also where it is empty
+-- the entries that rows are made of: without GROUP BY the whole is one group, also where it is empty
 abbrev pub all_entries : List BoundColumn → ℕ → List Entry → List Entry
 all_entries [] width [] = ([], zeros width) ∷ []
 all_entries [] width (e ∷ es) = e ∷ es
 all_entries (x ∷ xs) width es = es
 
--- a sum beyond the range, or memory
+-- why rows are refused: a sum beyond the range, or memory
 abbrev pub IsBeyondFault : Bool → AnswerFault → Type 0
 IsBeyondFault beyond (fault.RowOverflow n) = ⊥
 IsBeyondFault beyond fault.SumOutOfRange = beyond ≡ true

@@ -18,16 +18,16 @@ Row = List Cell
 abbrev pub at : Row → ℕ → Cell
 at row place = unwrap_or (slice_get row place) null
 
--- by one key
+-- the order of two rows by one key
 abbrev pub by_key : BoundOrder → Row → Row → Ordering
 by_key key a b = if key.descending then cell_cmp (at b key.item) (at a key.item) else cell_cmp (at a key.item) (at b key.item)
 
--- by the keys, the first that tells two rows apart
+-- the order of two rows by the keys: that of the first key which tells them apart
 abbrev pub by_keys : List BoundOrder → Row → Row → Ordering
 by_keys [] a b = Equal
 by_keys (key ∷ keys) a b = ordering_then (by_key key a b) (by_keys keys a b)
 
--- by the keys, and then by all columns ascending
+-- the order of two rows: by the keys, and then by all columns ascending
 abbrev pub row_cmp : List BoundOrder → Row → Row → Ordering
 row_cmp keys a b = ordering_then (by_keys keys a b) (slice_cmp cell_cmp a b)
 

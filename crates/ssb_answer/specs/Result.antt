@@ -28,14 +28,14 @@ distinct (k ∷ ks) = k ∷ filter (λ j. not (key_eq k j)) (distinct ks)
 abbrev pub present : List SeenRow → List Key
 present R = distinct (map (λ r. r.key) R)
 
--- those of the groups: without GROUP BY the whole is one group, also where it is empty
+-- the keys of the groups: without GROUP BY the whole is one group, also where it is empty
 abbrev pub keys : List BoundColumn → List SeenRow → List Key
 keys [] R = [] ∷ []
 keys (x ∷ xs) R = present R
 
 -- ---- aggregates
 
--- over the values of its argument: SUM is null over no value, else the exact sum; COUNT counts values
+-- the value of an aggregate over its argument's values: SUM is null over no value, else the exact sum; COUNT counts values
 abbrev pub agg : Aggregate → List Outcome → Cell
 agg (aggregate.Sum e) xs = if value_count xs == 0 then null else number (exact_sum xs)
 agg aggregate.CountRows xs = number (pos (value_count xs))
@@ -49,7 +49,7 @@ agg_if (Some a) xs = agg a xs
 abbrev pub agg_at : QueryParts → List SeenRow → ℕ → Cell
 agg_at q G i = agg_if (slice_get q.aggregates i) (arguments_at i G)
 
--- beyond the range of an `int`; a COUNT of fewer than 2^63 rows is not
+-- a value is beyond the range of an `int`; a COUNT of fewer than 2^63 rows is not
 abbrev pub is_beyond : Cell → Bool
 is_beyond null = false
 is_beyond (number n) = not (in_range n)

@@ -3,16 +3,16 @@
 use Rattle.std.specs.Prelude.{◌≡◌, ◌++◌, [], ℕ, List, Option, length, take, Result, Ok, Err, ◌==◌, ◌&&◌, nat_lt, if◌then◌else◌}
 use Rattle.std.specs.Io.KnownBytes.{Appends}
 
--- the bytes that it took
+-- the bytes that a write took
 abbrev pub taken_of : {E : Type 0} → Result ℕ E → List ℕ → List ℕ
 taken_of (Ok n) bytes = take n bytes
 taken_of (Err e) bytes = []
 
--- 1 where it took no byte of some
+-- 1 where a write was handed some bytes and took none
 abbrev pub refusals : ℕ → List ℕ → ℕ
 refusals n bytes = if (n == 0) && nat_lt 0 (length bytes) then 1 else 0
 
--- 1 for a failure, which is an error or no byte taken of some
+-- 1 where a write failed: by an error, or by taking none of some bytes
 abbrev pub failures_of : {E : Type 0} → Result ℕ E → List ℕ → ℕ
 failures_of (Ok n) bytes = refusals n bytes
 failures_of (Err e) bytes = 1

@@ -1,5 +1,5 @@
 -- The fault of a run for that of a step: of loading, of reading, of binding, and of answering.
--- For the contracts inside this crate.
+-- Source: own; the conversions between faults cite it.
 use Rattle.std.specs.Prelude.{ℕ}
 use Rattle.ssb_load.specs.declared.fault.FileFault.{FileFault}
 use Rattle.ssb_load.specs.declared.fault.LoadFault.{LoadFault}

@@ -25,13 +25,13 @@ pub record Puts (old new : Desk) (bytes : List ℕ) : Type 0 where
   pub clean : new.failures ≡ old.failures
   pub grew : GrewAlike old.taken new.taken old.contents new.contents
 
--- a write failed, and what went out is a beginning of them
+-- a write failed, and what went out is a beginning of the bytes that waited and of those that were put
 pub record Breaks (old new : Desk) (bytes : List ℕ) : Type 0 where
   pub began : IsBeginning old.taken new.taken (old.waits ++ bytes)
   pub failed : old.failures < new.failures
   pub grew : GrewAlike old.taken new.taken old.contents new.contents
 
--- either
+-- what putting bytes does: all are put, or a write failed
 abbrev pub Writes : {E : Type 0} → Result (Unit {0}) E → Desk → Desk → List ℕ → Type 0
 Writes (Ok u) old new bytes = Puts old new bytes
 Writes (Err e) old new bytes = Breaks old new bytes

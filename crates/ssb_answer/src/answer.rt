@@ -23,7 +23,7 @@ impl AnswerRow {
     ghost use Rattle.std.specs.Prelude.{◌≡◌, map};
     ghost use Rattle.ssb_cells.specs.Values.{owned_cell};
 
-    // Of these values.
+    // The row of these values.
     pub(crate) fn new(fields: Vec<OwnedValue>) -> AnswerRow
         ensures { result ≡ map owned_cell fields.items }
     {
@@ -56,7 +56,7 @@ impl Model for Answer {
 impl Answer {
     ghost use Rattle.std.specs.Prelude.{◌≡◌};
 
-    // Of these rows.
+    // The answer of these rows.
     pub(crate) fn new(rows: Vec<AnswerRow>) -> Answer
         ensures { result ≡ rows.items }
     {

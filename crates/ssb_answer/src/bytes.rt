@@ -37,7 +37,7 @@ fn content_fault(fault: RunFault) -> RunFault
 ///
 /// # Errors
 ///
-/// Those of [`run_from`](crate::run_from) but a failed read and a failed write.
+/// The faults of [`run_from`](crate::run_from), but no failed read and no failed write.
 pub fn answer_bytes(
     alloc: Global,
     catalog: Catalog,

@@ -1,4 +1,5 @@
-//! Answers: the rows of a query's groups in order, and their text.
+//! Answers: the rows of a query's groups in order, and their text; and the whole path of a query, from
+//! the bytes of files to the bytes of the answer.
 #![tactic(auto)]
 
 pub mod answer;

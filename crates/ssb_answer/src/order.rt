@@ -22,7 +22,7 @@ fn value_at(fields: &[OwnedValue], place: usize) -> Value<'_>
     }
 }
 
-// All columns from left to right.
+// The order of two rows by all columns, from left to right.
 fn compare_all(a: &[OwnedValue], b: &[OwnedValue]) -> Ordering
     ensures { result ≡ slice_cmp cell_cmp (map owned_cell a.now) (map owned_cell b.now) }
 {
@@ -61,7 +61,7 @@ fn compare_by(key: BoundOrder, a: &[OwnedValue], b: &[OwnedValue]) -> Ordering
     }
 }
 
-// By the keys, and then by all columns.
+// The order of two rows by the keys, and then by all columns.
 fn compare_fields(keys: &[BoundOrder], a: &[OwnedValue], b: &[OwnedValue]) -> Ordering
     ensures { result ≡ row_cmp keys.now (map owned_cell a.now) (map owned_cell b.now) }
 {

@@ -30,7 +30,7 @@ fn put_field<W: Sink>(page: &mut Page, out: &mut W, field: &OwnedValue) -> Resul
     put(page, out, shown(field, &mut buffer))
 }
 
-// Each field behind a bar.
+// Writes each field behind a bar.
 fn put_barred<W: Sink>(page: &mut Page, out: &mut W, fields: &[OwnedValue]) -> Result<(), SinkFault>
     ensures { Writes result (desk (W.taken out.old) page.old (W.failures out.old) (W.contents out.old)) (desk (W.taken out.new) page.new (W.failures out.new) (W.contents out.new)) (barred (map cell_text (map owned_cell fields.now))) }
 {
@@ -47,7 +47,7 @@ fn put_barred<W: Sink>(page: &mut Page, out: &mut W, fields: &[OwnedValue]) -> R
     Ok(())
 }
 
-// Fields joined by bars.
+// Writes fields joined by bars.
 fn put_fields<W: Sink>(page: &mut Page, out: &mut W, fields: &[OwnedValue]) -> Result<(), SinkFault>
     ensures { Writes result (desk (W.taken out.old) page.old (W.failures out.old) (W.contents out.old)) (desk (W.taken out.new) page.new (W.failures out.new) (W.contents out.new)) (join_with_byte 124 (map cell_text (map owned_cell fields.now))) }
 {

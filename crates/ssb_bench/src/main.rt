@@ -51,7 +51,7 @@ fn print_report<R: Print>(rt: &R, report: &Report) -> io::Result<()> {
     println!(rt; "kept {} of {} rows", report.kept, report.rows)
 }
 
-// Prints what loading the fact table, building a job and probing each fact row took.
+// Prints how long loading all tables, building a job and probing each fact row took.
 fn print_measures<R: Files + Clock + Print + AllocGlobal>(rt: &R, folder: &str, path: &str) -> u8 {
     let Some(report) = measure(rt, folder, path) else {
         return FAILED;

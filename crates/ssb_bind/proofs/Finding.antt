@@ -37,7 +37,7 @@ module _ {X Y : Type 0} (p : Y → Bool) (f : X → List Y) where
   pub part_lacks : (xs : List X) (i : ℕ) (x : X) (whole : Option Y) → i < length xs → x ≡ get_or xs i x → find p (f x) ≡ None → found_in (drop i xs) ≡ whole → found_in (drop (i + 1) xs) ≡ whole
   part_lacks xs i x whole below e h so_far = sym (find_back p (f x) (concat (map f (drop (i + 1) xs))) h) ∙ sym (ap found_in (here xs i x below e)) ∙ so_far
 
--- ---- the same for a test
+-- ---- whether some thing that is found passes a test, part by part
 
 module _ {X Y : Type 0} (p : Y → Bool) (f : X → List Y) where
   abbrev any_in : List X → Bool

@@ -95,7 +95,7 @@ none_of : (c : List TableShape) (s : Select) → least_fault c s ≡ None → fi
 unfolding least_fault bound_query
 none_of c s n = n
 
--- so that the relation says no less
+-- a query that a select means is the one that the code makes
 pub is_bound_query : (c : List TableShape) (s : Select) (q : QueryParts) → Means c s q → q ≡ bound_query c s
 is_bound_query c s q m = one_query c s q (bound_query c s) m.query (meets c s (none_of c s m.no_fault))
 

@@ -22,7 +22,7 @@ use Rattle.ssb_bind.specs.declared.query.Origin.{Origin}
 use Rattle.ssb_bind.specs.declared.query.Origin.TheVariants as origin
 use Rattle.ssb_bind.specs.declared.query.QueryParts.{QueryParts}
 
--- one more
+-- what a name fits, once it also fits this
 abbrev pub and_one : {A : Type 0} → Fit A → A → Fit A
 and_one fit.Missing x = fit.One x
 and_one (fit.One y) x = fit.Several

@@ -43,13 +43,13 @@ fitting_from c name place (n ∷ ns) = fitting_in name place (slice_get c n) ++ 
 unfoldable pub columns_for : List TableShape → List ℕ → ColumnName → List BoundColumn
 columns_for c from name = fitting_from c name 0 from
 
--- none, one alone, or several
+-- how many there are: none, one alone, or several
 abbrev pub fit_of : {A : Type 0} → List A → Fit A
 fit_of [] = fit.Missing
 fit_of (x ∷ []) = fit.One x
 fit_of (x ∷ y ∷ rest) = fit.Several
 
--- the one alone
+-- the one that fits alone, or else the other
 abbrev pub the_one : {A : Type 0} → Fit A → A → A
 the_one (fit.One x) other = x
 the_one fit.Missing other = other

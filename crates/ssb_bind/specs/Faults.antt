@@ -33,7 +33,7 @@ use Rattle.ssb_bind.specs.declared.query.QueryParts.{QueryParts}
 abbrev pub unknown_table : List TableShape → List (List ℕ) → Option (List ℕ)
 unknown_table c from = find (λ name. is_none (table_number c name)) from
 
--- the first name that stands before, or among those behind it
+-- the first of these names that also stands among those before, or earlier among these
 abbrev pub repeated : List (List ℕ) → List (List ℕ) → Option (List ℕ)
 repeated before [] = None
 repeated before (name ∷ names) = if list_any (bytes_eq name) before then Some name else repeated (before ++ name ∷ []) names
@@ -86,7 +86,7 @@ too_many s =
 
 -- ---- all of them
 
--- the first that there is
+-- the first fault of a list in which each may be missing
 abbrev pub first_of : List (Option BindFault) → Option BindFault
 first_of [] = None
 first_of (Some f ∷ fs) = Some f
@@ -117,7 +117,7 @@ draft c from s = record {
   orders = [];
 }
 
--- judged of a select and of its draft
+-- the ten refusals of a select and of its draft, each with its fault where it applies
 abbrev pub faults : List TableShape → QueryParts → Select → List (Option BindFault)
 faults c q s =
     with fault.UnknownTable (unknown_table c s.from)

@@ -32,7 +32,7 @@ is_int_type None = false
 abbrev pub number_if : Bool → Option ColType
 number_if b = if b then Some kinds.Int else None
 
--- a number, if each of these is one
+-- the type of numbers, if each of these types is that
 abbrev pub number_of_all : List (Option ColType) → Option ColType
 number_of_all ts = number_if (list_all is_int_type ts)
 

@@ -40,7 +40,7 @@ push-cells_by f [] (y ∷ xs) b x e = absurd (omega arith)
 push-cells_by f (c ∷ bs) [] b x e = absurd (omega arith)
 push-cells_by f (c ∷ bs) (y ∷ xs) b x e = ap (λ t. cond c null (f y) ∷ t) (push-cells_by f bs xs b x (omega arith))
 
--- the same of a column's fields
+-- a column has as many values as null flags
 pub cells-len : (k : ColType) (c : Inside) → IsWholeOf k c → length (cells_in k c) ≡ vec_len c.nulls
 cells-len kinds.Int c h = let e = c.nulls.ok.0 in let f = c.numbers.ok.0 in let g = length-cells_by number c.nulls.items c.numbers.items (omega arith) in omega arith
 cells-len kinds.Text c h = let e = c.nulls.ok.0 in let g = length-cells_by text c.nulls.items c.texts (omega arith) in omega arith

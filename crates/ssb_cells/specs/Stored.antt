@@ -21,7 +21,7 @@ cells_in kinds.Text c = cells_by text c.nulls.items c.texts
 abbrev pub filled : Inside → Filled
 filled c = record { kind = c.kind; values = cells_in c.kind c }
 
--- as many flags as values
+-- a column has as many null flags as values
 abbrev pub IsWholeOf : ColType → Inside → Type 0
 IsWholeOf kinds.Int c = vec_len c.nulls ≡ vec_len c.numbers
 IsWholeOf kinds.Text c = vec_len c.nulls ≡ length c.texts
@@ -31,13 +31,13 @@ pub record IsWhole (c : Inside) : Type 0 where
   pub parts : IsWholeOf c.kind c
   pub room : vec_len c.nulls ≤ 4294967295
 
--- the number, or 0
+-- the number that a value is, or 0
 abbrev pub number_in : Value → ℤ
 number_in values.Null = pos 0
 number_in (values.Int n) = n
 number_in (values.Text t) = pos 0
 
--- the text, or the empty one
+-- the text that a value is, or the empty one
 abbrev pub text_in : Value → List ℕ
 text_in values.Null = []
 text_in (values.Int n) = []

@@ -38,7 +38,7 @@ abbrev pub truth : Bool → Truth
 truth true = True
 truth false = False
 
--- WHERE keeps a row for this alone
+-- whether it is True: for that alone WHERE keeps a row
 abbrev pub is_true : Truth → Bool
 is_true True = true
 is_true False = false

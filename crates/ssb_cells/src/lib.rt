@@ -4,8 +4,9 @@
 //! keep numbers and texts packed, and both are seen in contracts as those lists alone.
 //!
 //! What a comparison says of two values, True, False or Unknown, and which of two comes first, stands
-//! here once for all conditions and orders. So does what a name of a table or column looks like, and
-//! which words are reserved, for the catalog and the query language.
+//! here once for all conditions and orders. What a name of a table or column looks like, and which
+//! words are reserved, stands here for the catalog and the query language; the latter says again how
+//! each reserved word is written.
 #![tactic(auto)]
 
 pub mod column;

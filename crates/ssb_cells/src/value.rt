@@ -53,7 +53,7 @@ impl<'a> Value<'a> {
         }
     }
 
-    // The number, or 0 where there is none.
+    // The number that it is, or 0 where it is none.
     pub(crate) fn number(self) -> i64
         ensures { result ≡ number_in self.entry }
     {
@@ -63,7 +63,7 @@ impl<'a> Value<'a> {
         }
     }
 
-    // The text, or the empty one where there is none.
+    // The text that it is, or the empty one where it is none.
     pub(crate) fn text(self) -> &'a str
         ensures { result.now ≡ text_in self.entry }
     {

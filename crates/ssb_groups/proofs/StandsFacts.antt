@@ -60,7 +60,7 @@ alone : (k : Key) → IsDistinct key_eq (k ∷ [])
 unfolding IsDistinct
 alone k = (tt, tt)
 
--- over no row
+-- groups without entries stand for no row
 pub Stands-nothing : (g : GroupMap) → g.counted ≡ 0 → g.overflow ≡ None → g.entries ≡ [] → Stands g []
 unfolding IsDistinct
 Stands-nothing g counted overflow entries = record {
@@ -85,7 +85,7 @@ Stands-over g n A r is_over ranged p width counted overflow entries =
     some_none : (m : ℕ) → Some m ≡ None → ⊥
     some_none m e = cc
 
--- one more row, at which none is
+-- one more row, at which no argument is Over
 pub Stands-plain : (g n : GroupMap) (A : List SeenRow) (r : SeenRow) → has_over r ≡ false → EachRanged r.arguments → Stands g A → n.width ≡ g.width
     → n.counted ≡ g.counted + 1 → n.overflow ≡ g.overflow → IsDistinct key_eq (map (λ e. e.0) n.entries)
     → (n.overflow ≡ None → (q : Key) → lookup (key_eq q) n.entries ≡ option_joined (lookup (key_eq q) g.entries) (cond (key_eq q r.key) (Some (totals g.width (r ∷ []))) None))

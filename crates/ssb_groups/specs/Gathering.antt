@@ -30,7 +30,7 @@ pub record IsOverAt (n : ℕ) (r : SeenRow) : Type 0 where
   pub fact : r.fact ≡ n
   pub ranged : EachRanged r.arguments
 
--- a row at which none is, with its key and its accumulators
+-- a row at which no argument is Over, with its key and its accumulators
 pub record IsPlain (width : ℕ) (k : Key) (each : List Accumulator) (r : SeenRow) : Type 0 where
   pub plain : has_over r ≡ false
   pub key : k ≡ r.key

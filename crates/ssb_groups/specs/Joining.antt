@@ -10,17 +10,17 @@ use Rattle.ssb_groups.specs.declared.accumulator.Accumulator.{Accumulator}
 abbrev pub joined : Accumulator → Accumulator → Accumulator
 joined a b = record { values = a.values + b.values; total = a.total +ℤ b.total }
 
--- neither number leaves its range
+-- two accumulators fit: joined, neither of their numbers leaves its range
 pub record Fits (a b : Accumulator) : Type 0 where
   pub values : a.values + b.values < 2 ^ 64
   pub total : FitsSigned w128 (a.total +ℤ b.total)
 
--- place by place
+-- the accumulators of two lists joined, place by place
 abbrev pub joined_each : List Accumulator → List Accumulator → List Accumulator
 joined_each (x ∷ xs) (b ∷ bs) = joined x b ∷ joined_each xs bs
 joined_each xs bs = []
 
--- as many on both sides, and each pair fits
+-- two lists are of one length, and the accumulators at each place fit
 abbrev pub FitEach : List Accumulator → List Accumulator → Type 0
 FitEach [] [] = ⊤
 FitEach (x ∷ xs) (b ∷ bs) = Fits x b × FitEach xs bs

@@ -21,7 +21,7 @@ cell_eq a b = false
 abbrev pub key_eq : Key → Key → Bool
 key_eq j k = pointwise cell_eq j k
 
--- its row of the fact table, counted from 1, its group's key, and one value for each aggregate
+-- what the aggregates see of a combination: its row of the fact table, counted from 1, its group's key, and one value for each aggregate
 pub record SeenRow : Type 0 where
   pub fact : ℕ
   pub key : Key

@@ -15,7 +15,7 @@ argument cell (aggregate.Sum e) = value cell e
 argument cell aggregate.CountRows = known (number (pos 1))
 argument cell (aggregate.Count e) = value cell e
 
--- its row of the fact table, counted from 1
+-- the row of the fact table in a combination, counted from 1
 abbrev pub fact_of : JobShape → List ℕ → ℕ
 fact_of j rows = unwrap_or (slice_get rows j.query.fact) 0 + 1
 

@@ -64,7 +64,7 @@ arguments_at i R = map (λ r. unwrap_or (slice_get r.arguments i) (known null)) 
 abbrev pub accumulated : List Outcome → Accumulator
 accumulated xs = record { values = value_count xs; total = exact_sum xs }
 
--- each of so many aggregates over the rows
+-- the first so many aggregates, each over the rows
 abbrev pub totals : ℕ → List SeenRow → List Accumulator
 totals width R = map (λ i. accumulated (arguments_at i R)) (range_with_len 0 width)
 

@@ -45,12 +45,12 @@ minus = apply (λ a b. a -ℤ b)
 abbrev pub times : Outcome → Outcome → Outcome
 times = apply (λ a b. a *ℤ b)
 
--- a further term
+-- a further term is added or taken away
 abbrev pub add_step : Outcome → Adding × Outcome → Outcome
 add_step so_far (adding.Plus, term) = plus so_far term
 add_step so_far (adding.Minus, term) = minus so_far term
 
--- factors from left to right
+-- the product of factors, from left to right
 abbrev pub product : List Outcome → Outcome
 product xs = fold times (known (number (pos 1))) xs
 
@@ -70,6 +70,6 @@ step_layer s = (s.adding, s.term)
 abbrev pub value : (BoundColumn → Cell) → BoundExpr → Outcome
 value cell = fold-BoundExpr Outcome (Adding × Outcome) (value_layer cell) step_layer
 
--- that of a further term, with its sign
+-- the value of a further term, with its sign
 abbrev pub step_value : (BoundColumn → Cell) → BoundStep → Adding × Outcome
 step_value cell = fold-BoundStep Outcome (Adding × Outcome) (value_layer cell) step_layer

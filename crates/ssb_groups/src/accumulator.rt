@@ -14,7 +14,7 @@ pub struct Accumulator {
 }
 
 impl Accumulator {
-    // Over the values of both.
+    // The accumulator over the values of both.
     pub(crate) fn join(self, other: Accumulator) -> Accumulator
         ensures { Fits self other → result ≡ joined self other }
     {

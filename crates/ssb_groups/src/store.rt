@@ -58,7 +58,7 @@ fn lesser(a: Option<u32>, b: Option<u32>) -> Option<u32>
 }
 
 impl Store {
-    // Over no row of a job.
+    // The groups of a job over no row.
     pub(crate) fn new(alloc: Global, job: &Job) -> Store
         ensures stands { Stands result [] }
         ensures job { result.job ≡ job.now }
@@ -75,7 +75,7 @@ impl Store {
         }
     }
 
-    // One more row, at which an argument is Over.
+    // Adds one more row, at which an argument is Over.
     pub(crate) fn add_over(&mut self, fact: u32)
         requires { self.old.counted + 1 < 2 ^ 32 }
         ensures stands { AddsRow (IsOverAt fact) self.old self.new }

@@ -99,7 +99,7 @@ inside s fs f (c ∷ d ∷ more) b is lf = elim (in-moves s c is) [
   | inr (inr (inr m)) ↦ record { fields = fs ++ (f ∷ []); state = st.StartRecord; rest = d ∷ more; here = rw m refl; there = rw m refl; out = inl refl; left = inr lf }
 ]
 
--- or the first part has no more record
+-- the first part has no more record
 abbrev Neither : List (List ℕ) → List ℕ → List ℕ → Option Read → Option Read → Type 0
 Neither fs f b o whole = (o ≡ None) × (whole ≡ next_record bar_config st.StartRecord fs f b)
 
@@ -204,7 +204,7 @@ line-alone = refl
 records-lf : (b : List ℕ) → records bar_config (10 ∷ b) ≡ records bar_config b
 records-lf b = records-append (10 ∷ []) b refl ∙ (rw line-alone refl)
 
--- the same of a whole text, whose byte order mark stands in the first part; the second part takes the line feed with it, so that no mark is looked for there
+-- a text whose first part ends in a line feed, without its byte order mark, which stands in the first part; the second part takes the line feed with it, so that no mark is looked for there
 strip-front : (a b : List ℕ) → EndsLf a → EndsLf (strip_bom a) × (strip_bom (a ++ b) ≡ strip_bom a ++ b)
 unfolding strip_bom
 strip-front [] b lf = absurd lf

@@ -24,7 +24,7 @@ or-none : (a b : Option CatalogFault) → or_else a b ≡ None → (a ≡ None) 
 or-none None b e = (refl, e)
 or-none (Some f) b e = cc e
 
--- a good record more
+-- a catalog on its way takes one more good record
 pub drafts-more : (old now : CatalogIntake) (good : List Fields) (f : Fields) → IsDrafting old good → fault_behind old.tables.items f ≡ None → now.tables.items ≡ with_column old.tables.items (table_in f) (column_in f)
     → now.accepted ≡ old.accepted + 1 → IsDrafting now (good ++ f ∷ [])
 drafts-more old now good f h none put counted =
@@ -39,7 +39,7 @@ drafts-more old now good f h none put counted =
       columns = rw put (count-more old.tables.items (table_in f) (column_in f) ∙ (let k = h.columns in omega (arith, k, counted)));
     }
 
--- a faulty one
+-- a faulty record behind good ones is refused for its fault
 refused-by : (good rest : List Fields) (r : Fields) (n : ℕ) (e : LoadFault) → first_catalog_fault [] good ≡ None → n ≡ length good + 1 → Refuses (fault_behind (tables_in good) r) n e → intake.Refuses intake.catalog (good ++ r ∷ rest) e
 refused-by good rest r n (load.BadCatalog f k) clean is h = rw (h.1, is) (fault-here good rest r f clean h.0)
 refused-by good rest r n load.Memory clean is h = tt
@@ -68,7 +68,7 @@ refuses-in bytes (load.Read n) h = h
 refuses-in bytes load.Memory h = tt
 refuses-in bytes (load.Record f n) h = absurd h
 
--- of all bytes of a source, where they are known
+-- why a catalog is refused, said of all bytes of a source, where they are known
 pub refuses-told : (known : Option (List ℕ)) (base : List ℕ) (e : LoadFault) → IfSome known (λ all. intake.StopsIn intake.catalog (given_since base all) e) → IfSome known (λ all. RefusesCatalog (records_of (given_since base all)) e)
 refuses-told None base e h = tt
 refuses-told (Some all) base e h = refuses-in (given_since base all) e h

@@ -41,7 +41,7 @@ read-on b room post now done given later c f n z inside fits told more is =
 pub cut-at : (b : List ℕ) (c end f : ℕ) → c ≡ 0 → end ≤ f → drop c (take f b) ≡ take end b ++ drop end (take f b)
 cut-at b c end f z l = rw z (sym (take-append-drop end (take f b)) ∙ ap (λ w. w ++ drop end (take f b)) (take-take end f b l))
 
--- the same of what was given since some bytes
+-- what a read adds to what a source gave, behind the bytes given before
 pub read-since : (b room post now base done given later : List ℕ) (c f n : ℕ) → c ≡ 0 → f ≤ length b → n ≤ length room → given ≡ base ++ (done ++ drop c (take f b)) → later ≡ given ++ take n room
     → now ≡ take f b ++ (room ++ post) → later ≡ base ++ (done ++ drop c (take (f + n) now))
 read-since b room post now base done given later c f n z inside fits told more is =

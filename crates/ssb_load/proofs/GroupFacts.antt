@@ -57,7 +57,7 @@ pub firsts-push : (x : List ℕ) (xs : List (List ℕ)) → firsts (xs ++ x ∷ 
 firsts-push x [] = refl
 firsts-push x (y ∷ ys) = push-by x y ys (firsts (ys ++ x ∷ [])) (list_any (bytes_eq x) ys) (firsts-push x ys)
 
--- the first words are apart
+-- what holds of each of a list holds of each that passes a test
 all-filter : {X : Type 0} (P : X → Type 0) (p : X → Bool) (xs : List X) → AllByRecursion P xs → AllByRecursion P (filter p xs)
 all-filter P p [] h = tt
 all-filter P p (x ∷ xs) h =

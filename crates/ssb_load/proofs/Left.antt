@@ -32,7 +32,7 @@ leaves-kept (Some s) None b g n l k = absurd l
 leaves-kept (Some s) (Some t) None g n l k = absurd k
 leaves-kept (Some s) (Some t) (Some u) g n l k = (l.0 ∙ ap (λ w. g ++ w) (sym k), λ more. k ∙ l.1 more)
 
--- the same of a fact of which no more is known than that it holds
+-- what a reader leaves once it consumed more, where no more is known of it than that it holds
 pub known-more : (w a b : Option (List ℕ)) (g x h : List ℕ) (n : ℕ) → ∥ Leaves w a g n ∥₁ → Consumes a b x → h ≡ g ++ x → ∥ Leaves w b h n ∥₁
 known-more w a b g x h n k c e = ∥∥₁_map k (λ l. leaves-more w a b g x h n l c e)
 

@@ -119,7 +119,7 @@ reads-after m (s ∷ ss) (b ∷ bs) [] ts after h = absurd h
 reads-after m (s ∷ ss) (b ∷ bs) (n ∷ ns) [] after h = absurd h
 reads-after m (s ∷ ss) (b ∷ bs) (n ∷ ns) (t ∷ ts) after h = (h.0.loads, reads-after m ss bs ns ts after h.1)
 
--- the first file that is no table, of those given
+-- the first file that is no table, of the bytes that sources gave
 pub fails-given : {S : Type 0} (m : Members S) (j : ℕ) (ss rest : List TableShape) (s : TableShape) (before now : List S) (ts : List Columns) (d after : S) (f : RecordFault) (n : ℕ) → Done m ss before now ts → length ss < length before
     → file_table s (given_since (m.given (get_or now (length ss) d)) (m.given after)) ≡ Err (f, n)
     → loaded_from j (ss ++ s ∷ rest) (given_each (map m.given before) (map m.given (slice_set now (length ss) after))) ≡ Err (j + length ss, f, n)
@@ -138,7 +138,7 @@ fails-given m j (r ∷ rs) rest s (b ∷ bs) (x ∷ xs) (t ∷ ts) d after f n h
     let z : j + suc (length rs) ≡ j + 1 + length rs = omega arith in
     rw (here, fails-given m (j + 1) rs rest s bs xs ts d after f n h.1 (omega arith) is, z) refl
 
--- and of those that are told
+-- the first file that is no table, of the bytes that sources tell beforehand
 pub fails-told : {S : Type 0} (m : Members S) (j : ℕ) (ss rest : List TableShape) (s : TableShape) (before now : List S) (ts : List Columns) (d : S) (f : RecordFault) (n : ℕ) (files : List Bytes) → Done m ss before now ts
     → length ss < length before → map m.whole before ≡ map Some files → IfSome (m.whole (get_or now (length ss) d)) (λ all. file_table s (given_since (m.given (get_or now (length ss) d)) all) ≡ Err (f, n))
     → loaded_from j (ss ++ s ∷ rest) (given_each (map m.given before) files) ≡ Err (j + length ss, f, n)

@@ -82,7 +82,7 @@ reading-end rem known a b good f P inv r p =
     let e = l.records ∙ (rw (read-none rem a b f bar_config l.text l.fuel inv.config l.source r, append-nil) refl) in
     rw e p) inv.left
 
--- those that were read are the first
+-- the records that were read are the first of all
 pub reading-begins : {R : Type 0} (rem : R → Option (List ℕ)) (known : Option (List ℕ)) (a : Reader R) (good : List Fields) (P : List Fields → Type 0) → IsReading rem known a good
     → ((rest : List Fields) → P (good ++ rest)) → IfSome known (λ bytes. P (records_of bytes))
 reading-begins rem known a good P inv p =

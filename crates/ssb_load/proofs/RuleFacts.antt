@@ -89,7 +89,7 @@ front-put k ps cs r q d lt e is =
     let g = rw (← same, z) at (front-set k 0 ps cs r q d lt e) in
     rw h g
 
--- the same of a column that got a value
+-- what the columns are once the field at k is in its column as a value
 pub front-more : (k : ℕ) (ps : List Rule) (cs now : List Filled) (r : Fields) (q : Rule) (d new : Filled) (v : Value) → k < length ps → length cs ≡ length ps
     → now ≡ with_front k 0 ps cs r → d ≡ get_or now k d → new ≡ with_cell d (cell_of v) → cell_of v ≡ cell_in (get_or ps k q).kind (field r k)
     → set now k new ≡ with_front (k + 1) 0 ps cs r

@@ -19,7 +19,7 @@ use Rattle.ssb_load.proofs.HoldsFacts.{same-fault}
 use Rattle.ssb_load.proofs.LawfulFacts.{lawful}
 use Rattle.ssb_load.proofs.LineRecords.{good-lines}
 
--- a faulty record
+-- a faulty record behind good ones is refused for its fault
 pub refuses-here : (t : TableIntake) (good rest : List Fields) (r : Fields) (e : LoadFault) → IsLoading t good → IsFaultBy t.rules.items t.max_rows t.accepted t.loader.seen.keys r e
     → intake.Refuses (subject_of t) (good ++ r ∷ rest) e
 refuses-here t good rest r (load.Record f n) h is =
@@ -65,7 +65,7 @@ fault-kind s rules m bytes (load.BadCatalog f n) is h = let k : intake.StopsBy (
 fault-kind s rules m bytes (load.Read n) is h = tt
 fault-kind s rules m bytes load.Memory is h = tt
 
--- of all bytes of a source, where they are known
+-- why a table is refused, said of all bytes of a source, where they are known
 fails-in : (s : intake.Subject) (rules : List Rule) (m : ℕ) (bytes : List ℕ) (e : LoadFault) → s ≡ intake.table rules m → intake.StopsIn s bytes e → Fails rules m (records_of bytes) e
 fails-in s rules m bytes (load.Record f n) is h = let k : intake.StopsIn (intake.table rules m) bytes (load.Record f n) = rw is at h in rw k refl
 fails-in s rules m bytes (load.BadCatalog f n) is h = let k : intake.StopsIn (intake.table rules m) bytes (load.BadCatalog f n) = rw is at h in absurd k

@@ -68,7 +68,7 @@ refused-in s load.Memory bytes h = tt
 
 -- ---- all bytes, where they are told
 
--- behind what was given
+-- all bytes are those given so far and those behind them
 pub later-is : (all now : List ℕ) → take (length now) all ≡ now → all ≡ now ++ drop (length now) all
 later-is all now e = sym (take-append-drop (length now) all) ∙ ap (λ t. t ++ drop (length now) all) e
 
@@ -100,14 +100,14 @@ refused-bytes s e before old piece done more bytes over lead some none split is 
     let P : List ℕ → Type 0 = λ t. Refuses s (records_of t) e in
     subst P (sym (is ∙ ap (λ t. t ++ more) split)) (stays-refused s e before old piece more over lead (never-over over piece some none) h (lines-end old piece more ends))
 
--- of what was given
+-- a refusal in a piece is one of all that the source gave
 pub refused-given : {S : Type 0} (s : Subject) (e : LoadFault) (p q : Pieces S) (before base now : List ℕ) → Lead before (handed p) (IsOver p) → Hands true q → (IsOver p → piece_of q ≡ []) → handed q ≡ handed p ++ piece_of q
     → now ≡ base ++ (handed q ++ rest_of q) → ((rest : List Fields) → Refuses s (records_of (handed p) ++ (records_of (before ++ piece_of q) ++ rest)) e) → Refuses s (records_of (given_since base now)) e
 refused-given s e p q before base now lead hands none split told h =
     refused-bytes s e before (handed p) (piece_of q) (handed q) (rest_of q) (given_since base now) (IsOver p) lead hands.0 none split (since-is base (handed q ++ rest_of q) now told) h
     (elim (hands.1) [ inl l ↦ inl l | inr o ↦ inr (o.rest) ])
 
--- and of all bytes
+-- a refusal in a piece is one of all bytes of the source, given and to come
 pub refused-all : {S : Type 0} (s : Subject) (e : LoadFault) (p q : Pieces S) (before base now all : List ℕ) → Lead before (handed p) (IsOver p) → Hands true q → (IsOver p → piece_of q ≡ []) → handed q ≡ handed p ++ piece_of q
     → now ≡ base ++ (handed q ++ rest_of q) → ((rest : List Fields) → Refuses s (records_of (handed p) ++ (records_of (before ++ piece_of q) ++ rest)) e)
     → take (length now) all ≡ now → (IsOver q → now ≡ all) → Refuses s (records_of (given_since base all)) e

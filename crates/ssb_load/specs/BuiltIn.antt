@@ -7,7 +7,7 @@ use Rattle.ssb_load.specs.Shapes.{TableShape}
 use Rattle.ssb_load.specs.declared.catalog.ColumnDef.{ColumnDef}
 use Rattle.ssb_load.specs.declared.rule.Role.TheVariants as roles
 
--- not null, all values different
+-- a key, which is not null and has no value twice
 abbrev pub int_key : String → ColumnDef
 int_key name = record { name = codes name; rule = record { kind = kinds.Int; role = roles.Key } }
 

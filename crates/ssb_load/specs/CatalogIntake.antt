@@ -6,7 +6,7 @@ use Rattle.ssb_load.specs.Drafting.{IsDraft, column_count}
 use Rattle.ssb_load.specs.Records.{Fields}
 use Rattle.ssb_load.specs.declared.catalog_intake.CatalogIntake.{CatalogIntake}
 
--- it has the tables of these records, all good
+-- a catalog on its way has the tables of these records, all good
 pub record IsDrafting (t : CatalogIntake) (good : List Fields) : Type 0 where
   pub count : length good ≡ t.accepted
   pub clean : first_catalog_fault [] good ≡ None

@@ -35,15 +35,15 @@ IsCatalogFault load.Memory = ⊤
 -- What reading a catalog of a source answers, and what it took of it. The source tells which bytes it gave, how often a read failed, how often one met the
 -- end, and all its bytes where they are known.
 pub record ReadsFrom {S : Type 0} (given : S → List ℕ) (failures ends : S → ℕ) (known : S → Option (List ℕ)) (before after : S) (r : Result (List TableShape) LoadFault) : Type 0 where
-  -- the source gave some bytes more
+  -- the source has given what it had given before, and perhaps some bytes more
   pub grows : given after ≡ given before ++ given_since (given before) (given after)
-  -- the answer is the catalog of just these, or their fault
+  -- the answer is the catalog of just the bytes given since, or their fault
   pub reads : ReadsCatalog (records_of (given_since (given before) (given after))) r
   -- a catalog comes only where a read met the end
   pub ended : OnOk r (ends before < ends after)
-  -- a failed read is answered only where a read failed,
+  -- a failed read is answered only where a read failed
   pub broken : IfErr r (λ e. IfRead e (λ n. failures before < failures after))
-  -- and then with the number of the record on its way
+  -- a failed read is answered with the number of the record on its way
   pub short : IfErr r (λ e. IfRead e (IsCutShort AreGoodEntries (given_since (given before) (given after))))
   -- where all bytes of the source are known, the answer is that of all of them
   pub whole : known after ≡ known before

@@ -66,7 +66,7 @@ given_each [] all = []
 given_each (b ∷ bs) [] = []
 given_each (b ∷ bs) (a ∷ later) = given_since b a ∷ given_each bs later
 
--- each source has given what it had given before, and some bytes more
+-- each source has given what it had given before, and perhaps some bytes more
 abbrev pub GrewEach : List Bytes → List Bytes → Type 0
 GrewEach [] [] = ⊤
 GrewEach [] (a ∷ later) = ⊥

@@ -2,17 +2,17 @@
 -- Source: own, in the terms of std's `Read`.
 use Rattle.std.specs.Prelude.{◌≡◌, ◌++◌, ◌<◌, [], ℕ, List, length, take, drop, Result, Ok, Err, Option, None, Some, ⊤, ◌==◌, ◌&&◌, nat_lt, if◌then◌else◌}
 
--- the bytes that it gave
+-- the bytes that a read gave
 abbrev pub given_of : {E : Type 0} → Result ℕ E → List ℕ → List ℕ
 given_of (Ok n) room = take n room
 given_of (Err e) room = []
 
--- 1 for an error
+-- 1 for a read that answered an error
 abbrev pub failures_of : {E : Type 0} → Result ℕ E → ℕ
 failures_of (Ok n) = 0
 failures_of (Err e) = 1
 
--- 1 where there was room and it gave no byte
+-- 1 for a read that gave no byte into some room
 abbrev pub ends_at : ℕ → List ℕ → ℕ
 ends_at n room = if (n == 0) && nat_lt 0 (length room) then 1 else 0
 

@@ -45,7 +45,7 @@ StopsBy s bytes (load.BadCatalog f n) = RefusesEntry s (records_of bytes) f n
 StopsBy s bytes (load.Read n) = IsCutShort (AreGood s) bytes n
 StopsBy s bytes load.Memory = ⊤
 
--- the same of bytes of which perhaps not all were given
+-- why not all records of a source's bytes were taken, of which perhaps not all were given
 abbrev pub StopsIn : Subject → List ℕ → LoadFault → Type 0
 StopsIn s bytes (load.Record f n) = RefusesRow s (records_of bytes) f n
 StopsIn s bytes (load.BadCatalog f n) = RefusesEntry s (records_of bytes) f n

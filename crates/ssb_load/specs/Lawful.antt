@@ -15,7 +15,7 @@ FitsType kinds.Int (text t) = ⊥
 FitsType kinds.Text (number n) = ⊥
 FitsType kinds.Text (text t) = ⊤
 
--- from -2^63 to 2^63 - 1
+-- a number of 64 bits: from -2^63 to 2^63 - 1
 abbrev pub IsInt64 : ℤ → Type 0
 IsInt64 (pos n) = n < 2 ^ 63
 IsInt64 (negsuc n) = n < 2 ^ 63

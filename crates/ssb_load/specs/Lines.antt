@@ -8,11 +8,11 @@ pub record EndsInLf (xs : List ℕ) : Type 0 where
   pub front : List ℕ
   pub split : xs ≡ front ++ 10 ∷ []
 
--- no byte, or whole lines
+-- whole lines, or no byte at all
 abbrev pub AreLines : List ℕ → Type 0
 AreLines xs = (xs ≡ []) ⊎ EndsInLf xs
 
--- no line feed among these
+-- no line feed among these bytes
 abbrev pub IsPartOfLine : List ℕ → Type 0
 IsPartOfLine xs = list_any (λ x. x == 10) xs ≡ false
 

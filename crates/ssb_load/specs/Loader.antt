@@ -38,7 +38,7 @@ fault_by rules max_rows count has r =
     else (if any_field (fails tests.Length) rules r then Some faults.TextTooLong
     else None))))))
 
--- the keys that were seen, as a test
+-- whether a number is among the keys that were seen
 abbrev pub seen_in : List ℤ → ℤ → Bool
 seen_in seen z = list_any (int_eq z) seen
 
@@ -55,7 +55,7 @@ with_front (suc k) at (p ∷ ps) (c ∷ cs) r = with_cell c (cell_in p.kind (fie
 abbrev pub with_record : List Rule → List Filled → Fields → List Filled
 with_record rules cs r = with_front (length rules) 0 rules cs r
 
--- the keys with that of a record more
+-- the keys that were seen, with that of one more record
 abbrev pub AddsKey : Option ℤ → List ℤ → List ℤ → Type 0
 AddsKey None old new = new ≡ old
 AddsKey (Some k) old new = (z : ℤ) → seen_in new z ≡ (if int_eq k z then true else seen_in old z)

@@ -41,12 +41,12 @@ is_missing p f = needs_value p.role && is_empty f
 abbrev pub is_too_long : Rule → List ℕ → Bool
 is_too_long p f = not (is_int p.kind) && nat_lt 4096 (length f)
 
--- some field of a record, from this one on, is such a field under its rule
+-- some field of a record, from this place on, passes a test under its rule
 abbrev pub any_from : (Rule → List ℕ → Bool) → ℕ → List Rule → Fields → Bool
 any_from t at [] r = false
 any_from t at (p ∷ ps) r = t p (field r at) || any_from t (at + 1) ps r
 
--- some field of a record is such a field
+-- some field of a record passes a test under its rule
 abbrev pub any_field : (Rule → List ℕ → Bool) → List Rule → Fields → Bool
 any_field t rules r = any_from t 0 rules r
 

@@ -1,5 +1,5 @@
 -- What a reader gave is a beginning of its bytes, where they are known, and all of them once its end was met.
--- For the laws of `In`.
+-- For the contracts inside this crate: the laws of `In` stand on it.
 use Rattle.std.specs.Prelude.{◌≡◌, ◌<◌, ℕ, List, ◌++◌, length, take, Option, None, Some, IfSome, refl}
 use Rattle.std.proofs.Common.{◌∙◌, sym, ap}
 use Rattle.std.proofs.lemmas.List.{append-nil, take_at}

@@ -11,7 +11,7 @@ use Rattle.ssb_load.specs.declared.table_intake.TableIntake.{TableIntake}
 abbrev pub subject_of : TableIntake → Subject
 subject_of t = table t.rules.items t.max_rows
 
--- it has the rows of these records, all good
+-- a table on its way has the rows of these records, all good
 pub record IsLoading (t : TableIntake) (good : List Fields) : Type 0 where
   pub count : length good ≡ t.accepted
   pub room : t.accepted ≤ t.max_rows

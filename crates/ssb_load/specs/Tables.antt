@@ -11,7 +11,7 @@ use Rattle.ssb_load.specs.declared.rule.Rule.{Rule}
 use Rattle.ssb_load.specs.declared.fault.RecordFault.{RecordFault}
 use Rattle.ssb_load.specs.declared.fault.RecordFault.TheVariants as faults
 
--- a key came before
+-- a record's key is one that came before
 abbrev pub repeats : Option ℤ → (ℤ → Bool) → Bool
 repeats None has = false
 repeats (Some z) has = has z

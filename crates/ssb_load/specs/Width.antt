@@ -4,6 +4,6 @@ use Rattle.std.specs.Prelude.{◌+◌, ◌==◌, ◌&&◌, ◌||◌, ℕ, Bool, 
 use Rattle.ssb_load.specs.Records.{Fields, field}
 use Rattle.ssb_load.specs.Rules.{is_empty}
 
--- so many fields, or one more, which is empty
+-- a record has so many fields, or one more, which is empty
 abbrev pub has_width : ℕ → Fields → Bool
 has_width n r = (length r == n) || ((length r == n + 1) && is_empty (field r n))

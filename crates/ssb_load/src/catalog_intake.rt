@@ -46,7 +46,7 @@ impl CatalogIntake {
     ghost use Rattle.ssb_load.specs.CutShort.{IfRead};
     ghost use Rattle.ssb_load.specs.Records.{Fields};
 
-    // Of no record yet.
+    // A catalog of no record yet.
     pub(crate) fn new(alloc: Global) -> CatalogIntake
         ensures { IsDrafting result [] }
     {

@@ -70,7 +70,7 @@ fn grow(buffer: &mut Vec<u8>, size: usize) -> Result<(), AllocError>
     buffer.resize(wanted, 0)
 }
 
-// Behind the last LF.
+// The place behind the last LF, where there is one.
 fn last_line(bytes: &[u8]) -> Option<usize>
     ensures inside { IfSome result (λ end. end ≤ length bytes.now) }
     ensures some { IfSome result (λ end. 0 < end) }

@@ -28,7 +28,7 @@ impl TableIntake {
     ghost use Rattle.ssb_load.specs.Rules.{columns_of};
     ghost use Rattle.ssb_load.specs.TableIntake.{IsLoading, subject_of};
 
-    // Of no row yet.
+    // A table of no row yet.
     pub(crate) fn new(
         alloc: Global,
         rules: Vec<Rule>,

@@ -18,7 +18,7 @@ all_within (Fixed s.Open ∷ ts) (suc n) h = all_within ts n (omega arith)
 all_within (Fixed s.Close ∷ ts) n h = all_within ts (suc n) (omega arith)
 all_within (t ∷ ts) n h = all_within ts n (omega arith)
 
--- both ways
+-- two statements, each of which follows from the other
 pub record Same (P Q : Type 0) : Type 0 where
   pub to : P → Q
   pub from : Q → P

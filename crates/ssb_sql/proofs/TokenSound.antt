@@ -99,7 +99,7 @@ run_is_number b bs h =
 
 -- ---- what is skipped
 
--- in a comment there is a note first
+-- what skipping leaves is these tokens; in a comment its note comes first
 abbrev pub Skips : Bool → List ℕ → List Token → Type 0
 Skips false bs ts = IsTokens bs ts
 Skips true bs ts = (note : List ℕ) × (rest : List ℕ) × (bs ≡ note ++ rest) × Each goes_on note × Stops goes_on rest × IsTokens rest ts

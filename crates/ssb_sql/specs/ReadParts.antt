@@ -16,7 +16,7 @@ column_of t n = record { table = t; column = n }
 unfoldable pub column_at : Parser ColumnName
 column_at ts = name_at ts >>= λ x. choose (after s.Dot x.1) (λ rest. name_at rest >>= λ y. Some (column_of (Some x.0) y.0, y.1)) (Some (column_of None x.0, x.1))
 
--- a number that fits, and the same below 0
+-- a number that fits in 64 bits with a sign; and one that stands behind a `-`, with that sign
 unfoldable pub small_at : Parser ℤ
 small_at ts = number_at ts >>= λ x. if nat_le x.0 9223372036854775807 then Some (pos x.0, x.1) else None
 

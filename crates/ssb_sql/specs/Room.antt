@@ -10,16 +10,16 @@ abbrev pub one_less : ℕ → Option ℕ
 one_less zero = None
 one_less (suc n) = Some n
 
--- after one token
+-- how many `(` may still be opened after one token; none where it opens one too many
 unfoldable pub room_after : ℕ → Token → Option ℕ
 room_after n t = if is_fixed s.Open t then one_less n else Some (if is_fixed s.Close t then n + 1 else n)
 
--- there is one less, and it is enough
+-- a number is not 0, and this holds of the number below it
 abbrev pub IsBelow : ℕ → (ℕ → Type 0) → Type 0
 IsBelow zero P = ⊥
 IsBelow (suc n) P = P n
 
--- n more are enough, token by token
+-- no front of the tokens opens over n more than it closes, token by token
 abbrev pub HasRoom : ℕ → List Token → Type 0
 HasRoom n [] = Unit {0}
 HasRoom n (Fixed s.Open ∷ ts) = IsBelow n (λ m. HasRoom m ts)

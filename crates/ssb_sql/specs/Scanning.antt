@@ -16,7 +16,7 @@ use Rattle.ssb_sql.specs.declared.token.Token.TheVariants.{Fixed, Name, Number, 
 use Rattle.ssb_sql.specs.Class.{class_of}
 use Rattle.ssb_sql.specs.Tokens.{begins, goes_on, is_blank, is_dash, is_quote, sign_of, value_of}
 
--- the bytes in front that are such bytes, and what follows them
+-- the bytes in front that pass a test, and what follows them
 unfoldable pub run : (ℕ → Bool) → List ℕ → List ℕ
 run p [] = []
 run p (b ∷ bs) = if p b then b ∷ run p bs else []
@@ -81,12 +81,12 @@ text_of read = read >>= λ x. Some (Text x.0, x.1)
 unfoldable pub text_token_at : List ℕ → Option (Token × List ℕ)
 text_token_at bs = text_of (text_at false bs)
 
--- behind `<`
+-- the mark that begins with `<`, by what stands behind that
 unfoldable pub less_at : List ℕ → Token × List ℕ
 less_at [] = (Fixed s.Less, [])
 less_at (b ∷ bs) = if b == 61 then (Fixed s.LessEqual, bs) else (if b == 62 then (Fixed s.NotEqual, bs) else (Fixed s.Less, b ∷ bs))
 
--- behind `>`
+-- the mark that begins with `>`, by what stands behind that
 unfoldable pub greater_at : List ℕ → Token × List ℕ
 greater_at [] = (Fixed s.Greater, [])
 greater_at (b ∷ bs) = if b == 61 then (Fixed s.GreaterEqual, bs) else (Fixed s.Greater, b ∷ bs)

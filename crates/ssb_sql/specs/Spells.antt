@@ -19,7 +19,7 @@ pub record Spells (text : List ℕ) (select : Select) : Type 0 where
 abbrev pub IsShallow : List ℕ → Type 0
 IsShallow text = (ts : List Token) → IsTokens text ts → IsWithin 64 ts
 
--- it is, and some front has
+-- the text is a list of tokens, and some front of them has over 64 more `(` than `)`
 pub record IsDeep (text : List ℕ) : Type 0 where
   pub tokens : List Token
   pub is_text : IsTokens text tokens
@@ -31,7 +31,7 @@ pub record IsRead (text : List ℕ) (select : Select) : Type 0 where
   pub shallow : IsShallow text
   pub spells : Spells text select
 
--- the text passes the others, and spells no query: it may be no list of tokens at all
+-- the text is neither too long nor too deep, and spells no query: it may be no list of tokens at all
 pub record IsNoQuery (text : List ℕ) : Type 0 where
   pub short : length text ≤ 65536
   pub shallow : IsShallow text

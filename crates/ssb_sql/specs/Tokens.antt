@@ -36,7 +36,7 @@ is_equal b = b == 61
 abbrev pub follows_less : ℕ → Bool
 follows_less b = (b == 61) || (b == 62)
 
--- each of the bytes is such a byte
+-- each of the bytes passes a test
 abbrev pub Each : (ℕ → Bool) → List ℕ → Type 0
 Each p bytes = list_all p bytes ≡ true
 
@@ -44,7 +44,7 @@ abbrev pub begins : (ℕ → Bool) → List ℕ → Bool
 begins p [] = false
 begins p (b ∷ bs) = p b
 
--- what follows does not go on with such a byte
+-- what follows does not begin with a byte that passes a test
 abbrev pub Stops : (ℕ → Bool) → List ℕ → Type 0
 Stops p rest = begins p rest ≡ false
 

@@ -54,7 +54,7 @@ fn small(tokens: &[Token]) -> Result<(i64, &[Token]), Stop>
     }
 }
 
-// Such a number, below 0.
+// A number as it stands behind a `-`: one of 0 or below that fits in 64 bits with a sign.
 #[tactic(auto, unfolding(crate::specs::ReadParts::below_at))]
 fn below(tokens: &[Token]) -> Result<(i64, &[Token]), Stop>
     ensures { Gives seen result (below_at tokens.now) }

@@ -1,11 +1,13 @@
 -- A name in lower case is a name: what makes a name ignores the case of letters.
 use Rattle.std.proofs.Common.{◌≡◌, ℕ, true, not, List, [], ◌∷◌, refl, arith}
 use Rattle.std.specs.Char.{is_ascii_alphabetic, to_ascii_lowercase}
-use Rattle.std.specs.List.{list_all, list_any}
+use Rattle.std.specs.List.{find, list_all}
 use Rattle.std.specs.Str.{str_eq_ignore_ascii_case, str_to_ascii_lowercase}
 use Rattle.std.proofs.lemmas.Bool.Decides.{nat_tests}
 use Rattle.std.proofs.lemmas.Str.Ascii.{lowercase-lowercase}
-use Rattle.ssb_cells.specs.Names.{IsLowerName, is_name, is_reserved, is_word, is_word_byte, reserved_words}
+use Rattle.ssb_cells.specs.declared.keyword.Keyword.{Keyword}
+use Rattle.ssb_cells.specs.Keywords.{keyword_of, keywords, spelling}
+use Rattle.ssb_cells.specs.Names.{IsLowerName, is_name, is_reserved, is_word, is_word_byte}
 use Rattle.ssb_cells.proofs.NameFacts.{and-both}
 
 lower-letter : (b : ℕ) → is_ascii_alphabetic b ≡ true → is_ascii_alphabetic (to_ascii_lowercase b) ≡ true
@@ -30,14 +32,18 @@ pub lower-twice : (bs : List ℕ) → str_to_ascii_lowercase (str_to_ascii_lower
 lower-twice [] = refl
 lower-twice (b ∷ bs) = rw (lowercase-lowercase b, lower-twice bs) refl
 
-same-among : (bs : List ℕ) (words : List (List ℕ)) → list_any (str_eq_ignore_ascii_case (str_to_ascii_lowercase bs)) words ≡ list_any (str_eq_ignore_ascii_case bs) words
-same-among bs [] = refl
-same-among bs (word ∷ words) = rw (lower-twice bs, same-among bs words) refl
+same-found : (bs : List ℕ) (ks : List Keyword) → find (λ k. str_eq_ignore_ascii_case (str_to_ascii_lowercase bs) (spelling k)) ks ≡ find (λ k. str_eq_ignore_ascii_case bs (spelling k)) ks
+same-found bs [] = refl
+same-found bs (k ∷ ks) = rw (lower-twice bs, same-found bs ks) refl
+
+same-keyword : (bs : List ℕ) → keyword_of (str_to_ascii_lowercase bs) ≡ keyword_of bs
+unfolding keyword_of
+same-keyword bs = same-found bs keywords
 
 pub lower-name : (bs : List ℕ) → is_name bs ≡ true → IsLowerName (str_to_ascii_lowercase bs)
 lower-name bs e =
     let both = and-both (is_word bs) (not (is_reserved bs)) e in
     record {
-      name = rw (lower-word bs both.0, same-among bs reserved_words) both.1;
+      name = rw (lower-word bs both.0, same-keyword bs) both.1;
       lower = lower-twice bs;
     }

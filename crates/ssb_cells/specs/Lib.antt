@@ -1,5 +1,6 @@
 pub mod Cell
 pub mod Compare
+pub mod Keywords
 pub mod Names
 pub mod Order
 pub mod Packed

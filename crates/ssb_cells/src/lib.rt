@@ -10,6 +10,7 @@
 #![tactic(auto)]
 
 pub mod column;
+pub mod keyword;
 pub mod name;
 pub mod order;
 pub mod owned;
@@ -19,6 +20,7 @@ pub mod truth;
 pub mod value;
 
 pub use column::Column;
+pub use keyword::{Keyword, keyword_of, spelling};
 pub use name::{Name, is_name, is_reserved, is_word_byte};
 pub use order::{compare, sort_cmp};
 pub use owned::OwnedValue;

@@ -1,17 +1,13 @@
 // Names of tables and columns.
 
 ghost use Rattle.std.specs.Prelude.{◌≡◌, true, IfOk, List, ℕ, ◌&&◌};
-ghost use Rattle.std.specs.List.{list_all, list_any};
-ghost use Rattle.std.specs.Str.{str_eq_ignore_ascii_case, str_to_ascii_lowercase};
+ghost use Rattle.std.specs.List.{list_all};
+ghost use Rattle.std.specs.Str.{str_to_ascii_lowercase};
 ghost use Rattle.ssb_cells.specs.Names.{IsLowerName, is_name, is_reserved, is_word, is_word_byte};
 
+use crate::keyword::keyword_of;
 use std::alloc::{AllocError, Global};
 use std::marker::Model;
-
-const RESERVED: [&str; 21] = [
-    "select", "from", "where", "group", "by", "order", "and", "or", "not", "between", "in", "is",
-    "null", "as", "asc", "desc", "sum", "count", "min", "max", "having",
-];
 
 /// A name in lower case, and no reserved word, seen as its bytes.
 #[derive(Debug, Drop)]
@@ -87,24 +83,11 @@ fn is_word(text: &[u8]) -> bool
     }
 }
 
-fn is_same_word(word: &[u8], other: &str) -> bool
-    ensures { result ≡ str_eq_ignore_ascii_case word.now other.now }
-{
-    word.eq_ignore_ascii_case(other.as_bytes())
-}
-
-// Whether a word is one of these, whatever the case of the letters.
-fn is_among(word: &[u8], others: &[&str]) -> bool
-    ensures { result ≡ list_any (λ other. str_eq_ignore_ascii_case word.now other.now) others.now }
-{
-    others.iter().any(|other| is_same_word(word, other))
-}
-
 /// Whether a word is reserved, whatever the case of its letters.
 pub fn is_reserved(word: &[u8]) -> bool
     ensures { result ≡ is_reserved word.now }
 {
-    is_among(word, &RESERVED)
+    keyword_of(word).is_some()
 }
 
 /// Whether a text is a name: a letter, then letters, digits and `_`, and no reserved word.

@@ -44,6 +44,7 @@ fn table(alloc: Global, name: &str, lines: &[Line]) -> Result<TableDef, AllocErr
     Ok(TableDef::new(name, columns(alloc, lines)?))
 }
 
+#[tactic(auto, unfolding(ssb_cells::specs::Keywords::keyword_of))]
 fn tables(alloc: Global) -> Result<Vec<TableDef>, AllocError>
     ensures { IfOk result (λ ts. ts.items ≡ ssb_tables) }
 {

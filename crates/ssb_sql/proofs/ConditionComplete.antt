@@ -5,6 +5,8 @@ use Rattle.ssb_cells.specs.declared.value.Op.TheVariants as op
 use Rattle.ssb_sql.specs.declared.token.Token.{Token}
 use Rattle.ssb_sql.specs.declared.token.Token.TheVariants.{Fixed, Number}
 use Rattle.ssb_sql.specs.declared.token.Sign.{Sign}
+use Rattle.ssb_cells.specs.declared.keyword.Keyword.TheVariants as words
+use Rattle.ssb_sql.specs.declared.token.Mark.TheVariants as marks
 use Rattle.ssb_sql.specs.declared.token.Sign.TheVariants as s
 use Rattle.ssb_sql.specs.declared.expr.ColumnName.{ColumnName}
 use Rattle.ssb_sql.specs.declared.condition.Literal.{Literal}
@@ -37,30 +39,30 @@ use Rattle.ssb_sql.proofs.ConditionSound.{conj_within, neg_within, conj_shorter,
 
 -- what may follow a condition
 pub record EndsCond (to : List Token) : Type 0 where
-  pub dot : Stops s.Dot to
-  pub and : Stops s.And to
-  pub or : Stops s.Or to
+  pub dot : Stops (s.Mark marks.Dot) to
+  pub and : Stops (s.Word words.And) to
+  pub or : Stops (s.Word words.Or) to
 
-close_ends : (to : List Token) → EndsCond (Fixed s.Close ∷ to)
+close_ends : (to : List Token) → EndsCond (Fixed (s.Mark marks.Close) ∷ to)
 close_ends to = record {
-  dot = stops s.Close s.Dot to (differs s.Close s.Dot refl);
-  and = stops s.Close s.And to (differs s.Close s.And refl);
-  or = stops s.Close s.Or to (differs s.Close s.Or refl);
+  dot = stops (s.Mark marks.Close) (s.Mark marks.Dot) to (differs (s.Mark marks.Close) (s.Mark marks.Dot) refl);
+  and = stops (s.Mark marks.Close) (s.Word words.And) to (differs (s.Mark marks.Close) (s.Word words.And) refl);
+  or = stops (s.Mark marks.Close) (s.Word words.Or) to (differs (s.Mark marks.Close) (s.Word words.Or) refl);
 }
 
 -- how things begin
-literal_begins : {from to : List Token} {x : Literal} → IsLiteral from to x → (sign : Sign) → is_sign s.Plus sign ≡ false → is_sign s.Minus sign ≡ false → Stops sign from
+literal_begins : {from to : List Token} {x : Literal} → IsLiteral from to x → (sign : Sign) → is_sign (s.Mark marks.Plus) sign ≡ false → is_sign (s.Mark marks.Minus) sign ≡ false → Stops sign from
 unfolding after is_fixed
 literal_begins (number h) sign p m = refl
-literal_begins (positive {to = to} {n = n} h) sign p m = stops s.Plus sign (Number n ∷ to) p
-literal_begins (negative {to = to} {n = n} h) sign p m = stops s.Minus sign (Number n ∷ to) m
+literal_begins (positive {to = to} {n = n} h) sign p m = stops (s.Mark marks.Plus) sign (Number n ∷ to) p
+literal_begins (negative {to = to} {n = n} h) sign p m = stops (s.Mark marks.Minus) sign (Number n ∷ to) m
 literal_begins text sign p m = refl
 
-operand_begins : {from to : List Token} {x : Operand} → IsOperand from to x → (sign : Sign) → is_sign s.Plus sign ≡ false → is_sign s.Minus sign ≡ false → Stops sign from
+operand_begins : {from to : List Token} {x : Operand} → IsOperand from to x → (sign : Sign) → is_sign (s.Mark marks.Plus) sign ≡ false → is_sign (s.Mark marks.Minus) sign ≡ false → Stops sign from
 operand_begins (column a) sign p m = column_begins a sign
 operand_begins (literal a) sign p m = literal_begins a sign p m
 
-bare_begins : {from to : List Token} {x : Condition} → IsTested from to x → (sign : Sign) → is_sign s.Plus sign ≡ false → is_sign s.Minus sign ≡ false → Stops sign from
+bare_begins : {from to : List Token} {x : Condition} → IsTested from to x → (sign : Sign) → is_sign (s.Mark marks.Plus) sign ≡ false → is_sign (s.Mark marks.Minus) sign ≡ false → Stops sign from
 bare_begins (compare a b) sign p m = operand_begins a sign p m
 bare_begins (between a b g) sign p m = operand_begins a sign p m
 bare_begins (not_between a b g) sign p m = operand_begins a sign p m
@@ -69,15 +71,15 @@ bare_begins (not_among a b) sign p m = operand_begins a sign p m
 bare_begins (null a) sign p m = column_begins a sign
 bare_begins (not_null a) sign p m = column_begins a sign
 
-test_begins : {from to : List Token} {x : Condition} → IsTest IsTested from to x → Stops s.Not from
-test_begins (parens {from = from} a) = stops s.Open s.Not from (differs s.Open s.Not refl)
-test_begins (bare a) = bare_begins a s.Not (differs s.Plus s.Not refl) (differs s.Minus s.Not refl)
+test_begins : {from to : List Token} {x : Condition} → IsTest IsTested from to x → Stops (s.Word words.Not) from
+test_begins (parens {from = from} a) = stops (s.Mark marks.Open) (s.Word words.Not) from (differs (s.Mark marks.Open) (s.Word words.Not) refl)
+test_begins (bare a) = bare_begins a (s.Word words.Not) (differs (s.Mark marks.Plus) (s.Word words.Not) refl) (differs (s.Mark marks.Minus) (s.Word words.Not) refl)
 
 -- the parts of a test
-no_dot : (sign : Sign) (ts : List Token) → is_sign sign s.Dot ≡ false → Stops s.Dot (Fixed sign ∷ ts)
-no_dot sign ts h = stops sign s.Dot ts h
+no_dot : (sign : Sign) (ts : List Token) → is_sign sign (s.Mark marks.Dot) ≡ false → Stops (s.Mark marks.Dot) (Fixed sign ∷ ts)
+no_dot sign ts h = stops sign (s.Mark marks.Dot) ts h
 
-op_read : (y : Op) (ts : List Token) → op_at (Fixed (mark_of y) ∷ ts) ≡ Some (y, ts)
+op_read : (y : Op) (ts : List Token) → op_at (Fixed (s.Mark (mark_of y)) ∷ ts) ≡ Some (y, ts)
 unfolding op_at after is_fixed is_sign
 op_read op.Eq ts = refl
 op_read op.Ne ts = refl
@@ -87,8 +89,8 @@ op_read op.Gt ts = refl
 op_read op.Ge ts = refl
 
 -- an operator is neither NOT nor IS, and no dot
-mark_differs : (y : Op) (sign : Sign) → is_sign s.Equal sign ≡ false → is_sign s.NotEqual sign ≡ false → is_sign s.Less sign ≡ false → is_sign s.LessEqual sign ≡ false
-    → is_sign s.Greater sign ≡ false → is_sign s.GreaterEqual sign ≡ false → is_sign (mark_of y) sign ≡ false
+mark_differs : (y : Op) (sign : Sign) → is_sign (s.Mark marks.Equal) sign ≡ false → is_sign (s.Mark marks.NotEqual) sign ≡ false → is_sign (s.Mark marks.Less) sign ≡ false → is_sign (s.Mark marks.LessEqual) sign ≡ false
+    → is_sign (s.Mark marks.Greater) sign ≡ false → is_sign (s.Mark marks.GreaterEqual) sign ≡ false → is_sign (s.Mark (mark_of y)) sign ≡ false
 mark_differs op.Eq sign a b d e f g = a
 mark_differs op.Ne sign a b d e f g = b
 mark_differs op.Lt sign a b d e f g = d
@@ -96,17 +98,17 @@ mark_differs op.Le sign a b d e f g = e
 mark_differs op.Gt sign a b d e f g = f
 mark_differs op.Ge sign a b d e f g = g
 
-mark_is_no : (y : Op) → (is_sign (mark_of y) s.Dot ≡ false) × (is_sign (mark_of y) s.Not ≡ false) × (is_sign (mark_of y) s.Is ≡ false)
+mark_is_no : (y : Op) → (is_sign (s.Mark (mark_of y)) (s.Mark marks.Dot) ≡ false) × (is_sign (s.Mark (mark_of y)) (s.Word words.Not) ≡ false) × (is_sign (s.Mark (mark_of y)) (s.Word words.Is) ≡ false)
 unfolding is_sign
-mark_is_no y = (mark_differs y s.Dot refl refl refl refl refl refl, mark_differs y s.Not refl refl refl refl refl refl, mark_differs y s.Is refl refl refl refl refl refl)
+mark_is_no y = (mark_differs y (s.Mark marks.Dot) refl refl refl refl refl refl, mark_differs y (s.Word words.Not) refl refl refl refl refl refl, mark_differs y (s.Word words.Is) refl refl refl refl refl refl)
 
 bare_goes : (ts mid : List Token) (y : Operand) (r : Option (Condition × List Token)) → operand_at ts ≡ Some (y, mid) → tail_at y mid ≡ r → bare_at ts ≡ r
 unfolding bare_at
 bare_goes ts mid y r e f = rw e f
 
-limits_goes : {low high to : List Token} {y z : Operand} → IsOperand low (Fixed s.And ∷ high) y → IsOperand high to z → Stops s.Dot to → limits_at low ≡ Some ((y, z), to)
+limits_goes : {low high to : List Token} {y z : Operand} → IsOperand low (Fixed (s.Word words.And) ∷ high) y → IsOperand high to z → Stops (s.Mark marks.Dot) to → limits_at low ≡ Some ((y, z), to)
 unfolding limits_at
-limits_goes {high = high} a b n = rw (operand_read a (no_dot s.And high (differs s.And s.Dot refl)), sees s.And high, operand_read b n) refl
+limits_goes {high = high} a b n = rw (operand_read a (no_dot (s.Word words.And) high (differs (s.Word words.And) (s.Mark marks.Dot) refl)), sees (s.Word words.And) high, operand_read b n) refl
 
 any_end : GoesOn (λ to. Unit {0})
 any_end = record { comma = λ ts. tt }
@@ -114,148 +116,148 @@ any_end = record { comma = λ ts. tt }
 complete_literal : (d : ℕ) → Complete literal_at IsLiteral d (λ to. Unit {0})
 complete_literal d = record { by = λ h w f. literal_read h }
 
-members_goes : {mid to : List Token} {ys : List Literal} → IsList IsLiteral mid (Fixed s.Close ∷ to) ys → members_at (Fixed s.Open ∷ mid) ≡ Some (ys, to)
+members_goes : {mid to : List Token} {ys : List Literal} → IsList IsLiteral mid (Fixed (s.Mark marks.Close) ∷ to) ys → members_at (Fixed (s.Mark marks.Open) ∷ mid) ≡ Some (ys, to)
 unfolding parens_at
 members_goes {mid = mid} {to = to} {ys = ys} h =
     let d = length mid in
-    rw (sees s.Open mid) (closed_read (list_at literal_at) mid to ys
-    (list_read literal_at IsLiteral tame_literal d (λ to. Unit {0}) any_end (complete_literal d) h (all_within mid d (omega arith)) tt (stops s.Close s.Comma to (differs s.Close s.Comma refl))))
+    rw (sees (s.Mark marks.Open) mid) (closed_read (list_at literal_at) mid to ys
+    (list_read literal_at IsLiteral tame_literal d (λ to. Unit {0}) any_end (complete_literal d) h (all_within mid d (omega arith)) tt (stops (s.Mark marks.Close) (s.Mark marks.Comma) to (differs (s.Mark marks.Close) (s.Mark marks.Comma) refl))))
 
-between_goes : (negated : Bool) (x : Operand) (low to : List Token) (l : Operand × Operand) → limits_at low ≡ Some (l, to) → range_at negated x (Fixed s.Between ∷ low) ≡ Some (between_of negated x l, to)
+between_goes : (negated : Bool) (x : Operand) (low to : List Token) (l : Operand × Operand) → limits_at low ≡ Some (l, to) → range_at negated x (Fixed (s.Word words.Between) ∷ low) ≡ Some (between_of negated x l, to)
 unfolding range_at
-between_goes negated x low to l e = rw (sees s.Between low, e) refl
+between_goes negated x low to l e = rw (sees (s.Word words.Between) low, e) refl
 
-in_goes : (negated : Bool) (x : Operand) (rest to : List Token) (ys : List Literal) → members_at rest ≡ Some (ys, to) → range_at negated x (Fixed s.In ∷ rest) ≡ Some (in_of negated x ys, to)
+in_goes : (negated : Bool) (x : Operand) (rest to : List Token) (ys : List Literal) → members_at rest ≡ Some (ys, to) → range_at negated x (Fixed (s.Word words.In) ∷ rest) ≡ Some (in_of negated x ys, to)
 unfolding range_at
-in_goes negated x rest to ys e = rw (stops s.In s.Between rest (differs s.In s.Between refl), sees s.In rest, e) refl
+in_goes negated x rest to ys e = rw (stops (s.Word words.In) (s.Word words.Between) rest (differs (s.Word words.In) (s.Word words.Between) refl), sees (s.Word words.In) rest, e) refl
 
 -- NOT before BETWEEN or IN
-negated_goes : (x : Operand) (rest : List Token) (r : Option (Condition × List Token)) → range_at true x rest ≡ r → tail_at x (Fixed s.Not ∷ rest) ≡ r
+negated_goes : (x : Operand) (rest : List Token) (r : Option (Condition × List Token)) → range_at true x rest ≡ r → tail_at x (Fixed (s.Word words.Not) ∷ rest) ≡ r
 unfolding tail_at
-negated_goes x rest r e = rw (sees s.Not rest) e
+negated_goes x rest r e = rw (sees (s.Word words.Not) rest) e
 
-op_stops : (found : Sign) (ts : List Token) → is_sign found s.Equal ≡ false → is_sign found s.NotEqual ≡ false → is_sign found s.Less ≡ false → is_sign found s.LessEqual ≡ false
-    → is_sign found s.Greater ≡ false → is_sign found s.GreaterEqual ≡ false → op_at (Fixed found ∷ ts) ≡ None
+op_stops : (found : Sign) (ts : List Token) → is_sign found (s.Mark marks.Equal) ≡ false → is_sign found (s.Mark marks.NotEqual) ≡ false → is_sign found (s.Mark marks.Less) ≡ false → is_sign found (s.Mark marks.LessEqual) ≡ false
+    → is_sign found (s.Mark marks.Greater) ≡ false → is_sign found (s.Mark marks.GreaterEqual) ≡ false → op_at (Fixed found ∷ ts) ≡ None
 unfolding op_at
 op_stops found ts a b d e f g =
-    rw (stops found s.Equal ts a, stops found s.NotEqual ts b, stops found s.Less ts d, stops found s.LessEqual ts e, stops found s.Greater ts f, stops found s.GreaterEqual ts g) refl
+    rw (stops found (s.Mark marks.Equal) ts a, stops found (s.Mark marks.NotEqual) ts b, stops found (s.Mark marks.Less) ts d, stops found (s.Mark marks.LessEqual) ts e, stops found (s.Mark marks.Greater) ts f, stops found (s.Mark marks.GreaterEqual) ts g) refl
 
 -- BETWEEN or IN with no NOT
-range_goes : (found : Sign) (x : Operand) (ts : List Token) (r : Option (Condition × List Token)) → is_sign found s.Not ≡ false → is_sign found s.Is ≡ false → op_at (Fixed found ∷ ts) ≡ None
+range_goes : (found : Sign) (x : Operand) (ts : List Token) (r : Option (Condition × List Token)) → is_sign found (s.Word words.Not) ≡ false → is_sign found (s.Word words.Is) ≡ false → op_at (Fixed found ∷ ts) ≡ None
     → range_at false x (Fixed found ∷ ts) ≡ r → tail_at x (Fixed found ∷ ts) ≡ r
 unfolding tail_at compared_at
-range_goes found x ts r n i h e = rw (stops found s.Not ts n, stops found s.Is ts i, h) e
+range_goes found x ts r n i h e = rw (stops found (s.Word words.Not) ts n, stops found (s.Word words.Is) ts i, h) e
 
-compared_goes : (y : Op) (x z : Operand) (ts to : List Token) → operand_at ts ≡ Some (z, to) → tail_at x (Fixed (mark_of y) ∷ ts) ≡ Some (c.Compare y x z, to)
+compared_goes : (y : Op) (x z : Operand) (ts to : List Token) → operand_at ts ≡ Some (z, to) → tail_at x (Fixed (s.Mark (mark_of y)) ∷ ts) ≡ Some (c.Compare y x z, to)
 unfolding tail_at compared_at
 compared_goes y x z ts to e =
     let no = mark_is_no y in
-    rw (stops (mark_of y) s.Not ts no.1, stops (mark_of y) s.Is ts no.2, op_read y ts, e) refl
+    rw (stops (s.Mark (mark_of y)) (s.Word words.Not) ts no.1, stops (s.Mark (mark_of y)) (s.Word words.Is) ts no.2, op_read y ts, e) refl
 
-null_goes : (x : ColumnName) (to : List Token) → tail_at (o.Column x) (Fixed s.Is ∷ Fixed s.Null ∷ to) ≡ Some (c.IsNull x, to)
+null_goes : (x : ColumnName) (to : List Token) → tail_at (o.Column x) (Fixed (s.Word words.Is) ∷ Fixed (s.Word words.Null) ∷ to) ≡ Some (c.IsNull x, to)
 unfolding tail_at null_at
 null_goes x to =
-    rw (stops s.Is s.Not (Fixed s.Null ∷ to) (differs s.Is s.Not refl), sees s.Is (Fixed s.Null ∷ to), stops s.Null s.Not to (differs s.Null s.Not refl), sees s.Null to) refl
+    rw (stops (s.Word words.Is) (s.Word words.Not) (Fixed (s.Word words.Null) ∷ to) (differs (s.Word words.Is) (s.Word words.Not) refl), sees (s.Word words.Is) (Fixed (s.Word words.Null) ∷ to), stops (s.Word words.Null) (s.Word words.Not) to (differs (s.Word words.Null) (s.Word words.Not) refl), sees (s.Word words.Null) to) refl
 
-not_null_goes : (x : ColumnName) (to : List Token) → tail_at (o.Column x) (Fixed s.Is ∷ Fixed s.Not ∷ Fixed s.Null ∷ to) ≡ Some (c.IsNotNull x, to)
+not_null_goes : (x : ColumnName) (to : List Token) → tail_at (o.Column x) (Fixed (s.Word words.Is) ∷ Fixed (s.Word words.Not) ∷ Fixed (s.Word words.Null) ∷ to) ≡ Some (c.IsNotNull x, to)
 unfolding tail_at null_at
 not_null_goes x to =
-    rw (stops s.Is s.Not (Fixed s.Not ∷ Fixed s.Null ∷ to) (differs s.Is s.Not refl), sees s.Is (Fixed s.Not ∷ Fixed s.Null ∷ to), sees s.Not (Fixed s.Null ∷ to), sees s.Null to) refl
+    rw (stops (s.Word words.Is) (s.Word words.Not) (Fixed (s.Word words.Not) ∷ Fixed (s.Word words.Null) ∷ to) (differs (s.Word words.Is) (s.Word words.Not) refl), sees (s.Word words.Is) (Fixed (s.Word words.Not) ∷ Fixed (s.Word words.Null) ∷ to), sees (s.Word words.Not) (Fixed (s.Word words.Null) ∷ to), sees (s.Word words.Null) to) refl
 
-between_stops : (ts : List Token) → op_at (Fixed s.Between ∷ ts) ≡ None
+between_stops : (ts : List Token) → op_at (Fixed (s.Word words.Between) ∷ ts) ≡ None
 unfolding is_sign
-between_stops ts = op_stops s.Between ts refl refl refl refl refl refl
+between_stops ts = op_stops (s.Word words.Between) ts refl refl refl refl refl refl
 
-in_stops : (ts : List Token) → op_at (Fixed s.In ∷ ts) ≡ None
+in_stops : (ts : List Token) → op_at (Fixed (s.Word words.In) ∷ ts) ≡ None
 unfolding is_sign
-in_stops ts = op_stops s.In ts refl refl refl refl refl refl
+in_stops ts = op_stops (s.Word words.In) ts refl refl refl refl refl refl
 
-pub bare_read : {from to : List Token} {x : Condition} → IsTested from to x → Stops s.Dot to → bare_at from ≡ Some (x, to)
+pub bare_read : {from to : List Token} {x : Condition} → IsTested from to x → Stops (s.Mark marks.Dot) to → bare_at from ≡ Some (x, to)
 bare_read (compare {from = from} {mid = mid} {to = to} {op = y} {x = x} {y = z} a b) n =
     let no = mark_is_no y in
-    bare_goes from (Fixed (mark_of y) ∷ mid) x (Some (c.Compare y x z, to)) (operand_read a (no_dot (mark_of y) mid no.0)) (compared_goes y x z mid to (operand_read b n))
+    bare_goes from (Fixed (s.Mark (mark_of y)) ∷ mid) x (Some (c.Compare y x z, to)) (operand_read a (no_dot (s.Mark (mark_of y)) mid no.0)) (compared_goes y x z mid to (operand_read b n))
 bare_read (between {from = from} {low = low} {to = to} {x = x} {y = y} {z = z} a b g) n =
-    bare_goes from (Fixed s.Between ∷ low) x (Some (c.Between x y z, to)) (operand_read a (no_dot s.Between low (differs s.Between s.Dot refl)))
-    (range_goes s.Between x low (Some (c.Between x y z, to)) (differs s.Between s.Not refl) (differs s.Between s.Is refl) (between_stops low) (between_goes false x low to (y, z) (limits_goes b g n)))
+    bare_goes from (Fixed (s.Word words.Between) ∷ low) x (Some (c.Between x y z, to)) (operand_read a (no_dot (s.Word words.Between) low (differs (s.Word words.Between) (s.Mark marks.Dot) refl)))
+    (range_goes (s.Word words.Between) x low (Some (c.Between x y z, to)) (differs (s.Word words.Between) (s.Word words.Not) refl) (differs (s.Word words.Between) (s.Word words.Is) refl) (between_stops low) (between_goes false x low to (y, z) (limits_goes b g n)))
 bare_read (not_between {from = from} {low = low} {to = to} {x = x} {y = y} {z = z} a b g) n =
-    bare_goes from (Fixed s.Not ∷ Fixed s.Between ∷ low) x (Some (c.NotBetween x y z, to)) (operand_read a (no_dot s.Not (Fixed s.Between ∷ low) (differs s.Not s.Dot refl)))
-    (negated_goes x (Fixed s.Between ∷ low) (Some (c.NotBetween x y z, to)) (between_goes true x low to (y, z) (limits_goes b g n)))
+    bare_goes from (Fixed (s.Word words.Not) ∷ Fixed (s.Word words.Between) ∷ low) x (Some (c.NotBetween x y z, to)) (operand_read a (no_dot (s.Word words.Not) (Fixed (s.Word words.Between) ∷ low) (differs (s.Word words.Not) (s.Mark marks.Dot) refl)))
+    (negated_goes x (Fixed (s.Word words.Between) ∷ low) (Some (c.NotBetween x y z, to)) (between_goes true x low to (y, z) (limits_goes b g n)))
 bare_read (among {from = from} {mid = mid} {to = to} {x = x} {ys = ys} a b) n =
-    bare_goes from (Fixed s.In ∷ Fixed s.Open ∷ mid) x (Some (c.In x ys, to)) (operand_read a (no_dot s.In (Fixed s.Open ∷ mid) (differs s.In s.Dot refl)))
-    (range_goes s.In x (Fixed s.Open ∷ mid) (Some (c.In x ys, to)) (differs s.In s.Not refl) (differs s.In s.Is refl) (in_stops (Fixed s.Open ∷ mid)) (in_goes false x (Fixed s.Open ∷ mid) to ys (members_goes b)))
+    bare_goes from (Fixed (s.Word words.In) ∷ Fixed (s.Mark marks.Open) ∷ mid) x (Some (c.In x ys, to)) (operand_read a (no_dot (s.Word words.In) (Fixed (s.Mark marks.Open) ∷ mid) (differs (s.Word words.In) (s.Mark marks.Dot) refl)))
+    (range_goes (s.Word words.In) x (Fixed (s.Mark marks.Open) ∷ mid) (Some (c.In x ys, to)) (differs (s.Word words.In) (s.Word words.Not) refl) (differs (s.Word words.In) (s.Word words.Is) refl) (in_stops (Fixed (s.Mark marks.Open) ∷ mid)) (in_goes false x (Fixed (s.Mark marks.Open) ∷ mid) to ys (members_goes b)))
 bare_read (not_among {from = from} {mid = mid} {to = to} {x = x} {ys = ys} a b) n =
-    bare_goes from (Fixed s.Not ∷ Fixed s.In ∷ Fixed s.Open ∷ mid) x (Some (c.NotIn x ys, to)) (operand_read a (no_dot s.Not (Fixed s.In ∷ Fixed s.Open ∷ mid) (differs s.Not s.Dot refl)))
-    (negated_goes x (Fixed s.In ∷ Fixed s.Open ∷ mid) (Some (c.NotIn x ys, to)) (in_goes true x (Fixed s.Open ∷ mid) to ys (members_goes b)))
+    bare_goes from (Fixed (s.Word words.Not) ∷ Fixed (s.Word words.In) ∷ Fixed (s.Mark marks.Open) ∷ mid) x (Some (c.NotIn x ys, to)) (operand_read a (no_dot (s.Word words.Not) (Fixed (s.Word words.In) ∷ Fixed (s.Mark marks.Open) ∷ mid) (differs (s.Word words.Not) (s.Mark marks.Dot) refl)))
+    (negated_goes x (Fixed (s.Word words.In) ∷ Fixed (s.Mark marks.Open) ∷ mid) (Some (c.NotIn x ys, to)) (in_goes true x (Fixed (s.Mark marks.Open) ∷ mid) to ys (members_goes b)))
 bare_read (null {from = from} {to = to} {x = x} a) n =
-    bare_goes from (Fixed s.Is ∷ Fixed s.Null ∷ to) (o.Column x) (Some (c.IsNull x, to)) (operand_read (column a) (no_dot s.Is (Fixed s.Null ∷ to) (differs s.Is s.Dot refl))) (null_goes x to)
+    bare_goes from (Fixed (s.Word words.Is) ∷ Fixed (s.Word words.Null) ∷ to) (o.Column x) (Some (c.IsNull x, to)) (operand_read (column a) (no_dot (s.Word words.Is) (Fixed (s.Word words.Null) ∷ to) (differs (s.Word words.Is) (s.Mark marks.Dot) refl))) (null_goes x to)
 bare_read (not_null {from = from} {to = to} {x = x} a) n =
-    bare_goes from (Fixed s.Is ∷ Fixed s.Not ∷ Fixed s.Null ∷ to) (o.Column x) (Some (c.IsNotNull x, to)) (operand_read (column a) (no_dot s.Is (Fixed s.Not ∷ Fixed s.Null ∷ to) (differs s.Is s.Dot refl))) (not_null_goes x to)
+    bare_goes from (Fixed (s.Word words.Is) ∷ Fixed (s.Word words.Not) ∷ Fixed (s.Word words.Null) ∷ to) (o.Column x) (Some (c.IsNotNull x, to)) (operand_read (column a) (no_dot (s.Word words.Is) (Fixed (s.Word words.Not) ∷ Fixed (s.Word words.Null) ∷ to) (differs (s.Word words.Is) (s.Mark marks.Dot) refl))) (not_null_goes x to)
 
 -- one reader from another
-untested_goes : (p : Parser Condition) (ts to : List Token) (x : Condition) → Stops s.Open ts → bare_at ts ≡ Some (x, to) → test_at p ts ≡ Some (x, to)
+untested_goes : (p : Parser Condition) (ts to : List Token) (x : Condition) → Stops (s.Mark marks.Open) ts → bare_at ts ≡ Some (x, to) → test_at p ts ≡ Some (x, to)
 unfolding test_at
 untested_goes p ts to x h e = rw h e
 
-parens_goes : (p : Parser Condition) (ts to : List Token) (x : Condition) → p ts ≡ Some (x, Fixed s.Close ∷ to) → test_at p (Fixed s.Open ∷ ts) ≡ Some (x, to)
+parens_goes : (p : Parser Condition) (ts to : List Token) (x : Condition) → p ts ≡ Some (x, Fixed (s.Mark marks.Close) ∷ to) → test_at p (Fixed (s.Mark marks.Open) ∷ ts) ≡ Some (x, to)
 unfolding test_at
-parens_goes p ts to x e = rw (sees s.Open ts) (closed_read p ts to x e)
+parens_goes p ts to x e = rw (sees (s.Mark marks.Open) ts) (closed_read p ts to x e)
 
-plain_goes : (p : Parser Condition) (ts to : List Token) (x : Condition) → Stops s.Not ts → test_at p ts ≡ Some (x, to) → neg_at p ts ≡ Some (x, to)
+plain_goes : (p : Parser Condition) (ts to : List Token) (x : Condition) → Stops (s.Word words.Not) ts → test_at p ts ≡ Some (x, to) → neg_at p ts ≡ Some (x, to)
 unfolding neg_at
 plain_goes p ts to x h e = rw h e
 
-not_goes : (p : Parser Condition) (ts to : List Token) (x : Condition) → test_at p ts ≡ Some (x, to) → neg_at p (Fixed s.Not ∷ ts) ≡ Some (c.Not x, to)
+not_goes : (p : Parser Condition) (ts to : List Token) (x : Condition) → test_at p ts ≡ Some (x, to) → neg_at p (Fixed (s.Word words.Not) ∷ ts) ≡ Some (c.Not x, to)
 unfolding neg_at
-not_goes p ts to x e = rw (sees s.Not ts, e) refl
+not_goes p ts to x e = rw (sees (s.Word words.Not) ts, e) refl
 
-conj_goes : (p : Parser Condition) (ts mid to : List Token) (x : Condition) (xs : List Condition) → neg_at p ts ≡ Some (x, mid) → more_at (after s.And) (neg_at p) (x ∷ []) mid ≡ Some (x ∷ xs, to) → conj_at p ts ≡ Some (and_chain (x ∷ xs), to)
+conj_goes : (p : Parser Condition) (ts mid to : List Token) (x : Condition) (xs : List Condition) → neg_at p ts ≡ Some (x, mid) → more_at (after (s.Word words.And)) (neg_at p) (x ∷ []) mid ≡ Some (x ∷ xs, to) → conj_at p ts ≡ Some (and_chain (x ∷ xs), to)
 unfolding conj_at chained_at
 conj_goes p ts mid to x xs e f = rw (e, f) refl
 
-disj_goes : (d : ℕ) (ts mid to : List Token) (x : Condition) (xs : List Condition) → conj_at (cond_at d) ts ≡ Some (x, mid) → more_at (after s.Or) (conj_at (cond_at d)) (x ∷ []) mid ≡ Some (x ∷ xs, to) → cond_at (suc d) ts ≡ Some (or_chain (x ∷ xs), to)
+disj_goes : (d : ℕ) (ts mid to : List Token) (x : Condition) (xs : List Condition) → conj_at (cond_at d) ts ≡ Some (x, mid) → more_at (after (s.Word words.Or)) (conj_at (cond_at d)) (x ∷ []) mid ≡ Some (x ∷ xs, to) → cond_at (suc d) ts ≡ Some (or_chain (x ∷ xs), to)
 unfolding cond_at chained_at
 disj_goes d ts mid to x xs e f = rw (e, f) refl
 
-ors_end : {from to : List Token} {xs : List Condition} → IsOrs IsTested from to xs → (sign : Sign) → is_sign s.Or sign ≡ false → Stops sign to → Stops sign from
+ors_end : {from to : List Token} {xs : List Condition} → IsOrs IsTested from to xs → (sign : Sign) → is_sign (s.Word words.Or) sign ≡ false → Stops sign to → Stops sign from
 ors_end no_or sign p h = h
-ors_end (or {from = from} a b) sign p h = stops s.Or sign from p
+ors_end (or {from = from} a b) sign p h = stops (s.Word words.Or) sign from p
 
-ands_end : {from to : List Token} {xs : List Condition} → IsAnds IsTested from to xs → (sign : Sign) → is_sign s.And sign ≡ false → Stops sign to → Stops sign from
+ands_end : {from to : List Token} {xs : List Condition} → IsAnds IsTested from to xs → (sign : Sign) → is_sign (s.Word words.And) sign ≡ false → Stops sign to → Stops sign from
 ands_end no_and sign p h = h
-ands_end (and {from = from} a b) sign p h = stops s.And sign from p
+ands_end (and {from = from} a b) sign p h = stops (s.Word words.And) sign from p
 
 mutual
   pub cond_read : {from to : List Token} {x : Condition} → IsCond IsTested from to x → (d : ℕ) → HasRoom d from → EndsCond to → cond_at (suc d) from ≡ Some (x, to)
   cond_read (cond {from = from} {mid = mid} {to = to} {x = x} {xs = xs} a b) d h z =
-      disj_goes d from mid to x xs (conj_read a d h (ors_end b s.Dot (differs s.Or s.Dot refl) z.dot) (ors_end b s.And (differs s.Or s.And refl) z.and))
-      (more_goes (after s.Or) (conj_at (cond_at d)) (x ∷ []) xs mid to (ors_read b d (length mid) (conj_within a d h) (omega arith) z))
+      disj_goes d from mid to x xs (conj_read a d h (ors_end b (s.Mark marks.Dot) (differs (s.Word words.Or) (s.Mark marks.Dot) refl) z.dot) (ors_end b (s.Word words.And) (differs (s.Word words.Or) (s.Word words.And) refl) z.and))
+      (more_goes (after (s.Word words.Or)) (conj_at (cond_at d)) (x ∷ []) xs mid to (ors_read b d (length mid) (conj_within a d h) (omega arith) z))
 
-  pub ors_read : {from to : List Token} {xs : List Condition} → IsOrs IsTested from to xs → (d k : ℕ) → HasRoom d from → length from ≤ k → EndsCond to → chain_at (after s.Or) (conj_at (cond_at d)) k from ≡ Some (xs, to)
-  ors_read (no_or {to = to}) d k h l z = turn_done (after s.Or) (conj_at (cond_at d)) k to z.or
+  pub ors_read : {from to : List Token} {xs : List Condition} → IsOrs IsTested from to xs → (d k : ℕ) → HasRoom d from → length from ≤ k → EndsCond to → chain_at (after (s.Word words.Or)) (conj_at (cond_at d)) k from ≡ Some (xs, to)
+  ors_read (no_or {to = to}) d k h l z = turn_done (after (s.Word words.Or)) (conj_at (cond_at d)) k to z.or
   ors_read (or a b) d zero h l z = absurd (omega arith)
   ors_read (or {from = from} {mid = mid} {to = to} {x = x} {xs = xs} a b) d (suc k) h l z =
       let lt = conj_shorter a in
-      turn_goes (after s.Or) (conj_at (cond_at d)) k (Fixed s.Or ∷ from) mid to from x xs (sees s.Or from)
-      (conj_read a d h (ors_end b s.Dot (differs s.Or s.Dot refl) z.dot) (ors_end b s.And (differs s.Or s.And refl) z.and)) (ors_read b d k (conj_within a d h) (omega arith) z)
+      turn_goes (after (s.Word words.Or)) (conj_at (cond_at d)) k (Fixed (s.Word words.Or) ∷ from) mid to from x xs (sees (s.Word words.Or) from)
+      (conj_read a d h (ors_end b (s.Mark marks.Dot) (differs (s.Word words.Or) (s.Mark marks.Dot) refl) z.dot) (ors_end b (s.Word words.And) (differs (s.Word words.Or) (s.Word words.And) refl) z.and)) (ors_read b d k (conj_within a d h) (omega arith) z)
 
-  pub conj_read : {from to : List Token} {x : Condition} → IsConj IsTested from to x → (d : ℕ) → HasRoom d from → Stops s.Dot to → Stops s.And to → conj_at (cond_at d) from ≡ Some (x, to)
+  pub conj_read : {from to : List Token} {x : Condition} → IsConj IsTested from to x → (d : ℕ) → HasRoom d from → Stops (s.Mark marks.Dot) to → Stops (s.Word words.And) to → conj_at (cond_at d) from ≡ Some (x, to)
   conj_read (conj {from = from} {mid = mid} {to = to} {x = x} {xs = xs} a b) d h n m =
-      conj_goes (cond_at d) from mid to x xs (neg_read a d h (ands_end b s.Dot (differs s.And s.Dot refl) n))
-      (more_goes (after s.And) (neg_at (cond_at d)) (x ∷ []) xs mid to (ands_read b d (length mid) (neg_within a d h) (omega arith) n m))
+      conj_goes (cond_at d) from mid to x xs (neg_read a d h (ands_end b (s.Mark marks.Dot) (differs (s.Word words.And) (s.Mark marks.Dot) refl) n))
+      (more_goes (after (s.Word words.And)) (neg_at (cond_at d)) (x ∷ []) xs mid to (ands_read b d (length mid) (neg_within a d h) (omega arith) n m))
 
-  pub ands_read : {from to : List Token} {xs : List Condition} → IsAnds IsTested from to xs → (d k : ℕ) → HasRoom d from → length from ≤ k → Stops s.Dot to → Stops s.And to → chain_at (after s.And) (neg_at (cond_at d)) k from ≡ Some (xs, to)
-  ands_read (no_and {to = to}) d k h l n m = turn_done (after s.And) (neg_at (cond_at d)) k to m
+  pub ands_read : {from to : List Token} {xs : List Condition} → IsAnds IsTested from to xs → (d k : ℕ) → HasRoom d from → length from ≤ k → Stops (s.Mark marks.Dot) to → Stops (s.Word words.And) to → chain_at (after (s.Word words.And)) (neg_at (cond_at d)) k from ≡ Some (xs, to)
+  ands_read (no_and {to = to}) d k h l n m = turn_done (after (s.Word words.And)) (neg_at (cond_at d)) k to m
   ands_read (and a b) d zero h l n m = absurd (omega arith)
   ands_read (and {from = from} {mid = mid} {to = to} {x = x} {xs = xs} a b) d (suc k) h l n m =
       let lt = neg_shorter a in
-      turn_goes (after s.And) (neg_at (cond_at d)) k (Fixed s.And ∷ from) mid to from x xs (sees s.And from)
-      (neg_read a d h (ands_end b s.Dot (differs s.And s.Dot refl) n)) (ands_read b d k (neg_within a d h) (omega arith) n m)
+      turn_goes (after (s.Word words.And)) (neg_at (cond_at d)) k (Fixed (s.Word words.And) ∷ from) mid to from x xs (sees (s.Word words.And) from)
+      (neg_read a d h (ands_end b (s.Mark marks.Dot) (differs (s.Word words.And) (s.Mark marks.Dot) refl) n)) (ands_read b d k (neg_within a d h) (omega arith) n m)
 
-  pub neg_read : {from to : List Token} {x : Condition} → IsNeg IsTested from to x → (d : ℕ) → HasRoom d from → Stops s.Dot to → neg_at (cond_at d) from ≡ Some (x, to)
+  pub neg_read : {from to : List Token} {x : Condition} → IsNeg IsTested from to x → (d : ℕ) → HasRoom d from → Stops (s.Mark marks.Dot) to → neg_at (cond_at d) from ≡ Some (x, to)
   neg_read (plain {from = from} {to = to} {x = x} a) d h n = plain_goes (cond_at d) from to x (test_begins a) (test_read a d h n)
   neg_read (not {from = from} {to = to} {x = x} a) d h n = not_goes (cond_at d) from to x (test_read a d h n)
 
-  pub test_read : {from to : List Token} {x : Condition} → IsTest IsTested from to x → (d : ℕ) → HasRoom d from → Stops s.Dot to → test_at (cond_at d) from ≡ Some (x, to)
+  pub test_read : {from to : List Token} {x : Condition} → IsTest IsTested from to x → (d : ℕ) → HasRoom d from → Stops (s.Mark marks.Dot) to → test_at (cond_at d) from ≡ Some (x, to)
   test_read (parens a) zero h n = absurd h
   test_read (parens {from = from} {to = to} {x = x} a) (suc d) h n = parens_goes (cond_at (suc d)) from to x (cond_read a d h (close_ends to))
-  test_read (bare {from = from} {to = to} {x = x} a) d h n = untested_goes (cond_at d) from to x (bare_begins a s.Open (differs s.Plus s.Open refl) (differs s.Minus s.Open refl)) (bare_read a n)
+  test_read (bare {from = from} {to = to} {x = x} a) d h n = untested_goes (cond_at d) from to x (bare_begins a (s.Mark marks.Open) (differs (s.Mark marks.Plus) (s.Mark marks.Open) refl) (differs (s.Mark marks.Minus) (s.Mark marks.Open) refl)) (bare_read a n)

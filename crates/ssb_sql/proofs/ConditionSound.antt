@@ -1,6 +1,8 @@
 -- What is read as a condition is one.
 use Rattle.std.proofs.Common.{◌≡◌, ℕ, zero, suc, ◌<◌, ◌≤◌, List, ◌∷◌, length, Some, arith, inl, inr}
 use Rattle.ssb_sql.specs.declared.token.Token.{Token}
+use Rattle.ssb_cells.specs.declared.keyword.Keyword.TheVariants as words
+use Rattle.ssb_sql.specs.declared.token.Mark.TheVariants as marks
 use Rattle.ssb_sql.specs.declared.token.Sign.TheVariants as s
 use Rattle.ssb_sql.specs.declared.condition.Condition.{Condition}
 use Rattle.ssb_sql.specs.declared.condition.Condition.TheVariants as c
@@ -78,53 +80,53 @@ module _ (inner : Parser Condition) (h : Sound inner (IsCond IsTested)) where
   test_sound : (ts : List Token) (x : Condition × List Token) → test_at inner ts ≡ Some x → IsTest IsTested ts x.1 x.0
   unfolding test_at
   test_sound ts x e =
-      elim (choose_some (after s.Open ts) _ _ (Some x) e) as (λ _. IsTest IsTested ts x.1 x.0) [
-        | inl g ↦ begins (IsTest IsTested) s.Open ts g.0 x.1 x.0 g.1 (parens (sound_closed inner (IsCond IsTested) h g.0 x g.2))
+      elim (choose_some (after (s.Mark marks.Open) ts) _ _ (Some x) e) as (λ _. IsTest IsTested ts x.1 x.0) [
+        | inl g ↦ begins (IsTest IsTested) (s.Mark marks.Open) ts g.0 x.1 x.0 g.1 (parens (sound_closed inner (IsCond IsTested) h g.0 x g.2))
         | inr g ↦ bare (sound_bare.by ts x g.1)
       ]
 
   neg_sound : (ts : List Token) (x : Condition × List Token) → neg_at inner ts ≡ Some x → IsNeg IsTested ts x.1 x.0
   unfolding neg_at
   neg_sound ts x e =
-      elim (choose_some (after s.Not ts) _ _ (Some x) e) as (λ _. IsNeg IsTested ts x.1 x.0) [
+      elim (choose_some (after (s.Word words.Not) ts) _ _ (Some x) e) as (λ _. IsNeg IsTested ts x.1 x.0) [
         | inl g ↦
             let f = bind_some (test_at inner g.0) _ x g.2 in
-            spells (IsNeg IsTested) ts f.0.1 (c.Not f.0.0) x (begins (IsNeg IsTested) s.Not ts g.0 f.0.1 (c.Not f.0.0) g.1 (not (test_sound g.0 f.0 f.1))) f.2
+            spells (IsNeg IsTested) ts f.0.1 (c.Not f.0.0) x (begins (IsNeg IsTested) (s.Word words.Not) ts g.0 f.0.1 (c.Not f.0.0) g.1 (not (test_sound g.0 f.0 f.1))) f.2
         | inr g ↦ plain (test_sound ts x g.1)
       ]
 
   pub sound_neg : Sound (neg_at inner) (IsNeg IsTested)
   sound_neg = record { by = neg_sound }
 
-  ands : IsChain (after s.And) (neg_at inner) (IsAnds IsTested)
+  ands : IsChain (after (s.Word words.And)) (neg_at inner) (IsAnds IsTested)
   ands = record {
     none = λ to. no_and;
-    more = λ ts to l x xs a e m. begins (IsAnds IsTested) s.And ts l to (x.0 ∷ xs) a (and (neg_sound l x e) m);
+    more = λ ts to l x xs a e m. begins (IsAnds IsTested) (s.Word words.And) ts l to (x.0 ∷ xs) a (and (neg_sound l x e) m);
   }
 
   conj_sound : (ts : List Token) (x : Condition × List Token) → conj_at inner ts ≡ Some x → IsConj IsTested ts x.1 x.0
   unfolding conj_at
-  conj_sound ts x e = made_sound s.And (neg_at inner) (IsNeg IsTested) (IsAnds IsTested) (IsConj IsTested) and_chain sound_neg ands (λ from mid to y ys a b. conj a b) ts x e
+  conj_sound ts x e = made_sound (s.Word words.And) (neg_at inner) (IsNeg IsTested) (IsAnds IsTested) (IsConj IsTested) and_chain sound_neg ands (λ from mid to y ys a b. conj a b) ts x e
 
   pub sound_conj : Sound (conj_at inner) (IsConj IsTested)
   sound_conj = record { by = conj_sound }
 
-  ors : IsChain (after s.Or) (conj_at inner) (IsOrs IsTested)
+  ors : IsChain (after (s.Word words.Or)) (conj_at inner) (IsOrs IsTested)
   ors = record {
     none = λ to. no_or;
-    more = λ ts to l x xs a e m. begins (IsOrs IsTested) s.Or ts l to (x.0 ∷ xs) a (or (conj_sound l x e) m);
+    more = λ ts to l x xs a e m. begins (IsOrs IsTested) (s.Word words.Or) ts l to (x.0 ∷ xs) a (or (conj_sound l x e) m);
   }
 
   disj_sound : (ts : List Token) (x : Condition × List Token) → disj_at inner ts ≡ Some x → IsCond IsTested ts x.1 x.0
-  disj_sound ts x e = made_sound s.Or (conj_at inner) (IsConj IsTested) (IsOrs IsTested) (IsCond IsTested) or_chain sound_conj ors (λ from mid to y ys a b. cond a b) ts x e
+  disj_sound ts x e = made_sound (s.Word words.Or) (conj_at inner) (IsConj IsTested) (IsOrs IsTested) (IsCond IsTested) or_chain sound_conj ors (λ from mid to y ys a b. cond a b) ts x e
 
 pub sound_cond : (d : ℕ) → Sound (cond_at d) (IsCond IsTested)
 unfolding cond_at
 sound_cond zero = record { by = λ ts x e. absurd cc }
 sound_cond (suc d) = record { by = λ ts x e. disj_sound (cond_at d) (sound_cond d) ts x e }
 
-pub conj_shrinks : (d : ℕ) → Shrinks (after s.Or) (conj_at (cond_at d))
-conj_shrinks d = shrinks s.Or (conj_at (cond_at d)) (IsConj IsTested) (sound_conj (cond_at d) (sound_cond d)) tame_conj
+pub conj_shrinks : (d : ℕ) → Shrinks (after (s.Word words.Or)) (conj_at (cond_at d))
+conj_shrinks d = shrinks (s.Word words.Or) (conj_at (cond_at d)) (IsConj IsTested) (sound_conj (cond_at d) (sound_cond d)) tame_conj
 
-pub neg_shrinks : (d : ℕ) → Shrinks (after s.And) (neg_at (cond_at d))
-neg_shrinks d = shrinks s.And (neg_at (cond_at d)) (IsNeg IsTested) (sound_neg (cond_at d) (sound_cond d)) tame_neg
+pub neg_shrinks : (d : ℕ) → Shrinks (after (s.Word words.And)) (neg_at (cond_at d))
+neg_shrinks d = shrinks (s.Word words.And) (neg_at (cond_at d)) (IsNeg IsTested) (sound_neg (cond_at d) (sound_cond d)) tame_neg

@@ -4,6 +4,7 @@ use Rattle.std.proofs.Math.Seq.{drop-cons}
 use Rattle.std.proofs.lemmas.List.{drop_all}
 use Rattle.ssb_sql.specs.declared.token.Token.{Token}
 use Rattle.ssb_sql.specs.declared.token.Token.TheVariants.{Fixed}
+use Rattle.ssb_sql.specs.declared.token.Mark.TheVariants as marks
 use Rattle.ssb_sql.specs.declared.token.Sign.TheVariants as s
 use Rattle.ssb_sql.specs.Steps.{is_fixed, is_sign}
 use Rattle.ssb_sql.specs.Depth.{IsWithin, opened, closed}
@@ -13,9 +14,9 @@ use Rattle.ssb_sql.proofs.StepFacts.{some_is}
 -- as many as there are tokens are enough
 pub all_within : (ts : List Token) (n : ℕ) → length ts ≤ n → HasRoom n ts
 all_within [] n h = tt
-all_within (Fixed s.Open ∷ ts) zero h = absurd (omega arith)
-all_within (Fixed s.Open ∷ ts) (suc n) h = all_within ts n (omega arith)
-all_within (Fixed s.Close ∷ ts) n h = all_within ts (suc n) (omega arith)
+all_within (Fixed (s.Mark marks.Open) ∷ ts) zero h = absurd (omega arith)
+all_within (Fixed (s.Mark marks.Open) ∷ ts) (suc n) h = all_within ts n (omega arith)
+all_within (Fixed (s.Mark marks.Close) ∷ ts) n h = all_within ts (suc n) (omega arith)
 all_within (t ∷ ts) n h = all_within ts n (omega arith)
 
 -- two statements, each of which follows from the other
@@ -26,16 +27,16 @@ pub record Same (P Q : Type 0) : Type 0 where
 -- counting down says the same as the fronts do
 fronts : (n : ℕ) (front rest : List Token) → HasRoom n (front ++ rest) → opened front ≤ closed front + n
 fronts n [] rest h = omega arith
-fronts zero (Fixed s.Open ∷ front) rest h = absurd h
-fronts (suc n) (Fixed s.Open ∷ front) rest h = let p = fronts n front rest h in omega arith
-fronts n (Fixed s.Close ∷ front) rest h = let p = fronts (suc n) front rest h in omega arith
+fronts zero (Fixed (s.Mark marks.Open) ∷ front) rest h = absurd h
+fronts (suc n) (Fixed (s.Mark marks.Open) ∷ front) rest h = let p = fronts n front rest h in omega arith
+fronts n (Fixed (s.Mark marks.Close) ∷ front) rest h = let p = fronts (suc n) front rest h in omega arith
 fronts n (t ∷ front) rest h = fronts n front rest h
 
 room : (n : ℕ) (ts : List Token) → IsWithin n ts → HasRoom n ts
 room n [] h = tt
-room zero (Fixed s.Open ∷ ts) h = let p = h (Fixed s.Open ∷ []) ts refl in absurd (omega arith)
-room (suc n) (Fixed s.Open ∷ ts) h = room n ts (λ front rest e. let p = h (Fixed s.Open ∷ front) rest (ap (λ us. Fixed s.Open ∷ us) e) in omega arith)
-room n (Fixed s.Close ∷ ts) h = room (suc n) ts (λ front rest e. let p = h (Fixed s.Close ∷ front) rest (ap (λ us. Fixed s.Close ∷ us) e) in omega arith)
+room zero (Fixed (s.Mark marks.Open) ∷ ts) h = let p = h (Fixed (s.Mark marks.Open) ∷ []) ts refl in absurd (omega arith)
+room (suc n) (Fixed (s.Mark marks.Open) ∷ ts) h = room n ts (λ front rest e. let p = h (Fixed (s.Mark marks.Open) ∷ front) rest (ap (λ us. Fixed (s.Mark marks.Open) ∷ us) e) in omega arith)
+room n (Fixed (s.Mark marks.Close) ∷ ts) h = room (suc n) ts (λ front rest e. let p = h (Fixed (s.Mark marks.Close) ∷ front) rest (ap (λ us. Fixed (s.Mark marks.Close) ∷ us) e) in omega arith)
 room n (t ∷ ts) h = room n ts (λ front rest e. h (t ∷ front) rest (ap (λ us. t ∷ us) e))
 
 pub same_room : (n : ℕ) (ts : List Token) → Same (HasRoom n ts) (IsWithin n ts)
@@ -49,22 +50,22 @@ same_at n m ts e = record { to = subst (λ k. HasRoom k ts) e; from = subst (λ 
 
 pub room_goes : (t : Token) (n m : ℕ) (ts : List Token) → room_after n t ≡ Some m → Same (HasRoom n (t ∷ ts)) (HasRoom m ts)
 unfolding room_after is_fixed is_sign
-room_goes (Fixed s.Open) zero m ts e = absurd cc
-room_goes (Fixed s.Open) (suc n) m ts e = same_at n m ts (some_is n m e)
-room_goes (Fixed s.Close) n m ts e = same_at (suc n) m ts (sym (add-one n) ∙ some_is (n + 1) m e)
+room_goes (Fixed (s.Mark marks.Open)) zero m ts e = absurd cc
+room_goes (Fixed (s.Mark marks.Open)) (suc n) m ts e = same_at n m ts (some_is n m e)
+room_goes (Fixed (s.Mark marks.Close)) n m ts e = same_at (suc n) m ts (sym (add-one n) ∙ some_is (n + 1) m e)
 room_goes t n m ts e = same_at n m ts (some_is n m e)
 
 room_ends : (t : Token) (n : ℕ) (ts : List Token) → room_after n t ≡ None → HasRoom n (t ∷ ts) → ⊥
 unfolding room_after is_fixed is_sign
-room_ends (Fixed s.Open) zero ts e h = h
-room_ends (Fixed s.Open) (suc n) ts e h = absurd cc
+room_ends (Fixed (s.Mark marks.Open)) zero ts e h = h
+room_ends (Fixed (s.Mark marks.Open)) (suc n) ts e h = absurd cc
 room_ends t n ts e h = absurd cc
 
 room_rises : (t : Token) (n m : ℕ) → room_after n t ≡ Some m → m ≤ n + 1
 unfolding room_after is_fixed is_sign
-room_rises (Fixed s.Open) zero m e = absurd cc
-room_rises (Fixed s.Open) (suc n) m e = let p = some_is n m e in omega arith
-room_rises (Fixed s.Close) n m e = let p = some_is (n + 1) m e in omega arith
+room_rises (Fixed (s.Mark marks.Open)) zero m e = absurd cc
+room_rises (Fixed (s.Mark marks.Open)) (suc n) m e = let p = some_is n m e in omega arith
+room_rises (Fixed (s.Mark marks.Close)) n m e = let p = some_is (n + 1) m e in omega arith
 room_rises t n m e = let p = some_is n m e in omega arith
 
 -- what the loop has found: as many are open as before, and what is left decides

@@ -3,6 +3,7 @@ use Rattle.std.proofs.Common.{◌≡◌, ℕ, zero, suc, ◌≤◌, false, List,
 use Rattle.ssb_sql.specs.declared.token.Token.{Token}
 use Rattle.ssb_sql.specs.declared.token.Token.TheVariants.{Fixed, Number}
 use Rattle.ssb_sql.specs.declared.token.Sign.{Sign}
+use Rattle.ssb_sql.specs.declared.token.Mark.TheVariants as marks
 use Rattle.ssb_sql.specs.declared.token.Sign.TheVariants as s
 use Rattle.ssb_sql.specs.declared.expr.ColumnName.{ColumnName}
 use Rattle.ssb_sql.specs.declared.expr.Adding.{Adding}
@@ -29,17 +30,17 @@ use Rattle.ssb_sql.proofs.ExpressionSound.{term_shorter, factor_shorter, term_wi
 
 -- what may follow an expression
 pub record EndsExpr (to : List Token) : Type 0 where
-  pub dot : Stops s.Dot to
-  pub times : Stops s.Times to
-  pub plus : Stops s.Plus to
-  pub minus : Stops s.Minus to
+  pub dot : Stops (s.Mark marks.Dot) to
+  pub times : Stops (s.Mark marks.Times) to
+  pub plus : Stops (s.Mark marks.Plus) to
+  pub minus : Stops (s.Mark marks.Minus) to
 
-pub close_ends : (to : List Token) → EndsExpr (Fixed s.Close ∷ to)
+pub close_ends : (to : List Token) → EndsExpr (Fixed (s.Mark marks.Close) ∷ to)
 close_ends to = record {
-  dot = stops s.Close s.Dot to (differs s.Close s.Dot refl);
-  times = stops s.Close s.Times to (differs s.Close s.Times refl);
-  plus = stops s.Close s.Plus to (differs s.Close s.Plus refl);
-  minus = stops s.Close s.Minus to (differs s.Close s.Minus refl);
+  dot = stops (s.Mark marks.Close) (s.Mark marks.Dot) to (differs (s.Mark marks.Close) (s.Mark marks.Dot) refl);
+  times = stops (s.Mark marks.Close) (s.Mark marks.Times) to (differs (s.Mark marks.Close) (s.Mark marks.Times) refl);
+  plus = stops (s.Mark marks.Close) (s.Mark marks.Plus) to (differs (s.Mark marks.Close) (s.Mark marks.Plus) refl);
+  minus = stops (s.Mark marks.Close) (s.Mark marks.Minus) to (differs (s.Mark marks.Close) (s.Mark marks.Minus) refl);
 }
 
 -- how things begin
@@ -52,34 +53,34 @@ number_begins : (n : ℕ) (to : List Token) (sign : Sign) → Stops sign (Number
 unfolding after is_fixed
 number_begins n to sign = refl
 
-primary_begins : {from to : List Token} {x : Expr} → IsPrimary from to x → (sign : Sign) → is_sign s.Open sign ≡ false → Stops sign from
+primary_begins : {from to : List Token} {x : Expr} → IsPrimary from to x → (sign : Sign) → is_sign (s.Mark marks.Open) sign ≡ false → Stops sign from
 primary_begins (column a) sign h = column_begins a sign
 primary_begins (number {to = to} {n = n}) sign h = number_begins n to sign
-primary_begins (parens {from = from} a) sign h = stops s.Open sign from h
+primary_begins (parens {from = from} a) sign h = stops (s.Mark marks.Open) sign from h
 
-factor_begins : {from to : List Token} {x : Expr} → IsFactor from to x → Stops s.Times from
-factor_begins (plain a) = primary_begins a s.Times (differs s.Open s.Times refl)
-factor_begins (positive {from = from} a) = stops s.Plus s.Times from (differs s.Plus s.Times refl)
-factor_begins (negative {from = from} a) = stops s.Minus s.Times from (differs s.Minus s.Times refl)
+factor_begins : {from to : List Token} {x : Expr} → IsFactor from to x → Stops (s.Mark marks.Times) from
+factor_begins (plain a) = primary_begins a (s.Mark marks.Times) (differs (s.Mark marks.Open) (s.Mark marks.Times) refl)
+factor_begins (positive {from = from} a) = stops (s.Mark marks.Plus) (s.Mark marks.Times) from (differs (s.Mark marks.Plus) (s.Mark marks.Times) refl)
+factor_begins (negative {from = from} a) = stops (s.Mark marks.Minus) (s.Mark marks.Times) from (differs (s.Mark marks.Minus) (s.Mark marks.Times) refl)
 
-term_begins : {from to : List Token} {x : Expr} → IsTerm from to x → Stops s.Times from
+term_begins : {from to : List Token} {x : Expr} → IsTerm from to x → Stops (s.Mark marks.Times) from
 term_begins (term a b) = factor_begins a
 
-pub expr_begins : {from to : List Token} {x : Expr} → IsExpr from to x → Stops s.Times from
+pub expr_begins : {from to : List Token} {x : Expr} → IsExpr from to x → Stops (s.Mark marks.Times) from
 expr_begins (expr a b) = term_begins a
 
 -- what follows one member of a chain
-steps_end : {from to : List Token} {xs : List Step} → IsSteps from to xs → (sign : Sign) → is_sign s.Plus sign ≡ false → is_sign s.Minus sign ≡ false → Stops sign to → Stops sign from
+steps_end : {from to : List Token} {xs : List Step} → IsSteps from to xs → (sign : Sign) → is_sign (s.Mark marks.Plus) sign ≡ false → is_sign (s.Mark marks.Minus) sign ≡ false → Stops sign to → Stops sign from
 steps_end no_step sign p m h = h
-steps_end (plus {from = from} a b) sign p m h = stops s.Plus sign from p
-steps_end (minus {from = from} a b) sign p m h = stops s.Minus sign from m
+steps_end (plus {from = from} a b) sign p m h = stops (s.Mark marks.Plus) sign from p
+steps_end (minus {from = from} a b) sign p m h = stops (s.Mark marks.Minus) sign from m
 
-factors_end : {from to : List Token} {xs : List Expr} → IsFactors from to xs → (sign : Sign) → is_sign s.Times sign ≡ false → Stops sign to → Stops sign from
+factors_end : {from to : List Token} {xs : List Expr} → IsFactors from to xs → (sign : Sign) → is_sign (s.Mark marks.Times) sign ≡ false → Stops sign to → Stops sign from
 factors_end no_factor sign p h = h
-factors_end (times {from = from} a b) sign p h = stops s.Times sign from p
+factors_end (times {from = from} a b) sign p h = stops (s.Mark marks.Times) sign from p
 
 -- one reader from another
-bare_column_goes : {from to : List Token} {x : ColumnName} → IsColumn from to x → Stops s.Dot to → bare_primary_at from ≡ Some (e.Column x, to)
+bare_column_goes : {from to : List Token} {x : ColumnName} → IsColumn from to x → Stops (s.Mark marks.Dot) to → bare_primary_at from ≡ Some (e.Column x, to)
 unfolding bare_primary_at
 bare_column_goes h n = rw (column_next h, column_read h n) refl
 
@@ -87,27 +88,27 @@ bare_number_goes : (n : ℕ) (to : List Token) → bare_primary_at (Number n ∷
 unfolding bare_primary_at is_name_next
 bare_number_goes n to = rw (number_read n to) refl
 
-bare_goes : (p : Parser Expr) (ts to : List Token) (x : Expr) → Stops s.Open ts → bare_primary_at ts ≡ Some (x, to) → primary_at p ts ≡ Some (x, to)
+bare_goes : (p : Parser Expr) (ts to : List Token) (x : Expr) → Stops (s.Mark marks.Open) ts → bare_primary_at ts ≡ Some (x, to) → primary_at p ts ≡ Some (x, to)
 unfolding primary_at
 bare_goes p ts to x h q = rw h q
 
-parens_goes : (p : Parser Expr) (ts to : List Token) (x : Expr) → p ts ≡ Some (x, Fixed s.Close ∷ to) → primary_at p (Fixed s.Open ∷ ts) ≡ Some (x, to)
+parens_goes : (p : Parser Expr) (ts to : List Token) (x : Expr) → p ts ≡ Some (x, Fixed (s.Mark marks.Close) ∷ to) → primary_at p (Fixed (s.Mark marks.Open) ∷ ts) ≡ Some (x, to)
 unfolding primary_at
-parens_goes p ts to x q = rw (sees s.Open ts) (closed_read p ts to x q)
+parens_goes p ts to x q = rw (sees (s.Mark marks.Open) ts) (closed_read p ts to x q)
 
-plain_goes : (p : Parser Expr) (ts to : List Token) (x : Expr) → Stops s.Plus ts → Stops s.Minus ts → primary_at p ts ≡ Some (x, to) → factor_at p ts ≡ Some (x, to)
+plain_goes : (p : Parser Expr) (ts to : List Token) (x : Expr) → Stops (s.Mark marks.Plus) ts → Stops (s.Mark marks.Minus) ts → primary_at p ts ≡ Some (x, to) → factor_at p ts ≡ Some (x, to)
 unfolding factor_at
 plain_goes p ts to x h m q = rw (h, m) q
 
-positive_goes : (p : Parser Expr) (ts to : List Token) (x : Expr) → primary_at p ts ≡ Some (x, to) → factor_at p (Fixed s.Plus ∷ ts) ≡ Some (e.Positive x, to)
+positive_goes : (p : Parser Expr) (ts to : List Token) (x : Expr) → primary_at p ts ≡ Some (x, to) → factor_at p (Fixed (s.Mark marks.Plus) ∷ ts) ≡ Some (e.Positive x, to)
 unfolding factor_at
-positive_goes p ts to x q = rw (sees s.Plus ts, q) refl
+positive_goes p ts to x q = rw (sees (s.Mark marks.Plus) ts, q) refl
 
-negative_goes : (p : Parser Expr) (ts to : List Token) (x : Expr) → primary_at p ts ≡ Some (x, to) → factor_at p (Fixed s.Minus ∷ ts) ≡ Some (e.Negative x, to)
+negative_goes : (p : Parser Expr) (ts to : List Token) (x : Expr) → primary_at p ts ≡ Some (x, to) → factor_at p (Fixed (s.Mark marks.Minus) ∷ ts) ≡ Some (e.Negative x, to)
 unfolding factor_at
-negative_goes p ts to x q = rw (stops s.Minus s.Plus ts (differs s.Minus s.Plus refl), sees s.Minus ts, q) refl
+negative_goes p ts to x q = rw (stops (s.Mark marks.Minus) (s.Mark marks.Plus) ts (differs (s.Mark marks.Minus) (s.Mark marks.Plus) refl), sees (s.Mark marks.Minus) ts, q) refl
 
-term_goes : (p : Parser Expr) (ts mid to : List Token) (x : Expr) (xs : List Expr) → factor_at p ts ≡ Some (x, mid) → more_at (after s.Times) (factor_at p) (x ∷ []) mid ≡ Some (x ∷ xs, to) → term_at p ts ≡ Some (times_of (x ∷ xs), to)
+term_goes : (p : Parser Expr) (ts mid to : List Token) (x : Expr) (xs : List Expr) → factor_at p ts ≡ Some (x, mid) → more_at (after (s.Mark marks.Times)) (factor_at p) (x ∷ []) mid ≡ Some (x ∷ xs, to) → term_at p ts ≡ Some (times_of (x ∷ xs), to)
 unfolding term_at chained_at
 term_goes p ts mid to x xs q r = rw (q, r) refl
 
@@ -115,17 +116,17 @@ sum_goes : (d : ℕ) (ts mid to : List Token) (x : Expr) (xs : List Step) → te
 unfolding expr_at
 sum_goes d ts mid to x xs q r = rw (q, r) refl
 
-adding_stops : (to : List Token) → Stops s.Plus to → Stops s.Minus to → adding_at to ≡ None
+adding_stops : (to : List Token) → Stops (s.Mark marks.Plus) to → Stops (s.Mark marks.Minus) to → adding_at to ≡ None
 unfolding adding_at
 adding_stops to p m = rw (p, m) refl
 
-adding_plus : (ts : List Token) → adding_at (Fixed s.Plus ∷ ts) ≡ Some (a.Plus, ts)
+adding_plus : (ts : List Token) → adding_at (Fixed (s.Mark marks.Plus) ∷ ts) ≡ Some (a.Plus, ts)
 unfolding adding_at
-adding_plus ts = rw (sees s.Plus ts) refl
+adding_plus ts = rw (sees (s.Mark marks.Plus) ts) refl
 
-adding_minus : (ts : List Token) → adding_at (Fixed s.Minus ∷ ts) ≡ Some (a.Minus, ts)
+adding_minus : (ts : List Token) → adding_at (Fixed (s.Mark marks.Minus) ∷ ts) ≡ Some (a.Minus, ts)
 unfolding adding_at
-adding_minus ts = rw (stops s.Minus s.Plus ts (differs s.Minus s.Plus refl), sees s.Minus ts) refl
+adding_minus ts = rw (stops (s.Mark marks.Minus) (s.Mark marks.Plus) ts (differs (s.Mark marks.Minus) (s.Mark marks.Plus) refl), sees (s.Mark marks.Minus) ts) refl
 
 abbrev step_of : Adding → Expr → Step
 step_of y x = record { adding = y; term = x }
@@ -138,7 +139,7 @@ mutual
   pub expr_read : {from to : List Token} {x : Expr} → IsExpr from to x → (d : ℕ) → HasRoom d from → EndsExpr to → expr_at (suc d) from ≡ Some (x, to)
   expr_read (expr {from = from} {mid = mid} {to = to} {x = x} {xs = xs} f b) d h z =
       sum_goes d from mid to x xs
-      (term_read f d h (steps_end b s.Dot (differs s.Plus s.Dot refl) (differs s.Minus s.Dot refl) z.dot) (steps_end b s.Times (differs s.Plus s.Times refl) (differs s.Minus s.Times refl) z.times))
+      (term_read f d h (steps_end b (s.Mark marks.Dot) (differs (s.Mark marks.Plus) (s.Mark marks.Dot) refl) (differs (s.Mark marks.Minus) (s.Mark marks.Dot) refl) z.dot) (steps_end b (s.Mark marks.Times) (differs (s.Mark marks.Plus) (s.Mark marks.Times) refl) (differs (s.Mark marks.Minus) (s.Mark marks.Times) refl) z.times))
       (more_goes adding_at (step_at (expr_at d)) [] xs mid to (steps_read b d (length mid) (term_within f d h) (omega arith) z))
 
   pub steps_read : {from to : List Token} {xs : List Step} → IsSteps from to xs → (d k : ℕ) → HasRoom d from → length from ≤ k → EndsExpr to → chain_at adding_at (step_at (expr_at d)) k from ≡ Some (xs, to)
@@ -146,37 +147,37 @@ mutual
   steps_read (plus f b) d zero h l z = absurd (omega arith)
   steps_read (plus {from = from} {mid = mid} {to = to} {x = x} {xs = xs} f b) d (suc k) h l z =
       let lt = term_shorter f in
-      turn_goes adding_at (step_at (expr_at d)) k (Fixed s.Plus ∷ from) mid to (a.Plus, from) (step_of a.Plus x) xs (adding_plus from)
-      (step_goes (expr_at d) a.Plus from mid x (term_read f d h (steps_end b s.Dot (differs s.Plus s.Dot refl) (differs s.Minus s.Dot refl) z.dot) (steps_end b s.Times (differs s.Plus s.Times refl) (differs s.Minus s.Times refl) z.times)))
+      turn_goes adding_at (step_at (expr_at d)) k (Fixed (s.Mark marks.Plus) ∷ from) mid to (a.Plus, from) (step_of a.Plus x) xs (adding_plus from)
+      (step_goes (expr_at d) a.Plus from mid x (term_read f d h (steps_end b (s.Mark marks.Dot) (differs (s.Mark marks.Plus) (s.Mark marks.Dot) refl) (differs (s.Mark marks.Minus) (s.Mark marks.Dot) refl) z.dot) (steps_end b (s.Mark marks.Times) (differs (s.Mark marks.Plus) (s.Mark marks.Times) refl) (differs (s.Mark marks.Minus) (s.Mark marks.Times) refl) z.times)))
       (steps_read b d k (term_within f d h) (omega arith) z)
   steps_read (minus f b) d zero h l z = absurd (omega arith)
   steps_read (minus {from = from} {mid = mid} {to = to} {x = x} {xs = xs} f b) d (suc k) h l z =
       let lt = term_shorter f in
-      turn_goes adding_at (step_at (expr_at d)) k (Fixed s.Minus ∷ from) mid to (a.Minus, from) (step_of a.Minus x) xs (adding_minus from)
-      (step_goes (expr_at d) a.Minus from mid x (term_read f d h (steps_end b s.Dot (differs s.Plus s.Dot refl) (differs s.Minus s.Dot refl) z.dot) (steps_end b s.Times (differs s.Plus s.Times refl) (differs s.Minus s.Times refl) z.times)))
+      turn_goes adding_at (step_at (expr_at d)) k (Fixed (s.Mark marks.Minus) ∷ from) mid to (a.Minus, from) (step_of a.Minus x) xs (adding_minus from)
+      (step_goes (expr_at d) a.Minus from mid x (term_read f d h (steps_end b (s.Mark marks.Dot) (differs (s.Mark marks.Plus) (s.Mark marks.Dot) refl) (differs (s.Mark marks.Minus) (s.Mark marks.Dot) refl) z.dot) (steps_end b (s.Mark marks.Times) (differs (s.Mark marks.Plus) (s.Mark marks.Times) refl) (differs (s.Mark marks.Minus) (s.Mark marks.Times) refl) z.times)))
       (steps_read b d k (term_within f d h) (omega arith) z)
 
-  pub term_read : {from to : List Token} {x : Expr} → IsTerm from to x → (d : ℕ) → HasRoom d from → Stops s.Dot to → Stops s.Times to → term_at (expr_at d) from ≡ Some (x, to)
+  pub term_read : {from to : List Token} {x : Expr} → IsTerm from to x → (d : ℕ) → HasRoom d from → Stops (s.Mark marks.Dot) to → Stops (s.Mark marks.Times) to → term_at (expr_at d) from ≡ Some (x, to)
   term_read (term {from = from} {mid = mid} {to = to} {x = x} {xs = xs} f b) d h n m =
-      term_goes (expr_at d) from mid to x xs (factor_read f d h (factors_end b s.Dot (differs s.Times s.Dot refl) n))
-      (more_goes (after s.Times) (factor_at (expr_at d)) (x ∷ []) xs mid to (factors_read b d (length mid) (factor_within f d h) (omega arith) n m))
+      term_goes (expr_at d) from mid to x xs (factor_read f d h (factors_end b (s.Mark marks.Dot) (differs (s.Mark marks.Times) (s.Mark marks.Dot) refl) n))
+      (more_goes (after (s.Mark marks.Times)) (factor_at (expr_at d)) (x ∷ []) xs mid to (factors_read b d (length mid) (factor_within f d h) (omega arith) n m))
 
-  pub factors_read : {from to : List Token} {xs : List Expr} → IsFactors from to xs → (d k : ℕ) → HasRoom d from → length from ≤ k → Stops s.Dot to → Stops s.Times to → chain_at (after s.Times) (factor_at (expr_at d)) k from ≡ Some (xs, to)
-  factors_read (no_factor {to = to}) d k h l n m = turn_done (after s.Times) (factor_at (expr_at d)) k to m
+  pub factors_read : {from to : List Token} {xs : List Expr} → IsFactors from to xs → (d k : ℕ) → HasRoom d from → length from ≤ k → Stops (s.Mark marks.Dot) to → Stops (s.Mark marks.Times) to → chain_at (after (s.Mark marks.Times)) (factor_at (expr_at d)) k from ≡ Some (xs, to)
+  factors_read (no_factor {to = to}) d k h l n m = turn_done (after (s.Mark marks.Times)) (factor_at (expr_at d)) k to m
   factors_read (times f b) d zero h l n m = absurd (omega arith)
   factors_read (times {from = from} {mid = mid} {to = to} {x = x} {xs = xs} f b) d (suc k) h l n m =
       let lt = factor_shorter f in
-      turn_goes (after s.Times) (factor_at (expr_at d)) k (Fixed s.Times ∷ from) mid to from x xs (sees s.Times from)
-      (factor_read f d h (factors_end b s.Dot (differs s.Times s.Dot refl) n)) (factors_read b d k (factor_within f d h) (omega arith) n m)
+      turn_goes (after (s.Mark marks.Times)) (factor_at (expr_at d)) k (Fixed (s.Mark marks.Times) ∷ from) mid to from x xs (sees (s.Mark marks.Times) from)
+      (factor_read f d h (factors_end b (s.Mark marks.Dot) (differs (s.Mark marks.Times) (s.Mark marks.Dot) refl) n)) (factors_read b d k (factor_within f d h) (omega arith) n m)
 
-  pub factor_read : {from to : List Token} {x : Expr} → IsFactor from to x → (d : ℕ) → HasRoom d from → Stops s.Dot to → factor_at (expr_at d) from ≡ Some (x, to)
+  pub factor_read : {from to : List Token} {x : Expr} → IsFactor from to x → (d : ℕ) → HasRoom d from → Stops (s.Mark marks.Dot) to → factor_at (expr_at d) from ≡ Some (x, to)
   factor_read (plain {from = from} {to = to} {x = x} f) d h n =
-      plain_goes (expr_at d) from to x (primary_begins f s.Plus (differs s.Open s.Plus refl)) (primary_begins f s.Minus (differs s.Open s.Minus refl)) (primary_read f d h n)
+      plain_goes (expr_at d) from to x (primary_begins f (s.Mark marks.Plus) (differs (s.Mark marks.Open) (s.Mark marks.Plus) refl)) (primary_begins f (s.Mark marks.Minus) (differs (s.Mark marks.Open) (s.Mark marks.Minus) refl)) (primary_read f d h n)
   factor_read (positive {from = from} {to = to} {x = x} f) d h n = positive_goes (expr_at d) from to x (primary_read f d h n)
   factor_read (negative {from = from} {to = to} {x = x} f) d h n = negative_goes (expr_at d) from to x (primary_read f d h n)
 
-  pub primary_read : {from to : List Token} {x : Expr} → IsPrimary from to x → (d : ℕ) → HasRoom d from → Stops s.Dot to → primary_at (expr_at d) from ≡ Some (x, to)
-  primary_read (column {from = from} {to = to} {x = x} f) d h n = bare_goes (expr_at d) from to (e.Column x) (column_begins f s.Open) (bare_column_goes f n)
-  primary_read (number {to = to} {n = k}) d h n = bare_goes (expr_at d) (Number k ∷ to) to (e.Number k) (number_begins k to s.Open) (bare_number_goes k to)
+  pub primary_read : {from to : List Token} {x : Expr} → IsPrimary from to x → (d : ℕ) → HasRoom d from → Stops (s.Mark marks.Dot) to → primary_at (expr_at d) from ≡ Some (x, to)
+  primary_read (column {from = from} {to = to} {x = x} f) d h n = bare_goes (expr_at d) from to (e.Column x) (column_begins f (s.Mark marks.Open)) (bare_column_goes f n)
+  primary_read (number {to = to} {n = k}) d h n = bare_goes (expr_at d) (Number k ∷ to) to (e.Number k) (number_begins k to (s.Mark marks.Open)) (bare_number_goes k to)
   primary_read (parens f) zero h n = absurd h
   primary_read (parens {from = from} {to = to} {x = x} f) (suc d) h n = parens_goes (expr_at (suc d)) from to x (expr_read f d h (close_ends to))

@@ -2,6 +2,7 @@
 use Rattle.std.proofs.Common.{◌≡◌, ℕ, zero, suc, ◌<◌, ◌≤◌, List, [], ◌∷◌, length, Some, None, refl, ap, subst, arith, inl, inr}
 use Rattle.ssb_sql.specs.declared.token.Token.{Token}
 use Rattle.ssb_sql.specs.declared.token.Token.TheVariants.{Number}
+use Rattle.ssb_sql.specs.declared.token.Mark.TheVariants as marks
 use Rattle.ssb_sql.specs.declared.token.Sign.TheVariants as s
 use Rattle.ssb_sql.specs.declared.expr.Adding.{Adding}
 use Rattle.ssb_sql.specs.declared.expr.Adding.TheVariants as a
@@ -98,11 +99,11 @@ bare_primary_sound ts x q =
 adding_is : (ts : List Token) (l : Adding × List Token) → adding_at ts ≡ Some l → (xs : List Step) (x : Expr) (mid to : List Token) → IsTerm l.1 mid x → IsSteps mid to xs → IsSteps ts to (record { adding = l.0; term = x } ∷ xs)
 unfolding adding_at
 adding_is ts l q xs x mid to one rest =
-    elim (choose_some (after s.Plus ts) _ _ (Some l) q) as (λ _. IsSteps ts to (record { adding = l.0; term = x } ∷ xs)) [
-      | inl g ↦ goes a.Plus g.0 g.2 (λ one. begins IsSteps s.Plus ts g.0 to (record { adding = a.Plus; term = x } ∷ xs) g.1 (plus one rest))
+    elim (choose_some (after (s.Mark marks.Plus) ts) _ _ (Some l) q) as (λ _. IsSteps ts to (record { adding = l.0; term = x } ∷ xs)) [
+      | inl g ↦ goes a.Plus g.0 g.2 (λ one. begins IsSteps (s.Mark marks.Plus) ts g.0 to (record { adding = a.Plus; term = x } ∷ xs) g.1 (plus one rest))
       | inr b ↦
-          elim (choose_some (after s.Minus ts) _ _ (Some l) b.1) as (λ _. IsSteps ts to (record { adding = l.0; term = x } ∷ xs)) [
-            | inl g ↦ goes a.Minus g.0 g.2 (λ one. begins IsSteps s.Minus ts g.0 to (record { adding = a.Minus; term = x } ∷ xs) g.1 (minus one rest))
+          elim (choose_some (after (s.Mark marks.Minus) ts) _ _ (Some l) b.1) as (λ _. IsSteps ts to (record { adding = l.0; term = x } ∷ xs)) [
+            | inl g ↦ goes a.Minus g.0 g.2 (λ one. begins IsSteps (s.Mark marks.Minus) ts g.0 to (record { adding = a.Minus; term = x } ∷ xs) g.1 (minus one rest))
             | inr g ↦ absurd cc
           ]
     ]
@@ -115,11 +116,11 @@ adding_is ts l q xs x mid to one rest =
 adding_shorter : (ts : List Token) (l : Adding × List Token) → adding_at ts ≡ Some l → length l.1 < length ts
 unfolding adding_at
 adding_shorter ts l q =
-    elim (choose_some (after s.Plus ts) _ _ (Some l) q) as (λ _. length l.1 < length ts) [
-      | inl g ↦ subst (λ z. length z.1 < length ts) (some_is (a.Plus, g.0) l g.2) (after_shorter s.Plus ts g.0 g.1)
+    elim (choose_some (after (s.Mark marks.Plus) ts) _ _ (Some l) q) as (λ _. length l.1 < length ts) [
+      | inl g ↦ subst (λ z. length z.1 < length ts) (some_is (a.Plus, g.0) l g.2) (after_shorter (s.Mark marks.Plus) ts g.0 g.1)
       | inr b ↦
-          elim (choose_some (after s.Minus ts) _ _ (Some l) b.1) as (λ _. length l.1 < length ts) [
-            | inl g ↦ subst (λ z. length z.1 < length ts) (some_is (a.Minus, g.0) l g.2) (after_shorter s.Minus ts g.0 g.1)
+          elim (choose_some (after (s.Mark marks.Minus) ts) _ _ (Some l) b.1) as (λ _. length l.1 < length ts) [
+            | inl g ↦ subst (λ z. length z.1 < length ts) (some_is (a.Minus, g.0) l g.2) (after_shorter (s.Mark marks.Minus) ts g.0 g.1)
             | inr g ↦ absurd cc
           ]
     ]
@@ -132,23 +133,23 @@ module _ (inner : Parser Expr) (h : Sound inner IsExpr) where
   primary_sound : (ts : List Token) (x : Expr × List Token) → primary_at inner ts ≡ Some x → IsPrimary ts x.1 x.0
   unfolding primary_at
   primary_sound ts x q =
-      elim (choose_some (after s.Open ts) _ _ (Some x) q) as (λ _. IsPrimary ts x.1 x.0) [
-        | inl g ↦ begins IsPrimary s.Open ts g.0 x.1 x.0 g.1 (parens (sound_closed inner IsExpr h g.0 x g.2))
+      elim (choose_some (after (s.Mark marks.Open) ts) _ _ (Some x) q) as (λ _. IsPrimary ts x.1 x.0) [
+        | inl g ↦ begins IsPrimary (s.Mark marks.Open) ts g.0 x.1 x.0 g.1 (parens (sound_closed inner IsExpr h g.0 x g.2))
         | inr g ↦ bare_primary_sound ts x g.1
       ]
 
   factor_sound : (ts : List Token) (x : Expr × List Token) → factor_at inner ts ≡ Some x → IsFactor ts x.1 x.0
   unfolding factor_at
   factor_sound ts x q =
-      elim (choose_some (after s.Plus ts) _ _ (Some x) q) as (λ _. IsFactor ts x.1 x.0) [
+      elim (choose_some (after (s.Mark marks.Plus) ts) _ _ (Some x) q) as (λ _. IsFactor ts x.1 x.0) [
         | inl g ↦
             let f = bind_some (primary_at inner g.0) _ x g.2 in
-            spells IsFactor ts f.0.1 (e.Positive f.0.0) x (begins IsFactor s.Plus ts g.0 f.0.1 (e.Positive f.0.0) g.1 (positive (primary_sound g.0 f.0 f.1))) f.2
+            spells IsFactor ts f.0.1 (e.Positive f.0.0) x (begins IsFactor (s.Mark marks.Plus) ts g.0 f.0.1 (e.Positive f.0.0) g.1 (positive (primary_sound g.0 f.0 f.1))) f.2
         | inr b ↦
-            elim (choose_some (after s.Minus ts) _ _ (Some x) b.1) as (λ _. IsFactor ts x.1 x.0) [
+            elim (choose_some (after (s.Mark marks.Minus) ts) _ _ (Some x) b.1) as (λ _. IsFactor ts x.1 x.0) [
               | inl g ↦
                   let f = bind_some (primary_at inner g.0) _ x g.2 in
-                  spells IsFactor ts f.0.1 (e.Negative f.0.0) x (begins IsFactor s.Minus ts g.0 f.0.1 (e.Negative f.0.0) g.1 (negative (primary_sound g.0 f.0 f.1))) f.2
+                  spells IsFactor ts f.0.1 (e.Negative f.0.0) x (begins IsFactor (s.Mark marks.Minus) ts g.0 f.0.1 (e.Negative f.0.0) g.1 (negative (primary_sound g.0 f.0 f.1))) f.2
               | inr g ↦ plain (primary_sound ts x g.1)
             ]
       ]
@@ -156,15 +157,15 @@ module _ (inner : Parser Expr) (h : Sound inner IsExpr) where
   pub sound_factor : Sound (factor_at inner) IsFactor
   sound_factor = record { by = factor_sound }
 
-  factors : IsChain (after s.Times) (factor_at inner) IsFactors
+  factors : IsChain (after (s.Mark marks.Times)) (factor_at inner) IsFactors
   factors = record {
     none = λ to. no_factor;
-    more = λ ts to l x xs a q m. begins IsFactors s.Times ts l to (x.0 ∷ xs) a (times (factor_sound l x q) m);
+    more = λ ts to l x xs a q m. begins IsFactors (s.Mark marks.Times) ts l to (x.0 ∷ xs) a (times (factor_sound l x q) m);
   }
 
   term_sound : (ts : List Token) (x : Expr × List Token) → term_at inner ts ≡ Some x → IsTerm ts x.1 x.0
   unfolding term_at
-  term_sound ts x q = made_sound s.Times (factor_at inner) IsFactor IsFactors IsTerm times_of sound_factor factors (λ from mid to y ys a b. term a b) ts x q
+  term_sound ts x q = made_sound (s.Mark marks.Times) (factor_at inner) IsFactor IsFactors IsTerm times_of sound_factor factors (λ from mid to y ys a b. term a b) ts x q
 
   step_sound : (l : Adding × List Token) (x : Step × List Token) → step_at inner l ≡ Some x → (y : Expr) × IsTerm l.1 x.1 y × (record { adding = l.0; term = y } ≡ x.0)
   unfolding step_at
@@ -200,8 +201,8 @@ unfolding expr_at
 sound_expr zero = record { by = λ ts x q. absurd cc }
 sound_expr (suc d) = record { by = λ ts x q. sum_sound (expr_at d) (sound_expr d) ts x q }
 
-pub factor_shrinks : (d : ℕ) → Shrinks (after s.Times) (factor_at (expr_at d))
-factor_shrinks d = shrinks s.Times (factor_at (expr_at d)) IsFactor (sound_factor (expr_at d) (sound_expr d)) tame_factor
+pub factor_shrinks : (d : ℕ) → Shrinks (after (s.Mark marks.Times)) (factor_at (expr_at d))
+factor_shrinks d = shrinks (s.Mark marks.Times) (factor_at (expr_at d)) IsFactor (sound_factor (expr_at d) (sound_expr d)) tame_factor
 
 pub step_shrinks : (d : ℕ) → Shrinks adding_at (step_at (expr_at d))
 step_shrinks d = shrinks_step (expr_at d) (sound_expr d)

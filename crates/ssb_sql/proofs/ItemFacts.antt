@@ -2,6 +2,8 @@
 use Rattle.std.proofs.Common.{◌≡◌, ℕ, zero, suc, ◌<◌, true, false, List, ◌∷◌, length, Some, None, sym, ap, subst, ◌∙◌, arith, inl, inr}
 use Rattle.ssb_sql.specs.declared.token.Token.{Token}
 use Rattle.ssb_sql.specs.declared.token.Token.TheVariants.{Fixed, Name, Number}
+use Rattle.ssb_cells.specs.declared.keyword.Keyword.TheVariants as words
+use Rattle.ssb_sql.specs.declared.token.Mark.TheVariants as marks
 use Rattle.ssb_sql.specs.declared.token.Sign.TheVariants as s
 use Rattle.ssb_sql.specs.declared.select.Output.{Output}
 use Rattle.ssb_sql.specs.declared.select.Output.TheVariants as u
@@ -25,34 +27,34 @@ use Rattle.ssb_sql.proofs.Shapes.{Sound, Tame, spells, starts, followed, sound_c
 use Rattle.ssb_sql.proofs.PartFacts.{name_is, number_is, sound_column, tame_column}
 use Rattle.ssb_sql.proofs.ExpressionSound.{sound_expr, tame_expr}
 
-count_sound : (d : ℕ) (ts : List Token) (x : Output × List Token) → count_at d ts ≡ Some x → IsOutput (Fixed s.Count ∷ Fixed s.Open ∷ ts) x.1 x.0
+count_sound : (d : ℕ) (ts : List Token) (x : Output × List Token) → count_at d ts ≡ Some x → IsOutput (Fixed (s.Word words.Count) ∷ Fixed (s.Mark marks.Open) ∷ ts) x.1 x.0
 unfolding count_at
 count_sound d ts x e =
-    elim (choose_some (after s.Times ts) _ _ (Some x) e) as (λ _. IsOutput (Fixed s.Count ∷ Fixed s.Open ∷ ts) x.1 x.0) [
+    elim (choose_some (after (s.Mark marks.Times) ts) _ _ (Some x) e) as (λ _. IsOutput (Fixed (s.Word words.Count) ∷ Fixed (s.Mark marks.Open) ∷ ts) x.1 x.0) [
       | inl g ↦
-          let f = bind_some (after s.Close g.0) _ x g.2 in
-          let m : ts ≡ Fixed s.Times ∷ Fixed s.Close ∷ f.0 = after_is s.Times ts g.0 g.1 ∙ ap (λ z. Fixed s.Times ∷ z) (after_is s.Close g.0 f.0 f.1) in
-          spells IsOutput (Fixed s.Count ∷ Fixed s.Open ∷ ts) f.0 u.CountRows x (subst (λ z. IsOutput (Fixed s.Count ∷ Fixed s.Open ∷ z) f.0 u.CountRows) (sym m) count_rows) f.2
+          let f = bind_some (after (s.Mark marks.Close) g.0) _ x g.2 in
+          let m : ts ≡ Fixed (s.Mark marks.Times) ∷ Fixed (s.Mark marks.Close) ∷ f.0 = after_is (s.Mark marks.Times) ts g.0 g.1 ∙ ap (λ z. Fixed (s.Mark marks.Times) ∷ z) (after_is (s.Mark marks.Close) g.0 f.0 f.1) in
+          spells IsOutput (Fixed (s.Word words.Count) ∷ Fixed (s.Mark marks.Open) ∷ ts) f.0 u.CountRows x (subst (λ z. IsOutput (Fixed (s.Word words.Count) ∷ Fixed (s.Mark marks.Open) ∷ z) f.0 u.CountRows) (sym m) count_rows) f.2
       | inr b ↦
           let f = bind_some (closed_at (expr_at d) ts) _ x b.1 in
-          spells IsOutput (Fixed s.Count ∷ Fixed s.Open ∷ ts) f.0.1 (u.Count f.0.0) x (count (sound_closed (expr_at d) IsExpr (sound_expr d) ts f.0 f.1)) f.2
+          spells IsOutput (Fixed (s.Word words.Count) ∷ Fixed (s.Mark marks.Open) ∷ ts) f.0.1 (u.Count f.0.0) x (count (sound_closed (expr_at d) IsExpr (sound_expr d) ts f.0 f.1)) f.2
     ]
 
 output_sound : (d : ℕ) (ts : List Token) (x : Output × List Token) → output_at d ts ≡ Some x → IsOutput ts x.1 x.0
 unfolding output_at parens_at
 output_sound d ts x e =
-    elim (choose_some (after s.Sum ts) _ _ (Some x) e) as (λ _. IsOutput ts x.1 x.0) [
+    elim (choose_some (after (s.Word words.Sum) ts) _ _ (Some x) e) as (λ _. IsOutput ts x.1 x.0) [
       | inl g ↦
           let f = bind_some (parens_at (expr_at d) g.0) _ x g.2 in
-          let q = bind_some (after s.Open g.0) _ f.0 f.1 in
-          let m : ts ≡ Fixed s.Sum ∷ Fixed s.Open ∷ q.0 = after_is s.Sum ts g.0 g.1 ∙ ap (λ z. Fixed s.Sum ∷ z) (after_is s.Open g.0 q.0 q.1) in
-          spells IsOutput ts f.0.1 (u.Sum f.0.0) x (starts IsOutput ts (Fixed s.Sum ∷ Fixed s.Open ∷ q.0) f.0.1 (u.Sum f.0.0) m (sum (sound_closed (expr_at d) IsExpr (sound_expr d) q.0 f.0 q.2))) f.2
+          let q = bind_some (after (s.Mark marks.Open) g.0) _ f.0 f.1 in
+          let m : ts ≡ Fixed (s.Word words.Sum) ∷ Fixed (s.Mark marks.Open) ∷ q.0 = after_is (s.Word words.Sum) ts g.0 g.1 ∙ ap (λ z. Fixed (s.Word words.Sum) ∷ z) (after_is (s.Mark marks.Open) g.0 q.0 q.1) in
+          spells IsOutput ts f.0.1 (u.Sum f.0.0) x (starts IsOutput ts (Fixed (s.Word words.Sum) ∷ Fixed (s.Mark marks.Open) ∷ q.0) f.0.1 (u.Sum f.0.0) m (sum (sound_closed (expr_at d) IsExpr (sound_expr d) q.0 f.0 q.2))) f.2
       | inr b ↦
-          elim (choose_some (after s.Count ts) _ _ (Some x) b.1) as (λ _. IsOutput ts x.1 x.0) [
+          elim (choose_some (after (s.Word words.Count) ts) _ _ (Some x) b.1) as (λ _. IsOutput ts x.1 x.0) [
             | inl g ↦
-                let q = bind_some (after s.Open g.0) _ x g.2 in
-                let m : ts ≡ Fixed s.Count ∷ Fixed s.Open ∷ q.0 = after_is s.Count ts g.0 g.1 ∙ ap (λ z. Fixed s.Count ∷ z) (after_is s.Open g.0 q.0 q.1) in
-                starts IsOutput ts (Fixed s.Count ∷ Fixed s.Open ∷ q.0) x.1 x.0 m (count_sound d q.0 x q.2)
+                let q = bind_some (after (s.Mark marks.Open) g.0) _ x g.2 in
+                let m : ts ≡ Fixed (s.Word words.Count) ∷ Fixed (s.Mark marks.Open) ∷ q.0 = after_is (s.Word words.Count) ts g.0 g.1 ∙ ap (λ z. Fixed (s.Word words.Count) ∷ z) (after_is (s.Mark marks.Open) g.0 q.0 q.1) in
+                starts IsOutput ts (Fixed (s.Word words.Count) ∷ Fixed (s.Mark marks.Open) ∷ q.0) x.1 x.0 m (count_sound d q.0 x q.2)
             | inr g ↦
                 let f = bind_some (column_at ts) _ x g.1 in
                 spells IsOutput ts f.0.1 (u.Column f.0.0) x (column (sound_column.by ts f.0 f.1)) f.2
@@ -64,10 +66,10 @@ unfolding item_at
 item_sound d ts x e =
     let f = bind_some (output_at d ts) _ x e in
     let one = output_sound d ts f.0 f.1 in
-    elim (choose_some (after s.As f.0.1) _ _ (Some x) f.2) as (λ _. IsItem ts x.1 x.0) [
+    elim (choose_some (after (s.Word words.As) f.0.1) _ _ (Some x) f.2) as (λ _. IsItem ts x.1 x.0) [
       | inl g ↦
           let q = bind_some (name_at g.0) _ x g.2 in
-          let m : f.0.1 ≡ Fixed s.As ∷ Name q.0.0 ∷ q.0.1 = after_is s.As f.0.1 g.0 g.1 ∙ ap (λ z. Fixed s.As ∷ z) (name_is g.0 q.0 q.1) in
+          let m : f.0.1 ≡ Fixed (s.Word words.As) ∷ Name q.0.0 ∷ q.0.1 = after_is (s.Word words.As) f.0.1 g.0 g.1 ∙ ap (λ z. Fixed (s.Word words.As) ∷ z) (name_is g.0 q.0 q.1) in
           spells IsItem ts q.0.1 (item_of f.0.0 (Some q.0.0)) x (named (subst (λ z. IsOutput ts z f.0.0) m one)) q.2
       | inr g ↦ spells IsItem ts f.0.1 (item_of f.0.0 None) x (unnamed one) g.1
     ]
@@ -92,11 +94,11 @@ unfolding order_at
 order_sound ts x e =
     let f = bind_some (key_at ts) _ x e in
     let one = key_sound ts f.0 f.1 in
-    elim (choose_some (after s.Asc f.0.1) _ _ (Some x) f.2) as (λ _. IsOrder ts x.1 x.0) [
-      | inl g ↦ spells IsOrder ts g.0 (order_of f.0.0 false) x (asc (followed IsKey s.Asc ts f.0.1 g.0 f.0.0 g.1 one)) g.2
+    elim (choose_some (after (s.Word words.Asc) f.0.1) _ _ (Some x) f.2) as (λ _. IsOrder ts x.1 x.0) [
+      | inl g ↦ spells IsOrder ts g.0 (order_of f.0.0 false) x (asc (followed IsKey (s.Word words.Asc) ts f.0.1 g.0 f.0.0 g.1 one)) g.2
       | inr b ↦
-          elim (choose_some (after s.Desc f.0.1) _ _ (Some x) b.1) as (λ _. IsOrder ts x.1 x.0) [
-            | inl g ↦ spells IsOrder ts g.0 (order_of f.0.0 true) x (desc (followed IsKey s.Desc ts f.0.1 g.0 f.0.0 g.1 one)) g.2
+          elim (choose_some (after (s.Word words.Desc) f.0.1) _ _ (Some x) b.1) as (λ _. IsOrder ts x.1 x.0) [
+            | inl g ↦ spells IsOrder ts g.0 (order_of f.0.0 true) x (desc (followed IsKey (s.Word words.Desc) ts f.0.1 g.0 f.0.0 g.1 one)) g.2
             | inr g ↦ spells IsOrder ts f.0.1 (order_of f.0.0 false) x (plain one) g.1
           ]
     ]
@@ -151,8 +153,8 @@ order_within (desc a) d h = key_within a d h
 pub tame_order : Tame IsOrder
 tame_order = record { shorter = λ h. order_shorter h; within = λ h d w. order_within h d w }
 
-pub item_shrinks : (d : ℕ) → Shrinks (after s.Comma) (item_at d)
-item_shrinks d = shrinks s.Comma (item_at d) IsItem (sound_item d) tame_item
+pub item_shrinks : (d : ℕ) → Shrinks (after (s.Mark marks.Comma)) (item_at d)
+item_shrinks d = shrinks (s.Mark marks.Comma) (item_at d) IsItem (sound_item d) tame_item
 
-pub order_shrinks : Shrinks (after s.Comma) order_at
-order_shrinks = shrinks s.Comma order_at IsOrder sound_order tame_order
+pub order_shrinks : Shrinks (after (s.Mark marks.Comma)) order_at
+order_shrinks = shrinks (s.Mark marks.Comma) order_at IsOrder sound_order tame_order

@@ -4,6 +4,7 @@ use Rattle.std.specs.Prelude.{nat_le, neg_ℤ}
 use Rattle.std.proofs.lemmas.Bool.{leb-true, le-leb}
 use Rattle.ssb_sql.specs.declared.token.Token.{Token}
 use Rattle.ssb_sql.specs.declared.token.Token.TheVariants.{Fixed, Name, Number, Text}
+use Rattle.ssb_sql.specs.declared.token.Mark.TheVariants as marks
 use Rattle.ssb_sql.specs.declared.token.Sign.TheVariants as s
 use Rattle.ssb_sql.specs.declared.expr.ColumnName.{ColumnName}
 use Rattle.ssb_sql.specs.declared.condition.Literal.{Literal}
@@ -43,11 +44,11 @@ column_sound : (ts : List Token) (x : ColumnName × List Token) → column_at ts
 unfolding column_at
 column_sound ts x e =
     let f = bind_some (name_at ts) _ x e in
-    elim (choose_some (after s.Dot f.0.1) _ _ (Some x) f.2) as (λ _. IsColumn ts x.1 x.0) [
+    elim (choose_some (after (s.Mark marks.Dot) f.0.1) _ _ (Some x) f.2) as (λ _. IsColumn ts x.1 x.0) [
       | inl g ↦
           let q = bind_some (name_at g.0) _ x g.2 in
-          let here = starts IsColumn ts (Name f.0.0 ∷ Fixed s.Dot ∷ Name q.0.0 ∷ q.0.1) q.0.1 (column_of (Some f.0.0) q.0.0)
-          (name_is ts f.0 f.1 ∙ ap (λ z. Name f.0.0 ∷ z) (after_is s.Dot f.0.1 g.0 g.1 ∙ ap (λ z. Fixed s.Dot ∷ z) (name_is g.0 q.0 q.1))) dotted in
+          let here = starts IsColumn ts (Name f.0.0 ∷ Fixed (s.Mark marks.Dot) ∷ Name q.0.0 ∷ q.0.1) q.0.1 (column_of (Some f.0.0) q.0.0)
+          (name_is ts f.0 f.1 ∙ ap (λ z. Name f.0.0 ∷ z) (after_is (s.Mark marks.Dot) f.0.1 g.0 g.1 ∙ ap (λ z. Fixed (s.Mark marks.Dot) ∷ z) (name_is g.0 q.0 q.1))) dotted in
           spells IsColumn ts q.0.1 (column_of (Some f.0.0) q.0.0) x here q.2
       | inr g ↦ spells IsColumn ts f.0.1 (column_of None f.0.0) x (starts IsColumn ts (Name f.0.0 ∷ f.0.1) f.0.1 (column_of None f.0.0) (name_is ts f.0 f.1) alone) g.1
     ]
@@ -96,17 +97,17 @@ plain_literal_sound ts x e =
 literal_sound : (ts : List Token) (x : Literal × List Token) → literal_at ts ≡ Some x → IsLiteral ts x.1 x.0
 unfolding literal_at
 literal_sound ts x e =
-    elim (choose_some (after s.Plus ts) _ _ (Some x) e) as (λ _. IsLiteral ts x.1 x.0) [
+    elim (choose_some (after (s.Mark marks.Plus) ts) _ _ (Some x) e) as (λ _. IsLiteral ts x.1 x.0) [
       | inl g ↦
           let f = bind_some (small_at g.0) _ x g.2 in
           let q = small_is g.0 f.0 f.1 in
-          spells IsLiteral ts f.0.1 (l.Number f.0.0) x (subst (λ z. IsLiteral ts f.0.1 (l.Number z)) q.3 (starts IsLiteral ts (Fixed s.Plus ∷ Number q.0 ∷ f.0.1) f.0.1 (l.Number (pos q.0)) (after_is s.Plus ts g.0 g.1 ∙ ap (λ z. Fixed s.Plus ∷ z) q.1) (positive q.2))) f.2
+          spells IsLiteral ts f.0.1 (l.Number f.0.0) x (subst (λ z. IsLiteral ts f.0.1 (l.Number z)) q.3 (starts IsLiteral ts (Fixed (s.Mark marks.Plus) ∷ Number q.0 ∷ f.0.1) f.0.1 (l.Number (pos q.0)) (after_is (s.Mark marks.Plus) ts g.0 g.1 ∙ ap (λ z. Fixed (s.Mark marks.Plus) ∷ z) q.1) (positive q.2))) f.2
       | inr a ↦
-          elim (choose_some (after s.Minus ts) _ _ (Some x) a.1) as (λ _. IsLiteral ts x.1 x.0) [
+          elim (choose_some (after (s.Mark marks.Minus) ts) _ _ (Some x) a.1) as (λ _. IsLiteral ts x.1 x.0) [
             | inl g ↦
                 let f = bind_some (below_at g.0) _ x g.2 in
                 let q = below_is g.0 f.0 f.1 in
-                spells IsLiteral ts f.0.1 (l.Number f.0.0) x (subst (λ z. IsLiteral ts f.0.1 (l.Number z)) q.3 (starts IsLiteral ts (Fixed s.Minus ∷ Number q.0 ∷ f.0.1) f.0.1 (l.Number (neg_ℤ (pos q.0))) (after_is s.Minus ts g.0 g.1 ∙ ap (λ z. Fixed s.Minus ∷ z) q.1) (negative q.2))) f.2
+                spells IsLiteral ts f.0.1 (l.Number f.0.0) x (subst (λ z. IsLiteral ts f.0.1 (l.Number z)) q.3 (starts IsLiteral ts (Fixed (s.Mark marks.Minus) ∷ Number q.0 ∷ f.0.1) f.0.1 (l.Number (neg_ℤ (pos q.0))) (after_is (s.Mark marks.Minus) ts g.0 g.1 ∙ ap (λ z. Fixed (s.Mark marks.Minus) ∷ z) q.1) (negative q.2))) f.2
             | inr g ↦ plain_literal_sound ts x g.1
           ]
     ]
@@ -175,14 +176,14 @@ operand_within (literal a) d h = literal_within a d h
 pub tame_operand : Tame IsOperand
 tame_operand = record { shorter = λ h. operand_shorter h; within = λ h d w. operand_within h d w }
 
-pub name_shrinks : Shrinks (after s.Comma) name_at
-name_shrinks = shrinks s.Comma name_at IsNamed sound_name tame_name
+pub name_shrinks : Shrinks (after (s.Mark marks.Comma)) name_at
+name_shrinks = shrinks (s.Mark marks.Comma) name_at IsNamed sound_name tame_name
 
-pub column_shrinks : Shrinks (after s.Comma) column_at
-column_shrinks = shrinks s.Comma column_at IsColumn sound_column tame_column
+pub column_shrinks : Shrinks (after (s.Mark marks.Comma)) column_at
+column_shrinks = shrinks (s.Mark marks.Comma) column_at IsColumn sound_column tame_column
 
-pub literal_shrinks : Shrinks (after s.Comma) literal_at
-literal_shrinks = shrinks s.Comma literal_at IsLiteral sound_literal tame_literal
+pub literal_shrinks : Shrinks (after (s.Mark marks.Comma)) literal_at
+literal_shrinks = shrinks (s.Mark marks.Comma) literal_at IsLiteral sound_literal tame_literal
 
 -- what follows the name, the number or the text that is read
 pub name_read : (n : List ℕ) (to : List Token) → name_at (Name n ∷ to) ≡ Some (n, to)
@@ -196,10 +197,10 @@ pub number_read : (n : ℕ) (to : List Token) → number_at (Number n ∷ to) �
 unfolding number_at
 number_read n to = refl
 
-pub column_read : {from to : List Token} {x : ColumnName} → IsColumn from to x → Stops s.Dot to → column_at from ≡ Some (x, to)
+pub column_read : {from to : List Token} {x : ColumnName} → IsColumn from to x → Stops (s.Mark marks.Dot) to → column_at from ≡ Some (x, to)
 unfolding column_at
 column_read (alone {to = to} {n = n}) h = rw (name_read n to, h) refl
-column_read (dotted {to = to} {t = t} {n = n}) h = rw (name_read t (Fixed s.Dot ∷ Name n ∷ to), sees s.Dot (Name n ∷ to), name_read n to) refl
+column_read (dotted {to = to} {t = t} {n = n}) h = rw (name_read t (Fixed (s.Mark marks.Dot) ∷ Name n ∷ to), sees (s.Mark marks.Dot) (Name n ∷ to), name_read n to) refl
 
 small_read : (n : ℕ) (to : List Token) → n ≤ 9223372036854775807 → small_at (Number n ∷ to) ≡ Some (pos n, to)
 unfolding small_at
@@ -212,8 +213,8 @@ below_read n to h = rw (number_read n to, le-leb n 9223372036854775807 h) refl
 pub literal_read : {from to : List Token} {x : Literal} → IsLiteral from to x → literal_at from ≡ Some (x, to)
 unfolding literal_at plain_literal_at after is_fixed is_text_next text_at
 literal_read (number {to = to} {n = n} h) = rw (small_read n to h) refl
-literal_read (positive {to = to} {n = n} h) = rw (sees s.Plus (Number n ∷ to), small_read n to h) refl
-literal_read (negative {to = to} {n = n} h) = rw (stops s.Minus s.Plus (Number n ∷ to) (differs s.Minus s.Plus refl), sees s.Minus (Number n ∷ to), below_read n to h) refl
+literal_read (positive {to = to} {n = n} h) = rw (sees (s.Mark marks.Plus) (Number n ∷ to), small_read n to h) refl
+literal_read (negative {to = to} {n = n} h) = rw (stops (s.Mark marks.Minus) (s.Mark marks.Plus) (Number n ∷ to) (differs (s.Mark marks.Minus) (s.Mark marks.Plus) refl), sees (s.Mark marks.Minus) (Number n ∷ to), below_read n to h) refl
 literal_read text = refl
 
 pub column_next : {from to : List Token} {x : ColumnName} → IsColumn from to x → is_name_next from ≡ true
@@ -228,7 +229,7 @@ literal_next (positive h) = refl
 literal_next (negative h) = refl
 literal_next text = refl
 
-pub operand_read : {from to : List Token} {x : Operand} → IsOperand from to x → Stops s.Dot to → operand_at from ≡ Some (x, to)
+pub operand_read : {from to : List Token} {x : Operand} → IsOperand from to x → Stops (s.Mark marks.Dot) to → operand_at from ≡ Some (x, to)
 unfolding operand_at
 operand_read (column a) h = rw (column_next a, column_read a h) refl
 operand_read (literal a) h = rw (literal_next a, literal_read a) refl

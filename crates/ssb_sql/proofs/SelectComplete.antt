@@ -3,6 +3,8 @@ use Rattle.std.proofs.Common.{◌≡◌, ℕ, zero, suc, true, false, List, [], 
 use Rattle.ssb_sql.specs.declared.token.Token.{Token}
 use Rattle.ssb_sql.specs.declared.token.Token.TheVariants.{Fixed, Name}
 use Rattle.ssb_sql.specs.declared.token.Sign.{Sign}
+use Rattle.ssb_cells.specs.declared.keyword.Keyword.TheVariants as words
+use Rattle.ssb_sql.specs.declared.token.Mark.TheVariants as marks
 use Rattle.ssb_sql.specs.declared.token.Sign.TheVariants as s
 use Rattle.ssb_sql.specs.declared.expr.ColumnName.{ColumnName}
 use Rattle.ssb_sql.specs.declared.expr.Expr.{Expr}
@@ -41,26 +43,26 @@ no : (found sign : Sign) (ts : List Token) → is_sign found sign ≡ false → 
 no found sign ts h = stops found sign ts h
 
 -- aggregates
-column_goes : {from to : List Token} {x : ColumnName} → IsColumn from to x → (d : ℕ) → Stops s.Dot to → output_at d from ≡ Some (u.Column x, to)
+column_goes : {from to : List Token} {x : ColumnName} → IsColumn from to x → (d : ℕ) → Stops (s.Mark marks.Dot) to → output_at d from ≡ Some (u.Column x, to)
 unfolding output_at
-column_goes a d n = rw (column_begins a s.Sum, column_begins a s.Count, column_read a n) refl
+column_goes a d n = rw (column_begins a (s.Word words.Sum), column_begins a (s.Word words.Count), column_read a n) refl
 
-sum_goes : (d : ℕ) (ts to : List Token) (x : Expr) → expr_at d ts ≡ Some (x, Fixed s.Close ∷ to) → output_at d (Fixed s.Sum ∷ Fixed s.Open ∷ ts) ≡ Some (u.Sum x, to)
+sum_goes : (d : ℕ) (ts to : List Token) (x : Expr) → expr_at d ts ≡ Some (x, Fixed (s.Mark marks.Close) ∷ to) → output_at d (Fixed (s.Word words.Sum) ∷ Fixed (s.Mark marks.Open) ∷ ts) ≡ Some (u.Sum x, to)
 unfolding output_at parens_at
-sum_goes d ts to x e = rw (sees s.Sum (Fixed s.Open ∷ ts), sees s.Open ts, closed_read (expr_at d) ts to x e) refl
+sum_goes d ts to x e = rw (sees (s.Word words.Sum) (Fixed (s.Mark marks.Open) ∷ ts), sees (s.Mark marks.Open) ts, closed_read (expr_at d) ts to x e) refl
 
-rows_goes : (d : ℕ) (to : List Token) → output_at d (Fixed s.Count ∷ Fixed s.Open ∷ Fixed s.Times ∷ Fixed s.Close ∷ to) ≡ Some (u.CountRows, to)
+rows_goes : (d : ℕ) (to : List Token) → output_at d (Fixed (s.Word words.Count) ∷ Fixed (s.Mark marks.Open) ∷ Fixed (s.Mark marks.Times) ∷ Fixed (s.Mark marks.Close) ∷ to) ≡ Some (u.CountRows, to)
 unfolding output_at count_at
 rows_goes d to =
-    let ts = Fixed s.Times ∷ Fixed s.Close ∷ to in
-    rw (no s.Count s.Sum (Fixed s.Open ∷ ts) (differs s.Count s.Sum refl), sees s.Count (Fixed s.Open ∷ ts), sees s.Open ts, sees s.Times (Fixed s.Close ∷ to), sees s.Close to) refl
+    let ts = Fixed (s.Mark marks.Times) ∷ Fixed (s.Mark marks.Close) ∷ to in
+    rw (no (s.Word words.Count) (s.Word words.Sum) (Fixed (s.Mark marks.Open) ∷ ts) (differs (s.Word words.Count) (s.Word words.Sum) refl), sees (s.Word words.Count) (Fixed (s.Mark marks.Open) ∷ ts), sees (s.Mark marks.Open) ts, sees (s.Mark marks.Times) (Fixed (s.Mark marks.Close) ∷ to), sees (s.Mark marks.Close) to) refl
 
-count_goes : (d : ℕ) (ts to : List Token) (x : Expr) → Stops s.Times ts → expr_at d ts ≡ Some (x, Fixed s.Close ∷ to) → output_at d (Fixed s.Count ∷ Fixed s.Open ∷ ts) ≡ Some (u.Count x, to)
+count_goes : (d : ℕ) (ts to : List Token) (x : Expr) → Stops (s.Mark marks.Times) ts → expr_at d ts ≡ Some (x, Fixed (s.Mark marks.Close) ∷ to) → output_at d (Fixed (s.Word words.Count) ∷ Fixed (s.Mark marks.Open) ∷ ts) ≡ Some (u.Count x, to)
 unfolding output_at count_at
 count_goes d ts to x h e =
-    rw (no s.Count s.Sum (Fixed s.Open ∷ ts) (differs s.Count s.Sum refl), sees s.Count (Fixed s.Open ∷ ts), sees s.Open ts, h, closed_read (expr_at d) ts to x e) refl
+    rw (no (s.Word words.Count) (s.Word words.Sum) (Fixed (s.Mark marks.Open) ∷ ts) (differs (s.Word words.Count) (s.Word words.Sum) refl), sees (s.Word words.Count) (Fixed (s.Mark marks.Open) ∷ ts), sees (s.Mark marks.Open) ts, h, closed_read (expr_at d) ts to x e) refl
 
-output_read : {from to : List Token} {x : Output} → IsOutput from to x → (d : ℕ) → HasRoom d from → Stops s.Dot to → output_at d from ≡ Some (x, to)
+output_read : {from to : List Token} {x : Output} → IsOutput from to x → (d : ℕ) → HasRoom d from → Stops (s.Mark marks.Dot) to → output_at d from ≡ Some (x, to)
 output_read (column a) d h n = column_goes a d n
 output_read (sum a) zero h n = absurd h
 output_read (sum {from = from} {to = to} {x = x} a) (suc d) h n = sum_goes (suc d) from to x (expr_read a d h (close_ends to))
@@ -70,42 +72,42 @@ output_read (count {from = from} {to = to} {x = x} a) (suc d) h n = count_goes (
 
 -- what may follow an item
 pub record EndsItem (to : List Token) : Type 0 where
-  pub dot : Stops s.Dot to
-  pub alias : Stops s.As to
+  pub dot : Stops (s.Mark marks.Dot) to
+  pub alias : Stops (s.Word words.As) to
 
 item_read : {from to : List Token} {x : Item} → IsItem from to x → (d : ℕ) → HasRoom d from → EndsItem to → item_at d from ≡ Some (x, to)
 unfolding item_at
 item_read (unnamed a) d h z = rw (output_read a d h z.dot, z.alias) refl
 item_read (named {to = to} {n = n} a) d h z =
-    rw (output_read a d h (no s.As s.Dot (Name n ∷ to) (differs s.As s.Dot refl)), sees s.As (Name n ∷ to), name_read n to) refl
+    rw (output_read a d h (no (s.Word words.As) (s.Mark marks.Dot) (Name n ∷ to) (differs (s.Word words.As) (s.Mark marks.Dot) refl)), sees (s.Word words.As) (Name n ∷ to), name_read n to) refl
 
 complete_item : (d : ℕ) → Complete (item_at d) IsItem d EndsItem
 complete_item d = record { by = λ h w z. item_read h d w z }
 
 item_goes_on : GoesOn EndsItem
-item_goes_on = record { comma = λ ts. record { dot = no s.Comma s.Dot ts (differs s.Comma s.Dot refl); alias = no s.Comma s.As ts (differs s.Comma s.As refl) } }
+item_goes_on = record { comma = λ ts. record { dot = no (s.Mark marks.Comma) (s.Mark marks.Dot) ts (differs (s.Mark marks.Comma) (s.Mark marks.Dot) refl); alias = no (s.Mark marks.Comma) (s.Word words.As) ts (differs (s.Mark marks.Comma) (s.Word words.As) refl) } }
 
-items_read : (d : ℕ) (from to : List Token) (xs : List Item) → IsList IsItem from (Fixed s.From ∷ to) xs → HasRoom d from → list_at (item_at d) from ≡ Some (xs, Fixed s.From ∷ to)
+items_read : (d : ℕ) (from to : List Token) (xs : List Item) → IsList IsItem from (Fixed (s.Word words.From) ∷ to) xs → HasRoom d from → list_at (item_at d) from ≡ Some (xs, Fixed (s.Word words.From) ∷ to)
 items_read d from to xs h w =
     list_read (item_at d) IsItem tame_item d EndsItem item_goes_on (complete_item d) h w
-    (record { dot = no s.From s.Dot to (differs s.From s.Dot refl); alias = no s.From s.As to (differs s.From s.As refl) }) (no s.From s.Comma to (differs s.From s.Comma refl))
+    (record { dot = no (s.Word words.From) (s.Mark marks.Dot) to (differs (s.Word words.From) (s.Mark marks.Dot) refl); alias = no (s.Word words.From) (s.Word words.As) to (differs (s.Word words.From) (s.Word words.As) refl) }) (no (s.Word words.From) (s.Mark marks.Comma) to (differs (s.Word words.From) (s.Mark marks.Comma) refl))
 
 -- names, columns and keys
 any_end : GoesOn (λ to. Unit {0})
 any_end = record { comma = λ ts. tt }
 
-names_read : (from to : List Token) (xs : List (List ℕ)) → IsList IsNamed from to xs → Stops s.Comma to → list_at name_at from ≡ Some (xs, to)
+names_read : (from to : List Token) (xs : List (List ℕ)) → IsList IsNamed from to xs → Stops (s.Mark marks.Comma) to → list_at name_at from ≡ Some (xs, to)
 names_read from to xs h n =
     let d = length from in
     list_read name_at IsNamed tame_name d (λ to. Unit {0}) any_end (record { by = λ a w f. named_read a }) h (all_within from d (omega arith)) tt n
 
-column_goes_on : GoesOn (Stops s.Dot)
-column_goes_on = record { comma = λ ts. no s.Comma s.Dot ts (differs s.Comma s.Dot refl) }
+column_goes_on : GoesOn (Stops (s.Mark marks.Dot))
+column_goes_on = record { comma = λ ts. no (s.Mark marks.Comma) (s.Mark marks.Dot) ts (differs (s.Mark marks.Comma) (s.Mark marks.Dot) refl) }
 
-columns_read : (from to : List Token) (xs : List ColumnName) → IsList IsColumn from to xs → Stops s.Dot to → Stops s.Comma to → list_at column_at from ≡ Some (xs, to)
+columns_read : (from to : List Token) (xs : List ColumnName) → IsList IsColumn from to xs → Stops (s.Mark marks.Dot) to → Stops (s.Mark marks.Comma) to → list_at column_at from ≡ Some (xs, to)
 columns_read from to xs h m n =
     let d = length from in
-    list_read column_at IsColumn tame_column d (Stops s.Dot) column_goes_on (record { by = λ a w f. column_read a f }) h (all_within from d (omega arith)) m n
+    list_read column_at IsColumn tame_column d (Stops (s.Mark marks.Dot)) column_goes_on (record { by = λ a w f. column_read a f }) h (all_within from d (omega arith)) m n
 
 key_read : {from to : List Token} {x : Key} → IsKey from to x → key_at from ≡ Some (x, to)
 unfolding key_at is_name_next
@@ -114,19 +116,19 @@ key_read (position {to = to} {n = n}) = rw (number_read n to) refl
 
 -- what may follow a key
 pub record EndsKey (to : List Token) : Type 0 where
-  pub asc : Stops s.Asc to
-  pub desc : Stops s.Desc to
+  pub asc : Stops (s.Word words.Asc) to
+  pub desc : Stops (s.Word words.Desc) to
 
 order_read : {from to : List Token} {x : Order} → IsOrder from to x → EndsKey to → order_at from ≡ Some (x, to)
 unfolding order_at
 order_read (plain a) z = rw (key_read a, z.asc, z.desc) refl
-order_read (asc {to = to} a) z = rw (key_read a, sees s.Asc to) refl
-order_read (desc {to = to} a) z = rw (key_read a, no s.Desc s.Asc to (differs s.Desc s.Asc refl), sees s.Desc to) refl
+order_read (asc {to = to} a) z = rw (key_read a, sees (s.Word words.Asc) to) refl
+order_read (desc {to = to} a) z = rw (key_read a, no (s.Word words.Desc) (s.Word words.Asc) to (differs (s.Word words.Desc) (s.Word words.Asc) refl), sees (s.Word words.Desc) to) refl
 
 key_goes_on : GoesOn EndsKey
-key_goes_on = record { comma = λ ts. record { asc = no s.Comma s.Asc ts (differs s.Comma s.Asc refl); desc = no s.Comma s.Desc ts (differs s.Comma s.Desc refl) } }
+key_goes_on = record { comma = λ ts. record { asc = no (s.Mark marks.Comma) (s.Word words.Asc) ts (differs (s.Mark marks.Comma) (s.Word words.Asc) refl); desc = no (s.Mark marks.Comma) (s.Word words.Desc) ts (differs (s.Mark marks.Comma) (s.Word words.Desc) refl) } }
 
-keys_read : (from to : List Token) (xs : List Order) → IsList IsOrder from to xs → EndsKey to → Stops s.Comma to → list_at order_at from ≡ Some (xs, to)
+keys_read : (from to : List Token) (xs : List Order) → IsList IsOrder from to xs → EndsKey to → Stops (s.Mark marks.Comma) to → list_at order_at from ≡ Some (xs, to)
 keys_read from to xs h z n =
     let d = length from in
     list_read order_at IsOrder tame_order d EndsKey key_goes_on (record { by = λ a w f. order_read a f }) h (all_within from d (omega arith)) z n
@@ -136,71 +138,71 @@ nil_stops : (sign : Sign) → Stops sign []
 unfolding after
 nil_stops sign = refl
 
-end_stops : {ts : List Token} → IsEnd ts → (sign : Sign) → is_sign s.Semicolon sign ≡ false → Stops sign ts
+end_stops : {ts : List Token} → IsEnd ts → (sign : Sign) → is_sign (s.Mark marks.Semicolon) sign ≡ false → Stops sign ts
 end_stops end sign p = nil_stops sign
-end_stops semicolon sign p = no s.Semicolon sign [] p
+end_stops semicolon sign p = no (s.Mark marks.Semicolon) sign [] p
 
-orders_stop : {from to : List Token} {xs : List Order} → IsOrders from to xs → (sign : Sign) → is_sign s.Order sign ≡ false → Stops sign to → Stops sign from
+orders_stop : {from to : List Token} {xs : List Order} → IsOrders from to xs → (sign : Sign) → is_sign (s.Word words.Order) sign ≡ false → Stops sign to → Stops sign from
 orders_stop no_orders sign p h = h
-orders_stop (orders {from = from} a) sign p h = no s.Order sign (Fixed s.By ∷ from) p
+orders_stop (orders {from = from} a) sign p h = no (s.Word words.Order) sign (Fixed (s.Word words.By) ∷ from) p
 
-groups_stop : {from to : List Token} {xs : List ColumnName} → IsGroups from to xs → (sign : Sign) → is_sign s.Group sign ≡ false → Stops sign to → Stops sign from
+groups_stop : {from to : List Token} {xs : List ColumnName} → IsGroups from to xs → (sign : Sign) → is_sign (s.Word words.Group) sign ≡ false → Stops sign to → Stops sign from
 groups_stop no_groups sign p h = h
-groups_stop (groups {from = from} a) sign p h = no s.Group sign (Fixed s.By ∷ from) p
+groups_stop (groups {from = from} a) sign p h = no (s.Word words.Group) sign (Fixed (s.Word words.By) ∷ from) p
 
-where_stops : {from to : List Token} {x : Option Condition} → IsWhere from to x → (sign : Sign) → is_sign s.Where sign ≡ false → Stops sign to → Stops sign from
+where_stops : {from to : List Token} {x : Option Condition} → IsWhere from to x → (sign : Sign) → is_sign (s.Word words.Where) sign ≡ false → Stops sign to → Stops sign from
 where_stops no_where sign p h = h
-where_stops (where_cond {from = from} a) sign p h = no s.Where sign from p
+where_stops (where_cond {from = from} a) sign p h = no (s.Word words.Where) sign from p
 
 -- the parts behind FROM
-where_read : {from to : List Token} {x : Option Condition} → IsWhere from to x → (d : ℕ) → HasRoom d from → Stops s.Where to → EndsCond to → where_at (suc d) from ≡ Some (x, to)
+where_read : {from to : List Token} {x : Option Condition} → IsWhere from to x → (d : ℕ) → HasRoom d from → Stops (s.Word words.Where) to → EndsCond to → where_at (suc d) from ≡ Some (x, to)
 unfolding where_at
 where_read no_where d h n z = rw n refl
-where_read (where_cond {from = from} a) d h n z = rw (sees s.Where from, cond_read a d h z) refl
+where_read (where_cond {from = from} a) d h n z = rw (sees (s.Word words.Where) from, cond_read a d h z) refl
 
-groups_read : {from to : List Token} {xs : List ColumnName} → IsGroups from to xs → Stops s.Group to → Stops s.Dot to → Stops s.Comma to → groups_at from ≡ Some (xs, to)
+groups_read : {from to : List Token} {xs : List ColumnName} → IsGroups from to xs → Stops (s.Word words.Group) to → Stops (s.Mark marks.Dot) to → Stops (s.Mark marks.Comma) to → groups_at from ≡ Some (xs, to)
 unfolding groups_at
 groups_read no_groups g m n = rw g refl
-groups_read (groups {from = from} {to = to} {xs = xs} a) g m n = rw (sees s.Group (Fixed s.By ∷ from), sees s.By from) (columns_read from to xs a m n)
+groups_read (groups {from = from} {to = to} {xs = xs} a) g m n = rw (sees (s.Word words.Group) (Fixed (s.Word words.By) ∷ from), sees (s.Word words.By) from) (columns_read from to xs a m n)
 
-orders_read : {from to : List Token} {xs : List Order} → IsOrders from to xs → Stops s.Order to → EndsKey to → Stops s.Comma to → orders_at from ≡ Some (xs, to)
+orders_read : {from to : List Token} {xs : List Order} → IsOrders from to xs → Stops (s.Word words.Order) to → EndsKey to → Stops (s.Mark marks.Comma) to → orders_at from ≡ Some (xs, to)
 unfolding orders_at
 orders_read no_orders g z n = rw g refl
-orders_read (orders {from = from} {to = to} {xs = xs} a) g z n = rw (sees s.Order (Fixed s.By ∷ from), sees s.By from) (keys_read from to xs a z n)
+orders_read (orders {from = from} {to = to} {xs = xs} a) g z n = rw (sees (s.Word words.Order) (Fixed (s.Word words.By) ∷ from), sees (s.Word words.By) from) (keys_read from to xs a z n)
 
 ends_read : {ts : List Token} → IsEnd ts → ends ts ≡ true
 unfolding ends
-ends_read end = rw (nil_stops s.Semicolon) refl
-ends_read semicolon = rw (sees s.Semicolon []) refl
+ends_read end = rw (nil_stops (s.Mark marks.Semicolon)) refl
+ends_read semicolon = rw (sees (s.Mark marks.Semicolon) []) refl
 
 rest_goes : (d : ℕ) (items : List Item) (from : List (List ℕ)) (c e f g : List Token) (w : Option Condition) (xs : List ColumnName) (ys : List Order) → where_at (suc d) c ≡ Some (w, e) → groups_at e ≡ Some (xs, f)
     → orders_at f ≡ Some (ys, g) → rest_at d items from c ≡ Some (select_of items from w xs ys, g)
 unfolding rest_at
 rest_goes d items from c e f g w xs ys p q r = rw (p, q, r) refl
 
-query_goes : (d : ℕ) (a b c g : List Token) (items : List Item) (from : List (List ℕ)) (x : Select) → list_at (item_at d) a ≡ Some (items, Fixed s.From ∷ b) → list_at name_at b ≡ Some (from, c)
-    → rest_at d items from c ≡ Some (x, g) → query_at d (Fixed s.Select ∷ a) ≡ Some (x, g)
+query_goes : (d : ℕ) (a b c g : List Token) (items : List Item) (from : List (List ℕ)) (x : Select) → list_at (item_at d) a ≡ Some (items, Fixed (s.Word words.From) ∷ b) → list_at name_at b ≡ Some (from, c)
+    → rest_at d items from c ≡ Some (x, g) → query_at d (Fixed (s.Word words.Select) ∷ a) ≡ Some (x, g)
 unfolding query_at
-query_goes d a b c g items from x p q r = rw (sees s.Select a, p, sees s.From b, q) r
+query_goes d a b c g items from x p q r = rw (sees (s.Word words.Select) a, p, sees (s.Word words.From) b, q) r
 
 -- what is read of a query, and that nothing is left but its end
 pub whole_read : {ts : List Token} {x : Select} → Parses ts x → (d : ℕ) → HasRoom d ts → (rest : List Token) × (query_at d ts ≡ Some (x, rest)) × (ends rest ≡ true)
 whole_read (query {a = a} {b = b} {c = c} {d = e} {e = f} {f = g} {items = items} {from = from} {condition = w} {groups = xs} {orders = ys} one two where_is groups_are orders_are last) d h =
     let within_b : HasRoom d b = (tame_list IsItem tame_item).within one d h in
     let within_c : HasRoom d c = (tame_list IsNamed tame_name).within two d within_b in
-    let stops_f = λ (sign : Sign) (i : is_sign s.Semicolon sign ≡ false) (j : is_sign s.Order sign ≡ false). orders_stop orders_are sign j (end_stops last sign i) in
-    let stops_e = λ (sign : Sign) (i : is_sign s.Semicolon sign ≡ false) (j : is_sign s.Order sign ≡ false) (k : is_sign s.Group sign ≡ false). groups_stop groups_are sign k (stops_f sign i j) in
+    let stops_f = λ (sign : Sign) (i : is_sign (s.Mark marks.Semicolon) sign ≡ false) (j : is_sign (s.Word words.Order) sign ≡ false). orders_stop orders_are sign j (end_stops last sign i) in
+    let stops_e = λ (sign : Sign) (i : is_sign (s.Mark marks.Semicolon) sign ≡ false) (j : is_sign (s.Word words.Order) sign ≡ false) (k : is_sign (s.Word words.Group) sign ≡ false). groups_stop groups_are sign k (stops_f sign i j) in
     let ends_cond : EndsCond e = record {
-      dot = stops_e s.Dot (differs s.Semicolon s.Dot refl) (differs s.Order s.Dot refl) (differs s.Group s.Dot refl);
-      and = stops_e s.And (differs s.Semicolon s.And refl) (differs s.Order s.And refl) (differs s.Group s.And refl);
-      or = stops_e s.Or (differs s.Semicolon s.Or refl) (differs s.Order s.Or refl) (differs s.Group s.Or refl);
+      dot = stops_e (s.Mark marks.Dot) (differs (s.Mark marks.Semicolon) (s.Mark marks.Dot) refl) (differs (s.Word words.Order) (s.Mark marks.Dot) refl) (differs (s.Word words.Group) (s.Mark marks.Dot) refl);
+      and = stops_e (s.Word words.And) (differs (s.Mark marks.Semicolon) (s.Word words.And) refl) (differs (s.Word words.Order) (s.Word words.And) refl) (differs (s.Word words.Group) (s.Word words.And) refl);
+      or = stops_e (s.Word words.Or) (differs (s.Mark marks.Semicolon) (s.Word words.Or) refl) (differs (s.Word words.Order) (s.Word words.Or) refl) (differs (s.Word words.Group) (s.Word words.Or) refl);
     } in
-    let p = where_read where_is d within_c (stops_e s.Where (differs s.Semicolon s.Where refl) (differs s.Order s.Where refl) (differs s.Group s.Where refl)) ends_cond in
-    let q = groups_read groups_are (stops_f s.Group (differs s.Semicolon s.Group refl) (differs s.Order s.Group refl)) (stops_f s.Dot (differs s.Semicolon s.Dot refl) (differs s.Order s.Dot refl))
-    (stops_f s.Comma (differs s.Semicolon s.Comma refl) (differs s.Order s.Comma refl)) in
-    let ends_key : EndsKey g = record { asc = end_stops last s.Asc (differs s.Semicolon s.Asc refl); desc = end_stops last s.Desc (differs s.Semicolon s.Desc refl) } in
-    let r = orders_read orders_are (end_stops last s.Order (differs s.Semicolon s.Order refl)) ends_key (end_stops last s.Comma (differs s.Semicolon s.Comma refl)) in
-    let comma_stops = where_stops where_is s.Comma (differs s.Where s.Comma refl) (stops_e s.Comma (differs s.Semicolon s.Comma refl) (differs s.Order s.Comma refl) (differs s.Group s.Comma refl)) in
+    let p = where_read where_is d within_c (stops_e (s.Word words.Where) (differs (s.Mark marks.Semicolon) (s.Word words.Where) refl) (differs (s.Word words.Order) (s.Word words.Where) refl) (differs (s.Word words.Group) (s.Word words.Where) refl)) ends_cond in
+    let q = groups_read groups_are (stops_f (s.Word words.Group) (differs (s.Mark marks.Semicolon) (s.Word words.Group) refl) (differs (s.Word words.Order) (s.Word words.Group) refl)) (stops_f (s.Mark marks.Dot) (differs (s.Mark marks.Semicolon) (s.Mark marks.Dot) refl) (differs (s.Word words.Order) (s.Mark marks.Dot) refl))
+    (stops_f (s.Mark marks.Comma) (differs (s.Mark marks.Semicolon) (s.Mark marks.Comma) refl) (differs (s.Word words.Order) (s.Mark marks.Comma) refl)) in
+    let ends_key : EndsKey g = record { asc = end_stops last (s.Word words.Asc) (differs (s.Mark marks.Semicolon) (s.Word words.Asc) refl); desc = end_stops last (s.Word words.Desc) (differs (s.Mark marks.Semicolon) (s.Word words.Desc) refl) } in
+    let r = orders_read orders_are (end_stops last (s.Word words.Order) (differs (s.Mark marks.Semicolon) (s.Word words.Order) refl)) ends_key (end_stops last (s.Mark marks.Comma) (differs (s.Mark marks.Semicolon) (s.Mark marks.Comma) refl)) in
+    let comma_stops = where_stops where_is (s.Mark marks.Comma) (differs (s.Word words.Where) (s.Mark marks.Comma) refl) (stops_e (s.Mark marks.Comma) (differs (s.Mark marks.Semicolon) (s.Mark marks.Comma) refl) (differs (s.Word words.Order) (s.Mark marks.Comma) refl) (differs (s.Word words.Group) (s.Mark marks.Comma) refl)) in
     (g, query_goes d a b c g items from (select_of items from w xs ys) (items_read d a b items one h) (names_read b c from two comma_stops) (rest_goes d items from c e f g w xs ys p q r), ends_read last)
 
 -- tokens spell one query at most

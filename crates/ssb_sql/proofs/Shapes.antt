@@ -3,6 +3,7 @@ use Rattle.std.proofs.Common.{◌≡◌, ℕ, zero, suc, ◌<◌, ◌≤◌, Lis
 use Rattle.ssb_sql.specs.declared.token.Token.{Token}
 use Rattle.ssb_sql.specs.declared.token.Token.TheVariants.{Fixed}
 use Rattle.ssb_sql.specs.declared.token.Sign.{Sign}
+use Rattle.ssb_sql.specs.declared.token.Mark.TheVariants as marks
 use Rattle.ssb_sql.specs.declared.token.Sign.TheVariants as s
 use Rattle.ssb_sql.specs.Forms.{Spelling, IsMore, IsList}
 use Rattle.ssb_sql.specs.Forms.IsMore.{no_more, comma}
@@ -49,16 +50,16 @@ shrinks sign p R h t = record {
 }
 
 -- what stands before a `)`, and what stands in parentheses
-pub sound_closed : {A : Type 0} (p : Parser A) (R : Spelling A) → Sound p R → (ts : List Token) (x : A × List Token) → closed_at p ts ≡ Some x → R ts (Fixed s.Close ∷ x.1) x.0
+pub sound_closed : {A : Type 0} (p : Parser A) (R : Spelling A) → Sound p R → (ts : List Token) (x : A × List Token) → closed_at p ts ≡ Some x → R ts (Fixed (s.Mark marks.Close) ∷ x.1) x.0
 unfolding closed_at
 sound_closed p R h ts x e =
-    let f = bind_some (p ts) (λ y. after s.Close y.1 >>= λ to. Some (y.0, to)) x e in
-    let g = bind_some (after s.Close f.0.1) (λ to. Some (f.0.0, to)) x f.2 in
-    subst (λ y. R ts (Fixed s.Close ∷ y.1) y.0) (some_is (f.0.0, g.0) x g.2) (followed R s.Close ts f.0.1 g.0 f.0.0 g.1 (h.by ts f.0 f.1))
+    let f = bind_some (p ts) (λ y. after (s.Mark marks.Close) y.1 >>= λ to. Some (y.0, to)) x e in
+    let g = bind_some (after (s.Mark marks.Close) f.0.1) (λ to. Some (f.0.0, to)) x f.2 in
+    subst (λ y. R ts (Fixed (s.Mark marks.Close) ∷ y.1) y.0) (some_is (f.0.0, g.0) x g.2) (followed R (s.Mark marks.Close) ts f.0.1 g.0 f.0.0 g.1 (h.by ts f.0 f.1))
 
-pub closed_read : {A : Type 0} (p : Parser A) (ts to : List Token) (x : A) → p ts ≡ Some (x, Fixed s.Close ∷ to) → closed_at p ts ≡ Some (x, to)
+pub closed_read : {A : Type 0} (p : Parser A) (ts to : List Token) (x : A) → p ts ≡ Some (x, Fixed (s.Mark marks.Close) ∷ to) → closed_at p ts ≡ Some (x, to)
 unfolding closed_at
-closed_read p ts to x e = rw (e, sees s.Close to) refl
+closed_read p ts to x e = rw (e, sees (s.Mark marks.Close) to) refl
 
 -- a chain is none or more pieces
 pub record IsChain {A L : Type 0} (link : List Token → Option L) (piece : L → Option (A × List Token)) (S : List Token → List Token → List A → Type 0) : Type 0 where
@@ -114,16 +115,16 @@ made_sound sign p R S Q make h chain build ts y e =
     spells Q ts g.0.1 (make g.0.0) y (subst (λ xs. Q ts g.0.1 (make xs)) m.all (build ts m.mid g.0.1 m.first m.others m.one m.more)) g.2
 
 module _ {A : Type 0} (p : Parser A) (R : Spelling A) (h : Sound p R) where
-  commas : IsChain (after s.Comma) p (IsMore R)
+  commas : IsChain (after (s.Mark marks.Comma)) p (IsMore R)
   commas = record {
     none = λ to. no_more;
-    more = λ ts to l x xs a e m. begins (IsMore R) s.Comma ts l to (x.0 ∷ xs) a (comma (h.by l x e) m);
+    more = λ ts to l x xs a e m. begins (IsMore R) (s.Mark marks.Comma) ts l to (x.0 ∷ xs) a (comma (h.by l x e) m);
   }
 
   pub sound_list : Sound (list_at p) (IsList R)
   sound_list = record {
     by = λ ts xs e.
-        let m = sound_chained s.Comma p R (IsMore R) h commas ts xs e in
+        let m = sound_chained (s.Mark marks.Comma) p R (IsMore R) h commas ts xs e in
         subst (λ ys. IsList R ts xs.1 ys) m.all (list m.one m.more);
   }
 
@@ -163,21 +164,21 @@ module _ {A L : Type 0} (link : List Token → Option L) (piece : L → Option (
 
 -- what may follow each member of a list
 pub record GoesOn (F : List Token → Type 0) : Type 0 where
-  pub comma : (ts : List Token) → F (Fixed s.Comma ∷ ts)
+  pub comma : (ts : List Token) → F (Fixed (s.Mark marks.Comma) ∷ ts)
 
 module _ {A : Type 0} (p : Parser A) (R : Spelling A) (t : Tame R) (d : ℕ) (F : List Token → Type 0) (g : GoesOn F) (h : Complete p R d F) where
   more_ends : {from to : List Token} {xs : List A} → IsMore R from to xs → F to → F from
   more_ends no_more f = f
   more_ends (comma {from = from} a b) f = g.comma from
 
-  more_read : {from to : List Token} {xs : List A} → IsMore R from to xs → (k : ℕ) → HasRoom d from → length from ≤ k → F to → Stops s.Comma to → chain_at (after s.Comma) p k from ≡ Some (xs, to)
-  more_read (no_more {to = to}) k w l f n = turn_done (after s.Comma) p k to n
+  more_read : {from to : List Token} {xs : List A} → IsMore R from to xs → (k : ℕ) → HasRoom d from → length from ≤ k → F to → Stops (s.Mark marks.Comma) to → chain_at (after (s.Mark marks.Comma)) p k from ≡ Some (xs, to)
+  more_read (no_more {to = to}) k w l f n = turn_done (after (s.Mark marks.Comma)) p k to n
   more_read (comma a b) zero w l f n = absurd (omega arith)
   more_read (comma {from = from} {mid = mid} {to = to} {x = x} {xs = xs} a b) (suc k) w l f n =
       let lt = t.shorter a in
-      turn_goes (after s.Comma) p k (Fixed s.Comma ∷ from) mid to from x xs (sees s.Comma from) (h.by a w (more_ends b f)) (more_read b k (t.within a d w) (omega arith) f n)
+      turn_goes (after (s.Mark marks.Comma)) p k (Fixed (s.Mark marks.Comma) ∷ from) mid to from x xs (sees (s.Mark marks.Comma) from) (h.by a w (more_ends b f)) (more_read b k (t.within a d w) (omega arith) f n)
 
-  pub list_read : {from to : List Token} {xs : List A} → IsList R from to xs → HasRoom d from → F to → Stops s.Comma to → list_at p from ≡ Some (xs, to)
+  pub list_read : {from to : List Token} {xs : List A} → IsList R from to xs → HasRoom d from → F to → Stops (s.Mark marks.Comma) to → list_at p from ≡ Some (xs, to)
   unfolding chained_at
   list_read (list {from = from} {mid = mid} {to = to} {x = x} {xs = xs} a b) w f n =
-      ap (λ o. o >>= λ y. more_at (after s.Comma) p (y.0 ∷ []) y.1) (h.by a w (more_ends b f)) ∙ more_goes (after s.Comma) p (x ∷ []) xs mid to (more_read b (length mid) (t.within a d w) (omega arith) f n)
+      ap (λ o. o >>= λ y. more_at (after (s.Mark marks.Comma)) p (y.0 ∷ []) y.1) (h.by a w (more_ends b f)) ∙ more_goes (after (s.Mark marks.Comma)) p (x ∷ []) xs mid to (more_read b (length mid) (t.within a d w) (omega arith) f n)

@@ -4,6 +4,8 @@ use Rattle.ssb_cells.specs.declared.value.Op.{Op}
 use Rattle.ssb_cells.specs.declared.value.Op.TheVariants as op
 use Rattle.ssb_sql.specs.declared.token.Token.{Token}
 use Rattle.ssb_sql.specs.declared.token.Token.TheVariants.{Fixed}
+use Rattle.ssb_cells.specs.declared.keyword.Keyword.TheVariants as words
+use Rattle.ssb_sql.specs.declared.token.Mark.TheVariants as marks
 use Rattle.ssb_sql.specs.declared.token.Sign.TheVariants as s
 use Rattle.ssb_sql.specs.declared.expr.ColumnName.{ColumnName}
 use Rattle.ssb_sql.specs.declared.condition.Literal.{Literal}
@@ -27,25 +29,25 @@ use Rattle.ssb_sql.proofs.PartFacts.{sound_operand, tame_operand, sound_literal,
 abbrev pub IsTested : List Token → List Token → Condition → Type 0
 IsTested = IsBare IsOperand
 
-op_is : (ts : List Token) (l : Op × List Token) → op_at ts ≡ Some l → ts ≡ Fixed (mark_of l.0) ∷ l.1
+op_is : (ts : List Token) (l : Op × List Token) → op_at ts ≡ Some l → ts ≡ Fixed (s.Mark (mark_of l.0)) ∷ l.1
 unfolding op_at
 op_is ts l e =
-    elim (choose_some (after s.Equal ts) _ _ (Some l) e) as (λ _. ts ≡ Fixed (mark_of l.0) ∷ l.1) [
+    elim (choose_some (after (s.Mark marks.Equal) ts) _ _ (Some l) e) as (λ _. ts ≡ Fixed (s.Mark (mark_of l.0)) ∷ l.1) [
       | inl g ↦ goes op.Eq g.0 g.1 g.2
       | inr e ↦
-          elim (choose_some (after s.NotEqual ts) _ _ (Some l) e.1) as (λ _. ts ≡ Fixed (mark_of l.0) ∷ l.1) [
+          elim (choose_some (after (s.Mark marks.NotEqual) ts) _ _ (Some l) e.1) as (λ _. ts ≡ Fixed (s.Mark (mark_of l.0)) ∷ l.1) [
             | inl g ↦ goes op.Ne g.0 g.1 g.2
             | inr e ↦
-                elim (choose_some (after s.Less ts) _ _ (Some l) e.1) as (λ _. ts ≡ Fixed (mark_of l.0) ∷ l.1) [
+                elim (choose_some (after (s.Mark marks.Less) ts) _ _ (Some l) e.1) as (λ _. ts ≡ Fixed (s.Mark (mark_of l.0)) ∷ l.1) [
                   | inl g ↦ goes op.Lt g.0 g.1 g.2
                   | inr e ↦
-                      elim (choose_some (after s.LessEqual ts) _ _ (Some l) e.1) as (λ _. ts ≡ Fixed (mark_of l.0) ∷ l.1) [
+                      elim (choose_some (after (s.Mark marks.LessEqual) ts) _ _ (Some l) e.1) as (λ _. ts ≡ Fixed (s.Mark (mark_of l.0)) ∷ l.1) [
                         | inl g ↦ goes op.Le g.0 g.1 g.2
                         | inr e ↦
-                            elim (choose_some (after s.Greater ts) _ _ (Some l) e.1) as (λ _. ts ≡ Fixed (mark_of l.0) ∷ l.1) [
+                            elim (choose_some (after (s.Mark marks.Greater) ts) _ _ (Some l) e.1) as (λ _. ts ≡ Fixed (s.Mark (mark_of l.0)) ∷ l.1) [
                               | inl g ↦ goes op.Gt g.0 g.1 g.2
                               | inr e ↦
-                                  elim (choose_some (after s.GreaterEqual ts) _ _ (Some l) e.1) as (λ _. ts ≡ Fixed (mark_of l.0) ∷ l.1) [
+                                  elim (choose_some (after (s.Mark marks.GreaterEqual) ts) _ _ (Some l) e.1) as (λ _. ts ≡ Fixed (s.Mark (mark_of l.0)) ∷ l.1) [
                                     | inl g ↦ goes op.Ge g.0 g.1 g.2
                                     | inr e ↦ absurd cc
                                   ]
@@ -55,25 +57,25 @@ op_is ts l e =
           ]
     ]
   where
-    goes : (y : Op) (us : List Token) → after (mark_of y) ts ≡ Some us → Some (y, us) ≡ Some l → ts ≡ Fixed (mark_of l.0) ∷ l.1
-    goes y us a r = after_is (mark_of y) ts us a ∙ ap (λ z. Fixed (mark_of z.0) ∷ z.1) (some_is (y, us) l r)
+    goes : (y : Op) (us : List Token) → after (s.Mark (mark_of y)) ts ≡ Some us → Some (y, us) ≡ Some l → ts ≡ Fixed (s.Mark (mark_of l.0)) ∷ l.1
+    goes y us a r = after_is (s.Mark (mark_of y)) ts us a ∙ ap (λ z. Fixed (s.Mark (mark_of z.0)) ∷ z.1) (some_is (y, us) l r)
 
 -- the limits, and the AND between them
-limits_is : (ts : List Token) (x : (Operand × Operand) × List Token) → limits_at ts ≡ Some x → (mid : List Token) × IsOperand ts (Fixed s.And ∷ mid) x.0.0 × IsOperand mid x.1 x.0.1
+limits_is : (ts : List Token) (x : (Operand × Operand) × List Token) → limits_at ts ≡ Some x → (mid : List Token) × IsOperand ts (Fixed (s.Word words.And) ∷ mid) x.0.0 × IsOperand mid x.1 x.0.1
 unfolding limits_at
 limits_is ts x e =
     let f = bind_some (operand_at ts) _ x e in
-    let g = bind_some (after s.And f.0.1) _ x f.2 in
+    let g = bind_some (after (s.Word words.And) f.0.1) _ x f.2 in
     let q = bind_some (operand_at g.0) _ x g.2 in
     let same = some_is ((f.0.0, q.0.0), q.0.1) x q.2 in
-    subst (λ z. (mid : List Token) × IsOperand ts (Fixed s.And ∷ mid) z.0.0 × IsOperand mid z.1 z.0.1) same
-    (g.0, followed IsOperand s.And ts f.0.1 g.0 f.0.0 g.1 (sound_operand.by ts f.0 f.1), sound_operand.by g.0 q.0 q.1)
+    subst (λ z. (mid : List Token) × IsOperand ts (Fixed (s.Word words.And) ∷ mid) z.0.0 × IsOperand mid z.1 z.0.1) same
+    (g.0, followed IsOperand (s.Word words.And) ts f.0.1 g.0 f.0.0 g.1 (sound_operand.by ts f.0 f.1), sound_operand.by g.0 q.0 q.1)
 
-members_is : (ts : List Token) (x : List Literal × List Token) → members_at ts ≡ Some x → (mid : List Token) × (ts ≡ Fixed s.Open ∷ mid) × IsList IsLiteral mid (Fixed s.Close ∷ x.1) x.0
+members_is : (ts : List Token) (x : List Literal × List Token) → members_at ts ≡ Some x → (mid : List Token) × (ts ≡ Fixed (s.Mark marks.Open) ∷ mid) × IsList IsLiteral mid (Fixed (s.Mark marks.Close) ∷ x.1) x.0
 unfolding parens_at
 members_is ts x e =
-    let f = bind_some (after s.Open ts) _ x e in
-    (f.0, after_is s.Open ts f.0 f.1, sound_closed (list_at literal_at) (IsList IsLiteral) (sound_list literal_at IsLiteral sound_literal) f.0 x f.2)
+    let f = bind_some (after (s.Mark marks.Open) ts) _ x e in
+    (f.0, after_is (s.Mark marks.Open) ts f.0 f.1, sound_closed (list_at literal_at) (IsList IsLiteral) (sound_list literal_at IsLiteral sound_literal) f.0 x f.2)
 
 -- the operand's own end, moved on
 ends_at : (ts mid us : List Token) (x : Operand) → mid ≡ us → IsOperand ts mid x → IsOperand ts us x
@@ -82,31 +84,31 @@ ends_at ts mid us x e h = subst (λ z. IsOperand ts z x) e h
 range_sound : (ts mid : List Token) (y : Operand) (x : Condition × List Token) → IsOperand ts mid y → range_at false y mid ≡ Some x → IsTested ts x.1 x.0
 unfolding range_at
 range_sound ts mid y x h e =
-    elim (choose_some (after s.Between mid) _ _ (Some x) e) as (λ _. IsTested ts x.1 x.0) [
+    elim (choose_some (after (s.Word words.Between) mid) _ _ (Some x) e) as (λ _. IsTested ts x.1 x.0) [
       | inl g ↦
           let f = bind_some (limits_at g.0) _ x g.2 in
           let q = limits_is g.0 f.0 f.1 in
-          spells IsTested ts f.0.1 (c.Between y f.0.0.0 f.0.0.1) x (between (ends_at ts mid (Fixed s.Between ∷ g.0) y (after_is s.Between mid g.0 g.1) h) q.1 q.2) f.2
+          spells IsTested ts f.0.1 (c.Between y f.0.0.0 f.0.0.1) x (between (ends_at ts mid (Fixed (s.Word words.Between) ∷ g.0) y (after_is (s.Word words.Between) mid g.0 g.1) h) q.1 q.2) f.2
       | inr b ↦
-          let g = bind_some (after s.In mid) _ x b.1 in
+          let g = bind_some (after (s.Word words.In) mid) _ x b.1 in
           let f = bind_some (members_at g.0) _ x g.2 in
           let q = members_is g.0 f.0 f.1 in
-          spells IsTested ts f.0.1 (c.In y f.0.0) x (among (ends_at ts mid (Fixed s.In ∷ Fixed s.Open ∷ q.0) y (after_is s.In mid g.0 g.1 ∙ ap (λ z. Fixed s.In ∷ z) q.1) h) q.2) f.2
+          spells IsTested ts f.0.1 (c.In y f.0.0) x (among (ends_at ts mid (Fixed (s.Word words.In) ∷ Fixed (s.Mark marks.Open) ∷ q.0) y (after_is (s.Word words.In) mid g.0 g.1 ∙ ap (λ z. Fixed (s.Word words.In) ∷ z) q.1) h) q.2) f.2
     ]
 
-not_range_sound : (ts mid rest : List Token) (y : Operand) (x : Condition × List Token) → mid ≡ Fixed s.Not ∷ rest → IsOperand ts mid y → range_at true y rest ≡ Some x → IsTested ts x.1 x.0
+not_range_sound : (ts mid rest : List Token) (y : Operand) (x : Condition × List Token) → mid ≡ Fixed (s.Word words.Not) ∷ rest → IsOperand ts mid y → range_at true y rest ≡ Some x → IsTested ts x.1 x.0
 unfolding range_at
 not_range_sound ts mid rest y x n h e =
-    elim (choose_some (after s.Between rest) _ _ (Some x) e) as (λ _. IsTested ts x.1 x.0) [
+    elim (choose_some (after (s.Word words.Between) rest) _ _ (Some x) e) as (λ _. IsTested ts x.1 x.0) [
       | inl g ↦
           let f = bind_some (limits_at g.0) _ x g.2 in
           let q = limits_is g.0 f.0 f.1 in
-          spells IsTested ts f.0.1 (c.NotBetween y f.0.0.0 f.0.0.1) x (not_between (ends_at ts mid (Fixed s.Not ∷ Fixed s.Between ∷ g.0) y (n ∙ ap (λ z. Fixed s.Not ∷ z) (after_is s.Between rest g.0 g.1)) h) q.1 q.2) f.2
+          spells IsTested ts f.0.1 (c.NotBetween y f.0.0.0 f.0.0.1) x (not_between (ends_at ts mid (Fixed (s.Word words.Not) ∷ Fixed (s.Word words.Between) ∷ g.0) y (n ∙ ap (λ z. Fixed (s.Word words.Not) ∷ z) (after_is (s.Word words.Between) rest g.0 g.1)) h) q.1 q.2) f.2
       | inr b ↦
-          let g = bind_some (after s.In rest) _ x b.1 in
+          let g = bind_some (after (s.Word words.In) rest) _ x b.1 in
           let f = bind_some (members_at g.0) _ x g.2 in
           let q = members_is g.0 f.0 f.1 in
-          spells IsTested ts f.0.1 (c.NotIn y f.0.0) x (not_among (ends_at ts mid (Fixed s.Not ∷ Fixed s.In ∷ Fixed s.Open ∷ q.0) y (n ∙ ap (λ z. Fixed s.Not ∷ z) (after_is s.In rest g.0 g.1 ∙ ap (λ z. Fixed s.In ∷ z) q.1)) h) q.2) f.2
+          spells IsTested ts f.0.1 (c.NotIn y f.0.0) x (not_among (ends_at ts mid (Fixed (s.Word words.Not) ∷ Fixed (s.Word words.In) ∷ Fixed (s.Mark marks.Open) ∷ q.0) y (n ∙ ap (λ z. Fixed (s.Word words.Not) ∷ z) (after_is (s.Word words.In) rest g.0 g.1 ∙ ap (λ z. Fixed (s.Word words.In) ∷ z) q.1)) h) q.2) f.2
     ]
 
 -- a column as an operand is a column
@@ -114,19 +116,19 @@ column_back : {from to : List Token} {y : Operand} → IsOperand from to y → (
 column_back (column {from = from} {to = to} {x = x} a) z e = let same : x ≡ z = cc in subst (λ w. IsColumn from to w) same a
 column_back (literal a) z e = absurd cc
 
-null_sound : (ts mid rest : List Token) (y : Operand) (x : Condition × List Token) → mid ≡ Fixed s.Is ∷ rest → IsOperand ts mid y → null_at y rest ≡ Some x → IsTested ts x.1 x.0
+null_sound : (ts mid rest : List Token) (y : Operand) (x : Condition × List Token) → mid ≡ Fixed (s.Word words.Is) ∷ rest → IsOperand ts mid y → null_at y rest ≡ Some x → IsTested ts x.1 x.0
 unfolding null_at
 null_sound ts mid rest (o.Literal l) x n h e = absurd cc
 null_sound ts mid rest (o.Column z) x n h e =
     let k : IsColumn ts mid z = column_back h z refl in
-    elim (choose_some (after s.Not rest) _ _ (Some x) e) as (λ _. IsTested ts x.1 x.0) [
+    elim (choose_some (after (s.Word words.Not) rest) _ _ (Some x) e) as (λ _. IsTested ts x.1 x.0) [
       | inl g ↦
-          let f = bind_some (after s.Null g.0) _ x g.2 in
-          let m : mid ≡ Fixed s.Is ∷ Fixed s.Not ∷ Fixed s.Null ∷ f.0 = n ∙ ap (λ w. Fixed s.Is ∷ w) (after_is s.Not rest g.0 g.1 ∙ ap (λ w. Fixed s.Not ∷ w) (after_is s.Null g.0 f.0 f.1)) in
+          let f = bind_some (after (s.Word words.Null) g.0) _ x g.2 in
+          let m : mid ≡ Fixed (s.Word words.Is) ∷ Fixed (s.Word words.Not) ∷ Fixed (s.Word words.Null) ∷ f.0 = n ∙ ap (λ w. Fixed (s.Word words.Is) ∷ w) (after_is (s.Word words.Not) rest g.0 g.1 ∙ ap (λ w. Fixed (s.Word words.Not) ∷ w) (after_is (s.Word words.Null) g.0 f.0 f.1)) in
           spells IsTested ts f.0 (c.IsNotNull z) x (not_null (subst (λ w. IsColumn ts w z) m k)) f.2
       | inr b ↦
-          let f = bind_some (after s.Null rest) _ x b.1 in
-          let m : mid ≡ Fixed s.Is ∷ Fixed s.Null ∷ f.0 = n ∙ ap (λ w. Fixed s.Is ∷ w) (after_is s.Null rest f.0 f.1) in
+          let f = bind_some (after (s.Word words.Null) rest) _ x b.1 in
+          let m : mid ≡ Fixed (s.Word words.Is) ∷ Fixed (s.Word words.Null) ∷ f.0 = n ∙ ap (λ w. Fixed (s.Word words.Is) ∷ w) (after_is (s.Word words.Null) rest f.0 f.1) in
           spells IsTested ts f.0 (c.IsNull z) x (null (subst (λ w. IsColumn ts w z) m k)) f.2
     ]
 
@@ -136,18 +138,18 @@ compared_sound ts mid y x h e =
     elim (choose_some (op_at mid) _ _ (Some x) e) as (λ _. IsTested ts x.1 x.0) [
       | inl g ↦
           let f = bind_some (operand_at g.0.1) _ x g.2 in
-          spells IsTested ts f.0.1 (c.Compare g.0.0 y f.0.0) x (compare {op = g.0.0} (ends_at ts mid (Fixed (mark_of g.0.0) ∷ g.0.1) y (op_is mid g.0 g.1) h) (sound_operand.by g.0.1 f.0 f.1)) f.2
+          spells IsTested ts f.0.1 (c.Compare g.0.0 y f.0.0) x (compare {op = g.0.0} (ends_at ts mid (Fixed (s.Mark (mark_of g.0.0)) ∷ g.0.1) y (op_is mid g.0 g.1) h) (sound_operand.by g.0.1 f.0 f.1)) f.2
       | inr b ↦ range_sound ts mid y x h b.1
     ]
 
 tail_sound : (ts mid : List Token) (y : Operand) (x : Condition × List Token) → IsOperand ts mid y → tail_at y mid ≡ Some x → IsTested ts x.1 x.0
 unfolding tail_at
 tail_sound ts mid y x h e =
-    elim (choose_some (after s.Not mid) _ _ (Some x) e) as (λ _. IsTested ts x.1 x.0) [
-      | inl g ↦ not_range_sound ts mid g.0 y x (after_is s.Not mid g.0 g.1) h g.2
+    elim (choose_some (after (s.Word words.Not) mid) _ _ (Some x) e) as (λ _. IsTested ts x.1 x.0) [
+      | inl g ↦ not_range_sound ts mid g.0 y x (after_is (s.Word words.Not) mid g.0 g.1) h g.2
       | inr b ↦
-          elim (choose_some (after s.Is mid) _ _ (Some x) b.1) as (λ _. IsTested ts x.1 x.0) [
-            | inl g ↦ null_sound ts mid g.0 y x (after_is s.Is mid g.0 g.1) h g.2
+          elim (choose_some (after (s.Word words.Is) mid) _ _ (Some x) b.1) as (λ _. IsTested ts x.1 x.0) [
+            | inl g ↦ null_sound ts mid g.0 y x (after_is (s.Word words.Is) mid g.0 g.1) h g.2
             | inr g ↦ compared_sound ts mid y x h g.1
           ]
     ]
@@ -174,7 +176,7 @@ bare_shorter (null a) = let p = tame_column.shorter a in omega arith
 bare_shorter (not_null a) = let p = tame_column.shorter a in omega arith
 
 -- an operator is no parenthesis
-mark_within : (y : Op) (ts : List Token) (d : ℕ) → HasRoom d (Fixed (mark_of y) ∷ ts) → HasRoom d ts
+mark_within : (y : Op) (ts : List Token) (d : ℕ) → HasRoom d (Fixed (s.Mark (mark_of y)) ∷ ts) → HasRoom d ts
 mark_within op.Eq ts d h = h
 mark_within op.Ne ts d h = h
 mark_within op.Lt ts d h = h
@@ -183,7 +185,7 @@ mark_within op.Gt ts d h = h
 mark_within op.Ge ts d h = h
 
 -- literals in parentheses, the first of which is read
-members_within : (mid to : List Token) (ys : List Literal) → IsList IsLiteral mid (Fixed s.Close ∷ to) ys → (d : ℕ) → HasRoom d (Fixed s.Open ∷ mid) → HasRoom d to
+members_within : (mid to : List Token) (ys : List Literal) → IsList IsLiteral mid (Fixed (s.Mark marks.Close) ∷ to) ys → (d : ℕ) → HasRoom d (Fixed (s.Mark marks.Open) ∷ mid) → HasRoom d to
 members_within mid to ys b zero h = absurd h
 members_within mid to ys b (suc d) h = tame_literals.within b d h
 

@@ -6,18 +6,21 @@ use Rattle.std.specs.List.{list_all}
 use Rattle.std.specs.Str.{str_to_ascii_lowercase}
 use Rattle.std.proofs.lemmas.Bool.{and_left, and_parts, cond-true, cond-false}
 use Rattle.std.proofs.lemmas.Bool.Decides.{nat_tests}
+use Rattle.ssb_cells.specs.Keywords.{keyword_of}
 use Rattle.ssb_cells.specs.Names.{is_reserved, is_word, is_word_byte}
 use Rattle.ssb_sql.specs.declared.class.Class.TheVariants as k
-use Rattle.ssb_sql.specs.declared.token.Sign.{Sign}
+use Rattle.ssb_cells.specs.declared.keyword.Keyword.{Keyword}
+use Rattle.ssb_sql.specs.declared.token.Mark.{Mark}
+use Rattle.ssb_sql.specs.declared.token.Mark.TheVariants as marks
 use Rattle.ssb_sql.specs.declared.token.Sign.TheVariants as s
 use Rattle.ssb_sql.specs.declared.token.Token.{Token}
 use Rattle.ssb_sql.specs.declared.token.Token.TheVariants.{Fixed, Name, Number, Text}
 use Rattle.ssb_sql.specs.Class.{class_of}
-use Rattle.ssb_sql.specs.Tokens.{Each, IsLongest, IsTokens, Stops, begins, doubled, follows_less, goes_on, is_blank, is_dash, is_equal, is_mark, is_numeral, is_quote, sign_of, spelling, value_of}
+use Rattle.ssb_sql.specs.Tokens.{Each, IsLongest, IsTokens, Stops, begins, doubled, follows_less, goes_on, is_blank, is_dash, is_equal, is_numeral, is_quote, mark_text, value_of}
 use Rattle.ssb_sql.specs.Tokens.IsTokens.{end_of_text, blank, comment, reserved, name, number, text, mark}
 use Rattle.ssb_sql.specs.Reading.{◌>>=◌}
-use Rattle.ssb_sql.specs.Scanning.{greater_at, less_at, lex, lex_turn, number_at, number_of, past, put, run, skip, text_at, text_of, text_token_at, token_at, token_by, token_by_sign, token_of, word_at}
-use Rattle.ssb_sql.proofs.ReservedWords.{name_has_no_sign}
+use Rattle.ssb_sql.specs.Scanning.{greater_at, less_at, lex, lex_turn, number_at, number_of, past, put, run, skip, text_at, text_of, text_token_at, token_at, token_by, token_by_keyword, token_of, word_at}
+use Rattle.ssb_sql.proofs.ReservedWords.{name_is_no_keyword}
 use Rattle.ssb_sql.proofs.TokenFront.{number_is}
 use Rattle.ssb_sql.proofs.TokenSound.{TokenAndRest, letter_in_word, line_end_blank}
 
@@ -109,8 +112,8 @@ word_each b bs w =
     let two = and_parts (is_ascii_alphabetic b) (list_all is_word_byte bs) w in
     ap (λ t. t && list_all is_word_byte bs) (letter_in_word b two.0) ∙ two.1
 
-word_read : (b : ℕ) (bs rest : List ℕ) (o : Option Sign) → is_word (b ∷ bs) ≡ true → sign_of (b ∷ bs) ≡ o → Stops is_word_byte rest
-    → token_at (b ∷ bs ++ rest) ≡ Some (token_by_sign o (b ∷ bs), rest)
+word_read : (b : ℕ) (bs rest : List ℕ) (o : Option Keyword) → is_word (b ∷ bs) ≡ true → keyword_of (b ∷ bs) ≡ o → Stops is_word_byte rest
+    → token_at (b ∷ bs ++ rest) ≡ Some (token_by_keyword o (b ∷ bs), rest)
 unfolding word_at
 word_read b bs rest o w e s =
     let each = word_each b bs w in
@@ -118,7 +121,7 @@ word_read b bs rest o w e s =
     ap (λ c. token_by c all (bs ++ rest)) (letter_class b (and_parts (is_ascii_alphabetic b) (list_all is_word_byte bs) w).0)
     ∙ ap (λ r. some_token (token_of r) (past is_word_byte all)) (run_is is_word_byte (b ∷ bs) rest each s)
     ∙ ap (some_token (token_of (b ∷ bs))) (past_is is_word_byte (b ∷ bs) rest each s)
-    ∙ ap (λ p. some_token (token_by_sign p (b ∷ bs)) rest) e
+    ∙ ap (λ p. some_token (token_by_keyword p (b ∷ bs)) rest) e
 
 number_read : (b : ℕ) (bs rest : List ℕ) → is_numeral (b ∷ bs) ≡ true → Stops is_word_byte rest → value_of (b ∷ bs) ≤ 9223372036854775807
     → token_at (b ∷ bs ++ rest) ≡ Some (Number (value_of (b ∷ bs)), rest)
@@ -161,24 +164,24 @@ text_read t rest h = ap text_of (text_is t rest h)
 -- ---- marks
 
 -- the first byte of a mark, and what stands behind it
-abbrev pub head_of : Sign → ℕ
-head_of s.Open = 40
-head_of s.Close = 41
-head_of s.Comma = 44
-head_of s.Dot = 46
-head_of s.Semicolon = 59
-head_of s.Plus = 43
-head_of s.Minus = 45
-head_of s.Times = 42
-head_of s.Equal = 61
-head_of s.Greater = 62
-head_of s.GreaterEqual = 62
+abbrev pub head_of : Mark → ℕ
+head_of marks.Open = 40
+head_of marks.Close = 41
+head_of marks.Comma = 44
+head_of marks.Dot = 46
+head_of marks.Semicolon = 59
+head_of marks.Plus = 43
+head_of marks.Minus = 45
+head_of marks.Times = 42
+head_of marks.Equal = 61
+head_of marks.Greater = 62
+head_of marks.GreaterEqual = 62
 head_of _ = 60
 
-abbrev pub tail_of : Sign → List ℕ → List ℕ
-tail_of s.LessEqual rest = 61 ∷ rest
-tail_of s.NotEqual rest = 62 ∷ rest
-tail_of s.GreaterEqual rest = 61 ∷ rest
+abbrev pub tail_of : Mark → List ℕ → List ℕ
+tail_of marks.LessEqual rest = 61 ∷ rest
+tail_of marks.NotEqual rest = 62 ∷ rest
+tail_of marks.GreaterEqual rest = 61 ∷ rest
 tail_of _ rest = rest
 
 both_false : (x y : Bool) → (x || y) ≡ false → (x ≡ false) × (y ≡ false)
@@ -186,78 +189,75 @@ both_false false false h = (refl, refl)
 both_false false true h = absurd cc
 both_false true y h = absurd cc
 
-less_is : (rest : List ℕ) → Stops follows_less rest → less_at rest ≡ (Fixed s.Less, rest)
+less_is : (rest : List ℕ) → Stops follows_less rest → less_at rest ≡ (Fixed (s.Mark marks.Less), rest)
 unfolding less_at
 less_is [] h = refl
 less_is (c ∷ rest) h =
     let two = both_false (c == 61) (c == 62) h in
-    cond-false (c == 61) (Fixed s.LessEqual, rest) _ two.0 ∙ cond-false (c == 62) (Fixed s.NotEqual, rest) (Fixed s.Less, c ∷ rest) two.1
+    cond-false (c == 61) (Fixed (s.Mark marks.LessEqual), rest) _ two.0 ∙ cond-false (c == 62) (Fixed (s.Mark marks.NotEqual), rest) (Fixed (s.Mark marks.Less), c ∷ rest) two.1
 
-greater_is : (rest : List ℕ) → Stops is_equal rest → greater_at rest ≡ (Fixed s.Greater, rest)
+greater_is : (rest : List ℕ) → Stops is_equal rest → greater_at rest ≡ (Fixed (s.Mark marks.Greater), rest)
 unfolding greater_at
 greater_is [] h = refl
-greater_is (c ∷ rest) h = cond-false (c == 61) (Fixed s.GreaterEqual, rest) (Fixed s.Greater, c ∷ rest) h
+greater_is (c ∷ rest) h = cond-false (c == 61) (Fixed (s.Mark marks.GreaterEqual), rest) (Fixed (s.Mark marks.Greater), c ∷ rest) h
 
 abbrev some_pair : TokenAndRest → Option TokenAndRest
 some_pair x = Some x
 
-mark_read : (x : Sign) (rest : List ℕ) → is_mark x ≡ true → IsLongest x rest → token_at (head_of x ∷ tail_of x rest) ≡ Some (Fixed x, rest)
+mark_read : (x : Mark) (rest : List ℕ) → IsLongest x rest → token_at (head_of x ∷ tail_of x rest) ≡ Some (Fixed (s.Mark x), rest)
 unfolding less_at greater_at
-mark_read s.Open rest m h = refl
-mark_read s.Close rest m h = refl
-mark_read s.Comma rest m h = refl
-mark_read s.Dot rest m h = refl
-mark_read s.Semicolon rest m h = refl
-mark_read s.Plus rest m h = refl
-mark_read s.Minus rest m h = refl
-mark_read s.Times rest m h = refl
-mark_read s.Equal rest m h = refl
-mark_read s.NotEqual rest m h = refl
-mark_read s.Less rest m h = ap some_pair (less_is rest h)
-mark_read s.LessEqual rest m h = refl
-mark_read s.Greater rest m h = ap some_pair (greater_is rest h)
-mark_read s.GreaterEqual rest m h = refl
-mark_read _ rest m h = absurd cc
+mark_read marks.Open rest h = refl
+mark_read marks.Close rest h = refl
+mark_read marks.Comma rest h = refl
+mark_read marks.Dot rest h = refl
+mark_read marks.Semicolon rest h = refl
+mark_read marks.Plus rest h = refl
+mark_read marks.Minus rest h = refl
+mark_read marks.Times rest h = refl
+mark_read marks.Equal rest h = refl
+mark_read marks.NotEqual rest h = refl
+mark_read marks.Less rest h = ap some_pair (less_is rest h)
+mark_read marks.LessEqual rest h = refl
+mark_read marks.Greater rest h = ap some_pair (greater_is rest h)
+mark_read marks.GreaterEqual rest h = refl
 
-pub mark_stays : (x : Sign) (rest : List ℕ) → is_mark x ≡ true → IsLongest x rest → skip false (head_of x ∷ tail_of x rest) ≡ head_of x ∷ tail_of x rest
-mark_stays s.Open rest m h = skip_stays 40 rest refl refl
-mark_stays s.Close rest m h = skip_stays 41 rest refl refl
-mark_stays s.Comma rest m h = skip_stays 44 rest refl refl
-mark_stays s.Dot rest m h = skip_stays 46 rest refl refl
-mark_stays s.Semicolon rest m h = skip_stays 59 rest refl refl
-mark_stays s.Plus rest m h = skip_stays 43 rest refl refl
-mark_stays s.Minus rest m h = skip_stays 45 rest refl h
-mark_stays s.Times rest m h = skip_stays 42 rest refl refl
-mark_stays s.Equal rest m h = skip_stays 61 rest refl refl
-mark_stays s.NotEqual rest m h = skip_stays 60 (62 ∷ rest) refl refl
-mark_stays s.Less rest m h = skip_stays 60 rest refl refl
-mark_stays s.LessEqual rest m h = skip_stays 60 (61 ∷ rest) refl refl
-mark_stays s.Greater rest m h = skip_stays 62 rest refl refl
-mark_stays s.GreaterEqual rest m h = skip_stays 62 (61 ∷ rest) refl refl
-mark_stays _ rest m h = absurd cc
+pub mark_stays : (x : Mark) (rest : List ℕ) → IsLongest x rest → skip false (head_of x ∷ tail_of x rest) ≡ head_of x ∷ tail_of x rest
+mark_stays marks.Open rest h = skip_stays 40 rest refl refl
+mark_stays marks.Close rest h = skip_stays 41 rest refl refl
+mark_stays marks.Comma rest h = skip_stays 44 rest refl refl
+mark_stays marks.Dot rest h = skip_stays 46 rest refl refl
+mark_stays marks.Semicolon rest h = skip_stays 59 rest refl refl
+mark_stays marks.Plus rest h = skip_stays 43 rest refl refl
+mark_stays marks.Minus rest h = skip_stays 45 rest refl h
+mark_stays marks.Times rest h = skip_stays 42 rest refl refl
+mark_stays marks.Equal rest h = skip_stays 61 rest refl refl
+mark_stays marks.NotEqual rest h = skip_stays 60 (62 ∷ rest) refl refl
+mark_stays marks.Less rest h = skip_stays 60 rest refl refl
+mark_stays marks.LessEqual rest h = skip_stays 60 (61 ∷ rest) refl refl
+mark_stays marks.Greater rest h = skip_stays 62 rest refl refl
+mark_stays marks.GreaterEqual rest h = skip_stays 62 (61 ∷ rest) refl refl
 
 -- how a mark is written, one byte after the other
-pub mark_spelled : (x : Sign) (rest : List ℕ) → is_mark x ≡ true → spelling x ++ rest ≡ head_of x ∷ tail_of x rest
-mark_spelled s.Open rest m = refl
-mark_spelled s.Close rest m = refl
-mark_spelled s.Comma rest m = refl
-mark_spelled s.Dot rest m = refl
-mark_spelled s.Semicolon rest m = refl
-mark_spelled s.Plus rest m = refl
-mark_spelled s.Minus rest m = refl
-mark_spelled s.Times rest m = refl
-mark_spelled s.Equal rest m = refl
-mark_spelled s.NotEqual rest m = refl
-mark_spelled s.Less rest m = refl
-mark_spelled s.LessEqual rest m = refl
-mark_spelled s.Greater rest m = refl
-mark_spelled s.GreaterEqual rest m = refl
-mark_spelled _ rest m = absurd cc
+pub mark_spelled : (x : Mark) (rest : List ℕ) → mark_text x ++ rest ≡ head_of x ∷ tail_of x rest
+mark_spelled marks.Open rest = refl
+mark_spelled marks.Close rest = refl
+mark_spelled marks.Comma rest = refl
+mark_spelled marks.Dot rest = refl
+mark_spelled marks.Semicolon rest = refl
+mark_spelled marks.Plus rest = refl
+mark_spelled marks.Minus rest = refl
+mark_spelled marks.Times rest = refl
+mark_spelled marks.Equal rest = refl
+mark_spelled marks.NotEqual rest = refl
+mark_spelled marks.Less rest = refl
+mark_spelled marks.LessEqual rest = refl
+mark_spelled marks.Greater rest = refl
+mark_spelled marks.GreaterEqual rest = refl
 
-tail_longer : (x : Sign) (rest : List ℕ) → length rest ≤ length (tail_of x rest)
-tail_longer s.LessEqual rest = omega arith
-tail_longer s.NotEqual rest = omega arith
-tail_longer s.GreaterEqual rest = omega arith
+tail_longer : (x : Mark) (rest : List ℕ) → length rest ≤ length (tail_of x rest)
+tail_longer marks.LessEqual rest = omega arith
+tail_longer marks.NotEqual rest = omega arith
+tail_longer marks.GreaterEqual rest = omega arith
 tail_longer _ rest = omega arith
 
 -- ---- lists of tokens
@@ -281,13 +281,13 @@ lexes (comment note rest e s a) zero lt = absurd (omega arith)
 lexes (comment note rest e s a) (suc n) lt = ap (lex_turn (lex n)) (skip_comment note rest e s) ∙ lexes a (suc n) (omega (arith, length-append note rest))
 lexes (reserved [] rest x w e s a) n lt = absurd cc
 lexes (reserved (b ∷ bs) rest x w e s a) zero lt = absurd (omega arith)
-lexes (reserved (b ∷ bs) rest x {ts = ts} w e s a) (suc n) lt =
-    turn n b (bs ++ rest) rest (Fixed x) ts (word_stays b bs rest w) (word_read b bs rest (Some x) w e s) (lexes a n (omega (arith, length-append bs rest)))
+lexes (reserved (b ∷ bs) rest x {ts = ts} w e stops a) (suc n) lt =
+    turn n b (bs ++ rest) rest (Fixed (s.Word x)) ts (word_stays b bs rest w) (word_read b bs rest (Some x) w e stops) (lexes a n (omega (arith, length-append bs rest)))
 lexes (name [] rest w s a) n lt = absurd cc
 lexes (name (b ∷ bs) rest w s a) zero lt = absurd (omega arith)
 lexes (name (b ∷ bs) rest {ts = ts} w s a) (suc n) lt =
     let word = (and_parts (is_word (b ∷ bs)) (not (is_reserved (b ∷ bs))) w).0 in
-    turn n b (bs ++ rest) rest (Name (str_to_ascii_lowercase (b ∷ bs))) ts (word_stays b bs rest word) (word_read b bs rest None word (name_has_no_sign (b ∷ bs) w) s) (lexes a n (omega (arith, length-append bs rest)))
+    turn n b (bs ++ rest) rest (Name (str_to_ascii_lowercase (b ∷ bs))) ts (word_stays b bs rest word) (word_read b bs rest None word (name_is_no_keyword (b ∷ bs) w) s) (lexes a n (omega (arith, length-append bs rest)))
 lexes (number [] rest w s v a) n lt = absurd cc
 lexes (number (b ∷ bs) rest w s v a) zero lt = absurd (omega arith)
 lexes (number (b ∷ bs) rest {ts = ts} w s v a) (suc n) lt =
@@ -295,7 +295,7 @@ lexes (number (b ∷ bs) rest {ts = ts} w s v a) (suc n) lt =
 lexes (text t rest s a) zero lt = absurd (omega arith)
 lexes (text t rest {ts = ts} s a) (suc n) lt =
     turn n 39 (doubled t ++ 39 ∷ rest) rest (Text t) ts (skip_stays 39 _ refl refl) (text_read t rest s) (lexes a n (omega (arith, length-append (doubled t) (39 ∷ rest))))
-lexes (mark x rest m h a) zero lt = absurd (omega arith)
-lexes (mark x rest {ts = ts} m h a) (suc n) lt =
-    ap (lex (suc n)) (mark_spelled x rest m)
-    ∙ turn n (head_of x) (tail_of x rest) rest (Fixed x) ts (mark_stays x rest m h) (mark_read x rest m h) (lexes a n (omega (arith, tail_longer x rest, ap length (mark_spelled x rest m))))
+lexes (mark x rest h a) zero lt = absurd (omega arith)
+lexes (mark x rest {ts = ts} h a) (suc n) lt =
+    ap (lex (suc n)) (mark_spelled x rest)
+    ∙ turn n (head_of x) (tail_of x rest) rest (Fixed (s.Mark x)) ts (mark_stays x rest h) (mark_read x rest h) (lexes a n (omega (arith, tail_longer x rest, ap length (mark_spelled x rest))))

@@ -5,7 +5,7 @@ use Rattle.std.specs.Char.{is_ascii_digit}
 use Rattle.std.proofs.lemmas.Bool.{le-leb, lt-leb}
 use Rattle.ssb_cells.specs.Names.{is_word_byte}
 use Rattle.ssb_sql.specs.declared.class.Class.TheVariants as k
-use Rattle.ssb_sql.specs.declared.token.Sign.{Sign}
+use Rattle.ssb_sql.specs.declared.token.Mark.{Mark}
 use Rattle.ssb_sql.specs.declared.token.Token.{Token}
 use Rattle.ssb_sql.specs.declared.token.Token.TheVariants.{Number}
 use Rattle.ssb_sql.specs.Class.{class_of}
@@ -41,5 +41,5 @@ number_in_word bs rest r s =
 abbrev some_of : Token × List ℕ → Option (Token × List ℕ)
 some_of x = Some x
 
-pub mark_here : (bs us : List ℕ) (b : ℕ) (x : Sign) (found : Token × List ℕ) → first bs ≡ Some (b, us) → class_of b ≡ k.Mark x → found ≡ mark_at x us → token_at bs ≡ Some found
+pub mark_here : (bs us : List ℕ) (b : ℕ) (x : Mark) (found : Token × List ℕ) → first bs ≡ Some (b, us) → class_of b ≡ k.Mark x → found ≡ mark_at x us → token_at bs ≡ Some found
 mark_here bs us b x found f h e = ap token_at (first_is bs us b f) ∙ ap (λ c. token_by c (b ∷ us) us) h ∙ ap some_of (sym e)

@@ -7,6 +7,7 @@ use Rattle.std.proofs.lemmas.List.{append-nil, nil_from_length}
 use Rattle.ssb_cells.specs.Names.{is_reserved, is_word}
 use Rattle.ssb_sql.specs.declared.fault.SqlFault.{SqlFault}
 use Rattle.ssb_sql.specs.declared.fault.SqlFault.TheVariants as fault
+use Rattle.ssb_sql.specs.declared.token.Sign.TheVariants as s
 use Rattle.ssb_sql.specs.declared.token.Token.{Token}
 use Rattle.ssb_sql.specs.declared.token.Token.TheVariants.{Fixed, Name, Number, Text}
 use Rattle.ssb_sql.specs.Tokens.{IsTokens, begins, doubled, goes_on, is_blank, is_dash, value_of}
@@ -40,7 +41,7 @@ to_skip end_of_text = end_of_text
 to_skip (blank {b = b} {rest = rest} {ts = ts} h a) = subst (λ l. IsTokens l ts) (sym (skip_blank b rest h)) (to_skip a)
 to_skip (comment note rest {ts = ts} e s a) = subst (λ l. IsTokens l ts) (sym (skip_comment note rest e s)) (to_skip a)
 to_skip (reserved [] rest x w e s a) = absurd cc
-to_skip (reserved (b ∷ bs) rest x {ts = ts} w e s a) = subst (λ l. IsTokens l (Fixed x ∷ ts)) (sym (word_stays b bs rest w)) (reserved (b ∷ bs) rest x w e s a)
+to_skip (reserved (b ∷ bs) rest x {ts = ts} w e stops a) = subst (λ l. IsTokens l (Fixed (s.Word x) ∷ ts)) (sym (word_stays b bs rest w)) (reserved (b ∷ bs) rest x w e stops a)
 to_skip (name [] rest w s a) = absurd cc
 to_skip (name (b ∷ bs) rest {ts = ts} w s a) =
     let word = (and_parts (is_word (b ∷ bs)) (not (is_reserved (b ∷ bs))) w).0 in
@@ -48,8 +49,8 @@ to_skip (name (b ∷ bs) rest {ts = ts} w s a) =
 to_skip (number [] rest w s v a) = absurd cc
 to_skip (number (b ∷ bs) rest {ts = ts} w s v a) = subst (λ l. IsTokens l (Number (value_of (b ∷ bs)) ∷ ts)) (sym (number_stays b bs rest w)) (number (b ∷ bs) rest w s v a)
 to_skip (text t rest {ts = ts} s a) = subst (λ l. IsTokens l (Text t ∷ ts)) (sym (skip_stays 39 (doubled t ++ 39 ∷ rest) refl refl)) (text t rest s a)
-to_skip (mark x rest {ts = ts} m h a) =
-    subst (λ l. IsTokens l (Fixed x ∷ ts)) (mark_spelled x rest m ∙ sym (mark_stays x rest m h) ∙ ap (skip false) (sym (mark_spelled x rest m))) (mark x rest m h a)
+to_skip (mark x rest {ts = ts} h a) =
+    subst (λ l. IsTokens l (Fixed (s.Mark x) ∷ ts)) (mark_spelled x rest ∙ sym (mark_stays x rest h) ∙ ap (skip false) (sym (mark_spelled x rest))) (mark x rest h a)
 
 still_if : (q : Bool) (xs ys : List ℕ) → skip false xs ≡ xs → (q ≡ false → skip false ys ≡ ys) → skip false (cond q xs ys) ≡ cond q xs ys
 still_if true xs ys a b = a

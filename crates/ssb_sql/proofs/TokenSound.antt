@@ -5,19 +5,22 @@ use Rattle.std.specs.Char.{is_ascii_alphabetic, is_ascii_digit}
 use Rattle.std.specs.List.{list_all}
 use Rattle.std.proofs.lemmas.Bool.{and_from, and_parts, eqb-true, leb-true, not-false}
 use Rattle.std.proofs.lemmas.Bool.Decides.{nat_tests}
+use Rattle.ssb_cells.specs.Keywords.{keyword_of}
 use Rattle.ssb_cells.specs.Names.{is_word, is_word_byte}
 use Rattle.ssb_sql.specs.declared.class.Class.{Class}
 use Rattle.ssb_sql.specs.declared.class.Class.TheVariants as k
-use Rattle.ssb_sql.specs.declared.token.Sign.{Sign}
+use Rattle.ssb_cells.specs.declared.keyword.Keyword.{Keyword}
+use Rattle.ssb_sql.specs.declared.token.Mark.{Mark}
+use Rattle.ssb_sql.specs.declared.token.Mark.TheVariants as marks
 use Rattle.ssb_sql.specs.declared.token.Sign.TheVariants as s
 use Rattle.ssb_sql.specs.declared.token.Token.{Token}
 use Rattle.ssb_sql.specs.declared.token.Token.TheVariants.{Fixed, Number, Text}
 use Rattle.ssb_sql.specs.Class.{class_of}
-use Rattle.ssb_sql.specs.Tokens.{Each, IsLongest, IsTokens, Stops, begins, doubled, goes_on, is_blank, is_dash, is_mark, is_numeral, is_quote, sign_of, spelling, value_of}
+use Rattle.ssb_sql.specs.Tokens.{Each, IsLongest, IsTokens, Stops, begins, doubled, goes_on, is_blank, is_dash, is_numeral, is_quote, mark_text, value_of}
 use Rattle.ssb_sql.specs.Tokens.IsTokens.{end_of_text, blank, comment, reserved, name, number, text, mark}
 use Rattle.ssb_sql.specs.Reading.{◌>>=◌}
-use Rattle.ssb_sql.specs.Scanning.{greater_at, less_at, lex, lex_turn, mark_at, number_at, number_of, past, put, run, skip, text_at, text_of, text_token_at, token_at, token_by, token_by_sign, token_of, word_at}
-use Rattle.ssb_sql.proofs.ReservedWords.{name_from_no_sign}
+use Rattle.ssb_sql.specs.Scanning.{greater_at, less_at, lex, lex_turn, mark_at, number_at, number_of, past, put, run, skip, text_at, text_of, text_token_at, token_at, token_by, token_by_keyword, token_of, word_at}
+use Rattle.ssb_sql.proofs.ReservedWords.{name_from_no_keyword}
 use Rattle.ssb_sql.proofs.ScanSteps.{past_more, run_more, run_past}
 
 abbrev pub some_of : {A : Type 0} → A → Option A
@@ -29,7 +32,7 @@ abbrev byte_is : Class → ℕ → Type 0
 byte_is k.Letter b = is_ascii_alphabetic b ≡ true
 byte_is k.Digit b = is_ascii_digit b ≡ true
 byte_is k.Quote b = b ≡ 39
-byte_is (k.Mark x) b = (is_mark x ≡ true) × (spelling x ≡ b ∷ [])
+byte_is (k.Mark x) b = mark_text x ≡ b ∷ []
 byte_is k.Other b = Unit {0}
 
 choice : (b : ℕ) (t : Bool) (x y : Class) → (t ≡ true → byte_is x b) → byte_is y b → byte_is (cond t x y) b
@@ -37,25 +40,25 @@ choice b true x y h g = h refl
 choice b false x y h g = g
 
 -- the one byte of a mark
-one_byte : (x : Sign) (c b : ℕ) (y : Class) → is_mark x ≡ true → spelling x ≡ c ∷ [] → byte_is y b → byte_is (cond (b == c) (k.Mark x) y) b
-one_byte x c b y m h g = choice b (b == c) (k.Mark x) y (λ e. (m, h ∙ ap (λ d. d ∷ []) (sym (eqb-true b c e)))) g
+one_byte : (x : Mark) (c b : ℕ) (y : Class) → mark_text x ≡ c ∷ [] → byte_is y b → byte_is (cond (b == c) (k.Mark x) y) b
+one_byte x c b y h g = choice b (b == c) (k.Mark x) y (λ e. h ∙ ap (λ d. d ∷ []) (sym (eqb-true b c e))) g
 
 named : (b : ℕ) → byte_is (class_of b) b
 named b =
     choice b (is_ascii_alphabetic b) k.Letter _ (λ e. e)
     (choice b (is_ascii_digit b) k.Digit _ (λ e. e)
     (choice b (b == 39) k.Quote _ (λ e. eqb-true b 39 e)
-    (one_byte s.Open 40 b _ refl refl
-    (one_byte s.Close 41 b _ refl refl
-    (one_byte s.Comma 44 b _ refl refl
-    (one_byte s.Dot 46 b _ refl refl
-    (one_byte s.Semicolon 59 b _ refl refl
-    (one_byte s.Plus 43 b _ refl refl
-    (one_byte s.Minus 45 b _ refl refl
-    (one_byte s.Times 42 b _ refl refl
-    (one_byte s.Equal 61 b _ refl refl
-    (one_byte s.Less 60 b _ refl refl
-    (one_byte s.Greater 62 b k.Other refl refl tt)))))))))))))
+    (one_byte marks.Open 40 b _ refl
+    (one_byte marks.Close 41 b _ refl
+    (one_byte marks.Comma 44 b _ refl
+    (one_byte marks.Dot 46 b _ refl
+    (one_byte marks.Semicolon 59 b _ refl
+    (one_byte marks.Plus 43 b _ refl
+    (one_byte marks.Minus 45 b _ refl
+    (one_byte marks.Times 42 b _ refl
+    (one_byte marks.Equal 61 b _ refl
+    (one_byte marks.Less 60 b _ refl
+    (one_byte marks.Greater 62 b k.Other refl tt)))))))))))))
 
 byte_of : (b : ℕ) (c : Class) → class_of b ≡ c → byte_is c b
 byte_of b c e = subst (λ x. byte_is x b) e (named b)
@@ -226,8 +229,8 @@ pub record Goes (b : ℕ) (bs : List ℕ) (x : TokenAndRest) : Type 0 where
   pub front : List ℕ
   pub whole : bs ≡ front ++ x.1
 
-word_is : (word rest : List ℕ) (ts : List Token) (o : Option Sign) → sign_of word ≡ o → is_word word ≡ true → Stops is_word_byte rest → IsTokens rest ts → IsTokens (word ++ rest) (token_by_sign o word ∷ ts)
-word_is word rest ts None e w stop is = name word rest (name_from_no_sign word w e) stop is
+word_is : (word rest : List ℕ) (ts : List Token) (o : Option Keyword) → keyword_of word ≡ o → is_word word ≡ true → Stops is_word_byte rest → IsTokens rest ts → IsTokens (word ++ rest) (token_by_keyword o word ∷ ts)
+word_is word rest ts None e w stop is = name word rest (name_from_no_keyword word w e) stop is
 word_is word rest ts (Some x) e w stop is = reserved word rest x w e stop is
 
 word_goes : (b : ℕ) (bs : List ℕ) (x : TokenAndRest) → is_ascii_alphabetic b ≡ true → word_at (b ∷ bs) ≡ Some x → Goes b bs x
@@ -236,7 +239,7 @@ word_goes b bs x h e =
     let all = b ∷ bs in
     subst (Goes b bs) (some_token (token_of (run is_word_byte all), past is_word_byte all) x e) (record {
       by = λ ts is. subst (λ l. IsTokens l (token_of (run is_word_byte all) ∷ ts)) (run_past is_word_byte all)
-          (word_is (run is_word_byte all) (past is_word_byte all) ts (sign_of (run is_word_byte all)) refl (run_is_word all h) (past_stops is_word_byte all) is);
+          (word_is (run is_word_byte all) (past is_word_byte all) ts (keyword_of (run is_word_byte all)) refl (run_is_word all h) (past_stops is_word_byte all) is);
       front = run is_word_byte bs;
       whole = sym (run_past is_word_byte bs) ∙ ap (λ l. run is_word_byte bs ++ l) (sym (past_more is_word_byte b bs (letter_in_word b h)));
     })
@@ -281,12 +284,12 @@ text_goes b bs x h e =
     })
 
 -- a mark of one byte
-single_goes : (y : Sign) (b : ℕ) (bs : List ℕ) → is_mark y ≡ true → spelling y ≡ b ∷ [] → IsLongest y bs → Goes b bs (Fixed y, bs)
-single_goes y b bs m h long = record { by = λ ts is. subst (λ w. IsTokens (w ++ bs) (Fixed y ∷ ts)) h (mark y bs m long is); front = []; whole = refl }
+single_goes : (y : Mark) (b : ℕ) (bs : List ℕ) → mark_text y ≡ b ∷ [] → IsLongest y bs → Goes b bs (Fixed (s.Mark y), bs)
+single_goes y b bs h long = record { by = λ ts is. subst (λ w. IsTokens (w ++ bs) (Fixed (s.Mark y) ∷ ts)) h (mark y bs long is); front = []; whole = refl }
 
 -- a mark of two bytes
-double_goes : (y : Sign) (b c : ℕ) (bs : List ℕ) → is_mark y ≡ true → spelling y ≡ b ∷ c ∷ [] → IsLongest y bs → Goes b (c ∷ bs) (Fixed y, bs)
-double_goes y b c bs m h long = record { by = λ ts is. subst (λ w. IsTokens (w ++ bs) (Fixed y ∷ ts)) h (mark y bs m long is); front = c ∷ []; whole = refl }
+double_goes : (y : Mark) (b c : ℕ) (bs : List ℕ) → mark_text y ≡ b ∷ c ∷ [] → IsLongest y bs → Goes b (c ∷ bs) (Fixed (s.Mark y), bs)
+double_goes y b c bs h long = record { by = λ ts is. subst (λ w. IsTokens (w ++ bs) (Fixed (s.Mark y) ∷ ts)) h (mark y bs long is); front = c ∷ []; whole = refl }
 
 or_both : (x y : Bool) → x ≡ false → y ≡ false → (x || y) ≡ false
 or_both false false e f = refl
@@ -295,25 +298,25 @@ or_both true y e f = absurd cc
 
 less_goes : (b : ℕ) (bs : List ℕ) → b ≡ 60 → Goes b bs (less_at bs)
 unfolding less_at
-less_goes b [] h = single_goes s.Less b [] refl (ap (λ y. y ∷ []) (sym h)) refl
+less_goes b [] h = single_goes marks.Less b [] (ap (λ y. y ∷ []) (sym h)) refl
 less_goes b (c ∷ bs) h = first (c == 61) refl
   where
-    second : (q : Bool) → (c == 61) ≡ false → (c == 62) ≡ q → Goes b (c ∷ bs) (cond q (Fixed s.NotEqual, bs) (Fixed s.Less, c ∷ bs))
-    second true f g = double_goes s.NotEqual b c bs refl (ap (λ y. y ∷ 62 ∷ []) (sym h) ∙ ap (λ y. b ∷ y ∷ []) (sym (eqb-true c 62 g))) tt
-    second false f g = single_goes s.Less b (c ∷ bs) refl (ap (λ y. y ∷ []) (sym h)) (or_both (c == 61) (c == 62) f g)
+    second : (q : Bool) → (c == 61) ≡ false → (c == 62) ≡ q → Goes b (c ∷ bs) (cond q (Fixed (s.Mark marks.NotEqual), bs) (Fixed (s.Mark marks.Less), c ∷ bs))
+    second true f g = double_goes marks.NotEqual b c bs (ap (λ y. y ∷ 62 ∷ []) (sym h) ∙ ap (λ y. b ∷ y ∷ []) (sym (eqb-true c 62 g))) tt
+    second false f g = single_goes marks.Less b (c ∷ bs) (ap (λ y. y ∷ []) (sym h)) (or_both (c == 61) (c == 62) f g)
 
-    first : (q : Bool) → (c == 61) ≡ q → Goes b (c ∷ bs) (cond q (Fixed s.LessEqual, bs) (cond (c == 62) (Fixed s.NotEqual, bs) (Fixed s.Less, c ∷ bs)))
-    first true g = double_goes s.LessEqual b c bs refl (ap (λ y. y ∷ 61 ∷ []) (sym h) ∙ ap (λ y. b ∷ y ∷ []) (sym (eqb-true c 61 g))) tt
+    first : (q : Bool) → (c == 61) ≡ q → Goes b (c ∷ bs) (cond q (Fixed (s.Mark marks.LessEqual), bs) (cond (c == 62) (Fixed (s.Mark marks.NotEqual), bs) (Fixed (s.Mark marks.Less), c ∷ bs)))
+    first true g = double_goes marks.LessEqual b c bs (ap (λ y. y ∷ 61 ∷ []) (sym h) ∙ ap (λ y. b ∷ y ∷ []) (sym (eqb-true c 61 g))) tt
     first false g = second (c == 62) g refl
 
 greater_goes : (b : ℕ) (bs : List ℕ) → b ≡ 62 → Goes b bs (greater_at bs)
 unfolding greater_at
-greater_goes b [] h = single_goes s.Greater b [] refl (ap (λ y. y ∷ []) (sym h)) refl
+greater_goes b [] h = single_goes marks.Greater b [] (ap (λ y. y ∷ []) (sym h)) refl
 greater_goes b (c ∷ bs) h = first (c == 61) refl
   where
-    first : (q : Bool) → (c == 61) ≡ q → Goes b (c ∷ bs) (cond q (Fixed s.GreaterEqual, bs) (Fixed s.Greater, c ∷ bs))
-    first true g = double_goes s.GreaterEqual b c bs refl (ap (λ y. y ∷ 61 ∷ []) (sym h) ∙ ap (λ y. b ∷ y ∷ []) (sym (eqb-true c 61 g))) tt
-    first false g = single_goes s.Greater b (c ∷ bs) refl (ap (λ y. y ∷ []) (sym h)) g
+    first : (q : Bool) → (c == 61) ≡ q → Goes b (c ∷ bs) (cond q (Fixed (s.Mark marks.GreaterEqual), bs) (Fixed (s.Mark marks.Greater), c ∷ bs))
+    first true g = double_goes marks.GreaterEqual b c bs (ap (λ y. y ∷ 61 ∷ []) (sym h) ∙ ap (λ y. b ∷ y ∷ []) (sym (eqb-true c 61 g))) tt
+    first false g = single_goes marks.Greater b (c ∷ bs) (ap (λ y. y ∷ []) (sym h)) g
 
 same_byte : (b c : ℕ) → c ∷ [] ≡ b ∷ [] → b ≡ c
 same_byte b c e = cc
@@ -322,28 +325,27 @@ same_byte b c e = cc
 minus_ends : (b : ℕ) (bs : List ℕ) → b ≡ 45 → IsBare (b ∷ bs) → Stops is_dash bs
 minus_ends b bs h n = subst (λ c. is_dash c && begins is_dash bs ≡ false) h n
 
-mark_goes : (x : Sign) (b : ℕ) (bs : List ℕ) → is_mark x ≡ true → spelling x ≡ b ∷ [] → IsBare (b ∷ bs) → Goes b bs (mark_at x bs)
-mark_goes s.Less b bs m h n = less_goes b bs (same_byte b 60 h)
-mark_goes s.Greater b bs m h n = greater_goes b bs (same_byte b 62 h)
-mark_goes s.Minus b bs m h n = single_goes s.Minus b bs m h (minus_ends b bs (same_byte b 45 h) n)
-mark_goes s.Open b bs m h n = single_goes s.Open b bs m h tt
-mark_goes s.Close b bs m h n = single_goes s.Close b bs m h tt
-mark_goes s.Comma b bs m h n = single_goes s.Comma b bs m h tt
-mark_goes s.Dot b bs m h n = single_goes s.Dot b bs m h tt
-mark_goes s.Semicolon b bs m h n = single_goes s.Semicolon b bs m h tt
-mark_goes s.Plus b bs m h n = single_goes s.Plus b bs m h tt
-mark_goes s.Times b bs m h n = single_goes s.Times b bs m h tt
-mark_goes s.Equal b bs m h n = single_goes s.Equal b bs m h tt
-mark_goes s.NotEqual b bs m h n = single_goes s.NotEqual b bs m h tt
-mark_goes s.LessEqual b bs m h n = single_goes s.LessEqual b bs m h tt
-mark_goes s.GreaterEqual b bs m h n = single_goes s.GreaterEqual b bs m h tt
-mark_goes _ b bs m h n = absurd cc
+mark_goes : (x : Mark) (b : ℕ) (bs : List ℕ) → mark_text x ≡ b ∷ [] → IsBare (b ∷ bs) → Goes b bs (mark_at x bs)
+mark_goes marks.Less b bs h n = less_goes b bs (same_byte b 60 h)
+mark_goes marks.Greater b bs h n = greater_goes b bs (same_byte b 62 h)
+mark_goes marks.Minus b bs h n = single_goes marks.Minus b bs h (minus_ends b bs (same_byte b 45 h) n)
+mark_goes marks.Open b bs h n = single_goes marks.Open b bs h tt
+mark_goes marks.Close b bs h n = single_goes marks.Close b bs h tt
+mark_goes marks.Comma b bs h n = single_goes marks.Comma b bs h tt
+mark_goes marks.Dot b bs h n = single_goes marks.Dot b bs h tt
+mark_goes marks.Semicolon b bs h n = single_goes marks.Semicolon b bs h tt
+mark_goes marks.Plus b bs h n = single_goes marks.Plus b bs h tt
+mark_goes marks.Times b bs h n = single_goes marks.Times b bs h tt
+mark_goes marks.Equal b bs h n = single_goes marks.Equal b bs h tt
+mark_goes marks.NotEqual b bs h n = single_goes marks.NotEqual b bs h tt
+mark_goes marks.LessEqual b bs h n = single_goes marks.LessEqual b bs h tt
+mark_goes marks.GreaterEqual b bs h n = single_goes marks.GreaterEqual b bs h tt
 
 token_goes : (b : ℕ) (bs : List ℕ) (x : TokenAndRest) (c : Class) → class_of b ≡ c → IsBare (b ∷ bs) → token_by c (b ∷ bs) bs ≡ Some x → Goes b bs x
 token_goes b bs x k.Letter h n e = word_goes b bs x (byte_of b k.Letter h) e
 token_goes b bs x k.Digit h n e = number_goes b bs x (byte_of b k.Digit h) e
 token_goes b bs x k.Quote h n e = text_goes b bs x (byte_of b k.Quote h) e
-token_goes b bs x (k.Mark y) h n e = let f = byte_of b (k.Mark y) h in subst (Goes b bs) (some_token (mark_at y bs) x e) (mark_goes y b bs f.0 f.1 n)
+token_goes b bs x (k.Mark y) h n e = let f = byte_of b (k.Mark y) h in subst (Goes b bs) (some_token (mark_at y bs) x e) (mark_goes y b bs f n)
 token_goes b bs x k.Other h n e = absurd cc
 
 pub goes : (b : ℕ) (bs : List ℕ) (x : TokenAndRest) → IsBare (b ∷ bs) → token_at (b ∷ bs) ≡ Some x → Goes b bs x

@@ -3,16 +3,17 @@
 use Rattle.std.specs.Prelude.{◌≡◌, ◌≤◌, ◌+◌, ℕ, Bool, true, false, List, ◌++◌, length, filter}
 use Rattle.ssb_sql.specs.declared.token.Token.{Token}
 use Rattle.ssb_sql.specs.declared.token.Token.TheVariants.{Fixed}
+use Rattle.ssb_sql.specs.declared.token.Mark.TheVariants as marks
 use Rattle.ssb_sql.specs.declared.token.Sign.TheVariants as s
 
 -- `(`
 abbrev pub is_open : Token → Bool
-is_open (Fixed s.Open) = true
+is_open (Fixed (s.Mark marks.Open)) = true
 is_open _ = false
 
 -- `)`
 abbrev pub is_close : Token → Bool
-is_close (Fixed s.Close) = true
+is_close (Fixed (s.Mark marks.Close)) = true
 is_close _ = false
 
 -- how many `(` there are, and how many `)`

@@ -2,14 +2,14 @@
 -- Source: SQL-92, 6.12 <numeric value expression>, cut down.
 use Rattle.std.specs.Prelude.{ℕ, List, [], ◌∷◌}
 use Rattle.ssb_sql.specs.declared.token.Token.{Token}
-use Rattle.ssb_sql.specs.declared.token.Token.TheVariants.{Fixed, Number}
-use Rattle.ssb_sql.specs.declared.token.Sign.TheVariants as s
+use Rattle.ssb_sql.specs.declared.token.Token.TheVariants.{Number}
+use Rattle.ssb_sql.specs.declared.token.Mark.TheVariants as marks
 use Rattle.ssb_sql.specs.declared.expr.ColumnName.{ColumnName}
 use Rattle.ssb_sql.specs.declared.expr.Adding.TheVariants as a
 use Rattle.ssb_sql.specs.declared.expr.Step.{Step}
 use Rattle.ssb_sql.specs.declared.expr.Expr.{Expr}
 use Rattle.ssb_sql.specs.declared.expr.Expr.TheVariants as e
-use Rattle.ssb_sql.specs.Forms.{IsColumn, chain_of}
+use Rattle.ssb_sql.specs.Forms.{IsColumn, chain_of, mark}
 
 -- a chain of one thing is that thing
 unfoldable pub sum_of : Expr → List Step → Expr
@@ -26,8 +26,8 @@ mutual
 
   pub data IsSteps : List Token → List Token → List Step → Type 0 where
     no_step : {to : List Token} → IsSteps to to []
-    plus : {from mid to : List Token} {x : Expr} {xs : List Step} → IsTerm from mid x → IsSteps mid to xs → IsSteps (Fixed s.Plus ∷ from) to (record { adding = a.Plus; term = x } ∷ xs)
-    minus : {from mid to : List Token} {x : Expr} {xs : List Step} → IsTerm from mid x → IsSteps mid to xs → IsSteps (Fixed s.Minus ∷ from) to (record { adding = a.Minus; term = x } ∷ xs)
+    plus : {from mid to : List Token} {x : Expr} {xs : List Step} → IsTerm from mid x → IsSteps mid to xs → IsSteps (mark marks.Plus ∷ from) to (record { adding = a.Plus; term = x } ∷ xs)
+    minus : {from mid to : List Token} {x : Expr} {xs : List Step} → IsTerm from mid x → IsSteps mid to xs → IsSteps (mark marks.Minus ∷ from) to (record { adding = a.Minus; term = x } ∷ xs)
 
   -- term = factor {"*" factor}
   pub data IsTerm : List Token → List Token → Expr → Type 0 where
@@ -35,16 +35,16 @@ mutual
 
   pub data IsFactors : List Token → List Token → List Expr → Type 0 where
     no_factor : {to : List Token} → IsFactors to to []
-    times : {from mid to : List Token} {x : Expr} {xs : List Expr} → IsFactor from mid x → IsFactors mid to xs → IsFactors (Fixed s.Times ∷ from) to (x ∷ xs)
+    times : {from mid to : List Token} {x : Expr} {xs : List Expr} → IsFactor from mid x → IsFactors mid to xs → IsFactors (mark marks.Times ∷ from) to (x ∷ xs)
 
   -- factor = ["+" | "-"] primary
   pub data IsFactor : List Token → List Token → Expr → Type 0 where
     plain : {from to : List Token} {x : Expr} → IsPrimary from to x → IsFactor from to x
-    positive : {from to : List Token} {x : Expr} → IsPrimary from to x → IsFactor (Fixed s.Plus ∷ from) to (e.Positive x)
-    negative : {from to : List Token} {x : Expr} → IsPrimary from to x → IsFactor (Fixed s.Minus ∷ from) to (e.Negative x)
+    positive : {from to : List Token} {x : Expr} → IsPrimary from to x → IsFactor (mark marks.Plus ∷ from) to (e.Positive x)
+    negative : {from to : List Token} {x : Expr} → IsPrimary from to x → IsFactor (mark marks.Minus ∷ from) to (e.Negative x)
 
   -- primary = column | number | "(" expr ")"
   pub data IsPrimary : List Token → List Token → Expr → Type 0 where
     column : {from to : List Token} {x : ColumnName} → IsColumn from to x → IsPrimary from to (e.Column x)
     number : {to : List Token} {n : ℕ} → IsPrimary (Number n ∷ to) to (e.Number n)
-    parens : {from to : List Token} {x : Expr} → IsExpr from (Fixed s.Close ∷ to) x → IsPrimary (Fixed s.Open ∷ from) to x
+    parens : {from to : List Token} {x : Expr} → IsExpr from (mark marks.Close ∷ to) x → IsPrimary (mark marks.Open ∷ from) to x

@@ -4,6 +4,9 @@
 use Rattle.std.specs.Prelude.{ℕ, ◌≤◌, List, [], ◌∷◌, Some, None, pos, neg_ℤ}
 use Rattle.ssb_sql.specs.declared.token.Token.{Token}
 use Rattle.ssb_sql.specs.declared.token.Token.TheVariants.{Fixed, Name, Number, Text}
+use Rattle.ssb_cells.specs.declared.keyword.Keyword.{Keyword}
+use Rattle.ssb_sql.specs.declared.token.Mark.{Mark}
+use Rattle.ssb_sql.specs.declared.token.Mark.TheVariants as marks
 use Rattle.ssb_sql.specs.declared.token.Sign.TheVariants as s
 use Rattle.ssb_sql.specs.declared.expr.ColumnName.{ColumnName}
 use Rattle.ssb_sql.specs.declared.condition.Literal.{Literal}
@@ -11,13 +14,20 @@ use Rattle.ssb_sql.specs.declared.condition.Literal.TheVariants as l
 use Rattle.ssb_sql.specs.declared.condition.Operand.{Operand}
 use Rattle.ssb_sql.specs.declared.condition.Operand.TheVariants as o
 
+-- a token that is a reserved word or a mark
+abbrev pub word : Keyword → Token
+word k = Fixed (s.Word k)
+
+abbrev pub mark : Mark → Token
+mark m = Fixed (s.Mark m)
+
 abbrev pub Spelling : Type 0 → Type 1
 Spelling A = List Token → List Token → A → Type 0
 
 -- {"," R}
 pub data IsMore {A : Type 0} (R : Spelling A) : List Token → List Token → List A → Type 0 where
   no_more : {to : List Token} → IsMore R to to []
-  comma : {from mid to : List Token} {x : A} {xs : List A} → R from mid x → IsMore R mid to xs → IsMore R (Fixed s.Comma ∷ from) to (x ∷ xs)
+  comma : {from mid to : List Token} {x : A} {xs : List A} → R from mid x → IsMore R mid to xs → IsMore R (mark marks.Comma ∷ from) to (x ∷ xs)
 
 -- R {"," R}
 pub data IsList {A : Type 0} (R : Spelling A) : List Token → List Token → List A → Type 0 where
@@ -30,13 +40,13 @@ pub data IsNamed : List Token → List Token → List ℕ → Type 0 where
 -- column = name | name "." name
 pub data IsColumn : List Token → List Token → ColumnName → Type 0 where
   alone : {to : List Token} {n : List ℕ} → IsColumn (Name n ∷ to) to (record { table = None; column = n })
-  dotted : {to : List Token} {t n : List ℕ} → IsColumn (Name t ∷ Fixed s.Dot ∷ Name n ∷ to) to (record { table = Some t; column = n })
+  dotted : {to : List Token} {t n : List ℕ} → IsColumn (Name t ∷ mark marks.Dot ∷ Name n ∷ to) to (record { table = Some t; column = n })
 
 -- literal = ["+" | "-"] number | text
 pub data IsLiteral : List Token → List Token → Literal → Type 0 where
   number : {to : List Token} {n : ℕ} → n ≤ 9223372036854775807 → IsLiteral (Number n ∷ to) to (l.Number (pos n))
-  positive : {to : List Token} {n : ℕ} → n ≤ 9223372036854775807 → IsLiteral (Fixed s.Plus ∷ Number n ∷ to) to (l.Number (pos n))
-  negative : {to : List Token} {n : ℕ} → n ≤ 9223372036854775807 → IsLiteral (Fixed s.Minus ∷ Number n ∷ to) to (l.Number (neg_ℤ (pos n)))
+  positive : {to : List Token} {n : ℕ} → n ≤ 9223372036854775807 → IsLiteral (mark marks.Plus ∷ Number n ∷ to) to (l.Number (pos n))
+  negative : {to : List Token} {n : ℕ} → n ≤ 9223372036854775807 → IsLiteral (mark marks.Minus ∷ Number n ∷ to) to (l.Number (neg_ℤ (pos n)))
   text : {to : List Token} {t : List ℕ} → IsLiteral (Text t ∷ to) to (l.Text t)
 
 -- operand = column | literal

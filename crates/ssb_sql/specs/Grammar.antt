@@ -2,8 +2,9 @@
 -- Source: SQL-92, 7.9 <query specification>, 6.5 <set function specification>, 7.4 to 7.7 and 13.1 <order by clause>, cut down.
 use Rattle.std.specs.Prelude.{ℕ, true, false, List, [], ◌∷◌, Option, Some, None}
 use Rattle.ssb_sql.specs.declared.token.Token.{Token}
-use Rattle.ssb_sql.specs.declared.token.Token.TheVariants.{Fixed, Name, Number}
-use Rattle.ssb_sql.specs.declared.token.Sign.TheVariants as s
+use Rattle.ssb_sql.specs.declared.token.Token.TheVariants.{Name, Number}
+use Rattle.ssb_cells.specs.declared.keyword.Keyword.TheVariants as words
+use Rattle.ssb_sql.specs.declared.token.Mark.TheVariants as marks
 use Rattle.ssb_sql.specs.declared.expr.ColumnName.{ColumnName}
 use Rattle.ssb_sql.specs.declared.expr.Expr.{Expr}
 use Rattle.ssb_sql.specs.declared.condition.Condition.{Condition}
@@ -14,31 +15,31 @@ use Rattle.ssb_sql.specs.declared.select.Key.{Key}
 use Rattle.ssb_sql.specs.declared.select.Key.TheVariants as k
 use Rattle.ssb_sql.specs.declared.select.Order.{Order}
 use Rattle.ssb_sql.specs.declared.select.Select.{Select}
-use Rattle.ssb_sql.specs.Forms.{IsList, IsNamed, IsColumn}
+use Rattle.ssb_sql.specs.Forms.{IsList, IsNamed, IsColumn, word, mark}
 use Rattle.ssb_sql.specs.Expressions.{IsExpr}
 use Rattle.ssb_sql.specs.Conditions.{IsWhereCond}
 
 -- column | SUM "(" expr ")" | COUNT "(" "*" ")" | COUNT "(" expr ")"
 pub data IsOutput : List Token → List Token → Output → Type 0 where
   column : {from to : List Token} {x : ColumnName} → IsColumn from to x → IsOutput from to (u.Column x)
-  sum : {from to : List Token} {x : Expr} → IsExpr from (Fixed s.Close ∷ to) x → IsOutput (Fixed s.Sum ∷ Fixed s.Open ∷ from) to (u.Sum x)
-  count_rows : {to : List Token} → IsOutput (Fixed s.Count ∷ Fixed s.Open ∷ Fixed s.Times ∷ Fixed s.Close ∷ to) to u.CountRows
-  count : {from to : List Token} {x : Expr} → IsExpr from (Fixed s.Close ∷ to) x → IsOutput (Fixed s.Count ∷ Fixed s.Open ∷ from) to (u.Count x)
+  sum : {from to : List Token} {x : Expr} → IsExpr from (mark marks.Close ∷ to) x → IsOutput (word words.Sum ∷ mark marks.Open ∷ from) to (u.Sum x)
+  count_rows : {to : List Token} → IsOutput (word words.Count ∷ mark marks.Open ∷ mark marks.Times ∷ mark marks.Close ∷ to) to u.CountRows
+  count : {from to : List Token} {x : Expr} → IsExpr from (mark marks.Close ∷ to) x → IsOutput (word words.Count ∷ mark marks.Open ∷ from) to (u.Count x)
 
 -- item = (column | aggregate) [AS name]
 pub data IsItem : List Token → List Token → Item → Type 0 where
   unnamed : {from to : List Token} {x : Output} → IsOutput from to x → IsItem from to (record { output = x; alias = None })
-  named : {from to : List Token} {x : Output} {n : List ℕ} → IsOutput from (Fixed s.As ∷ Name n ∷ to) x → IsItem from to (record { output = x; alias = Some n })
+  named : {from to : List Token} {x : Output} {n : List ℕ} → IsOutput from (word words.As ∷ Name n ∷ to) x → IsItem from to (record { output = x; alias = Some n })
 
 -- [WHERE cond]
 pub data IsWhere : List Token → List Token → Option Condition → Type 0 where
   no_where : {to : List Token} → IsWhere to to None
-  where_cond : {from to : List Token} {x : Condition} → IsWhereCond from to x → IsWhere (Fixed s.Where ∷ from) to (Some x)
+  where_cond : {from to : List Token} {x : Condition} → IsWhereCond from to x → IsWhere (word words.Where ∷ from) to (Some x)
 
 -- [GROUP BY column {"," column}]
 pub data IsGroups : List Token → List Token → List ColumnName → Type 0 where
   no_groups : {to : List Token} → IsGroups to to []
-  groups : {from to : List Token} {xs : List ColumnName} → IsList IsColumn from to xs → IsGroups (Fixed s.Group ∷ Fixed s.By ∷ from) to xs
+  groups : {from to : List Token} {xs : List ColumnName} → IsList IsColumn from to xs → IsGroups (word words.Group ∷ word words.By ∷ from) to xs
 
 -- name | number
 pub data IsKey : List Token → List Token → Key → Type 0 where
@@ -48,21 +49,21 @@ pub data IsKey : List Token → List Token → Key → Type 0 where
 -- key = (name | number) [ASC | DESC]
 pub data IsOrder : List Token → List Token → Order → Type 0 where
   plain : {from to : List Token} {x : Key} → IsKey from to x → IsOrder from to (record { key = x; descending = false })
-  asc : {from to : List Token} {x : Key} → IsKey from (Fixed s.Asc ∷ to) x → IsOrder from to (record { key = x; descending = false })
-  desc : {from to : List Token} {x : Key} → IsKey from (Fixed s.Desc ∷ to) x → IsOrder from to (record { key = x; descending = true })
+  asc : {from to : List Token} {x : Key} → IsKey from (word words.Asc ∷ to) x → IsOrder from to (record { key = x; descending = false })
+  desc : {from to : List Token} {x : Key} → IsKey from (word words.Desc ∷ to) x → IsOrder from to (record { key = x; descending = true })
 
 -- [ORDER BY key {"," key}]
 pub data IsOrders : List Token → List Token → List Order → Type 0 where
   no_orders : {to : List Token} → IsOrders to to []
-  orders : {from to : List Token} {xs : List Order} → IsList IsOrder from to xs → IsOrders (Fixed s.Order ∷ Fixed s.By ∷ from) to xs
+  orders : {from to : List Token} {xs : List Order} → IsList IsOrder from to xs → IsOrders (word words.Order ∷ word words.By ∷ from) to xs
 
 -- [";"], and no token more
 pub data IsEnd : List Token → Type 0 where
   end : IsEnd []
-  semicolon : IsEnd (Fixed s.Semicolon ∷ [])
+  semicolon : IsEnd (mark marks.Semicolon ∷ [])
 
 -- query = SELECT item {"," item} FROM name {"," name} [WHERE cond] [GROUP BY column {"," column}] [ORDER BY key {"," key}] [";"]
 pub data Parses : List Token → Select → Type 0 where
   query : {a b c d e f : List Token} {items : List Item} {from : List (List ℕ)} {condition : Option Condition} {groups : List ColumnName} {orders : List Order}
-      → IsList IsItem a (Fixed s.From ∷ b) items → IsList IsNamed b c from → IsWhere c d condition → IsGroups d e groups → IsOrders e f orders → IsEnd f
-      → Parses (Fixed s.Select ∷ a) (record { items = items; from = from; condition = condition; groups = groups; orders = orders })
+      → IsList IsItem a (word words.From ∷ b) items → IsList IsNamed b c from → IsWhere c d condition → IsGroups d e groups → IsOrders e f orders → IsEnd f
+      → Parses (word words.Select ∷ a) (record { items = items; from = from; condition = condition; groups = groups; orders = orders })

@@ -4,6 +4,8 @@ use Rattle.std.specs.Prelude.{ℕ, zero, suc, Bool, true, false, List, Option, S
 use Rattle.ssb_cells.specs.declared.value.Op.{Op}
 use Rattle.ssb_cells.specs.declared.value.Op.TheVariants as op
 use Rattle.ssb_sql.specs.declared.token.Token.{Token}
+use Rattle.ssb_cells.specs.declared.keyword.Keyword.TheVariants as words
+use Rattle.ssb_sql.specs.declared.token.Mark.TheVariants as marks
 use Rattle.ssb_sql.specs.declared.token.Sign.TheVariants as s
 use Rattle.ssb_sql.specs.declared.condition.Literal.{Literal}
 use Rattle.ssb_sql.specs.declared.condition.Operand.{Operand}
@@ -18,16 +20,16 @@ use Rattle.ssb_sql.specs.Conditions.{or_chain, and_chain}
 -- an operator, and what follows
 unfoldable pub op_at : List Token → Option (Op × List Token)
 op_at ts =
-    choose (after s.Equal ts) (λ rest. Some (op.Eq, rest))
-    (choose (after s.NotEqual ts) (λ rest. Some (op.Ne, rest))
-    (choose (after s.Less ts) (λ rest. Some (op.Lt, rest))
-    (choose (after s.LessEqual ts) (λ rest. Some (op.Le, rest))
-    (choose (after s.Greater ts) (λ rest. Some (op.Gt, rest))
-    (choose (after s.GreaterEqual ts) (λ rest. Some (op.Ge, rest)) None)))))
+    choose (after (s.Mark marks.Equal) ts) (λ rest. Some (op.Eq, rest))
+    (choose (after (s.Mark marks.NotEqual) ts) (λ rest. Some (op.Ne, rest))
+    (choose (after (s.Mark marks.Less) ts) (λ rest. Some (op.Lt, rest))
+    (choose (after (s.Mark marks.LessEqual) ts) (λ rest. Some (op.Le, rest))
+    (choose (after (s.Mark marks.Greater) ts) (λ rest. Some (op.Gt, rest))
+    (choose (after (s.Mark marks.GreaterEqual) ts) (λ rest. Some (op.Ge, rest)) None)))))
 
 -- operand AND operand
 unfoldable pub limits_at : Parser (Operand × Operand)
-limits_at ts = operand_at ts >>= λ x. after s.And x.1 >>= λ rest. operand_at rest >>= λ y. Some ((x.0, y.0), y.1)
+limits_at ts = operand_at ts >>= λ x. after (s.Word words.And) x.1 >>= λ rest. operand_at rest >>= λ y. Some ((x.0, y.0), y.1)
 
 -- "(" literal {"," literal} ")"
 abbrev pub members_at : Parser (List Literal)
@@ -44,15 +46,15 @@ in_of false x ys = c.In x ys
 -- BETWEEN or IN, after the operand and a NOT if there is one
 unfoldable pub range_at : Bool → Operand → Parser Condition
 range_at negated x ts =
-    choose (after s.Between ts) (λ rest. limits_at rest >>= λ l. Some (between_of negated x l.0, l.1))
-    (after s.In ts >>= λ rest. members_at rest >>= λ ys. Some (in_of negated x ys.0, ys.1))
+    choose (after (s.Word words.Between) ts) (λ rest. limits_at rest >>= λ l. Some (between_of negated x l.0, l.1))
+    (after (s.Word words.In) ts >>= λ rest. members_at rest >>= λ ys. Some (in_of negated x ys.0, ys.1))
 
 -- [NOT] NULL, after the operand and IS
 unfoldable pub null_at : Operand → Parser Condition
 null_at (o.Literal x) ts = None
 null_at (o.Column x) ts =
-    choose (after s.Not ts) (λ rest. after s.Null rest >>= λ to. Some (c.IsNotNull x, to))
-    (after s.Null ts >>= λ to. Some (c.IsNull x, to))
+    choose (after (s.Word words.Not) ts) (λ rest. after (s.Word words.Null) rest >>= λ to. Some (c.IsNotNull x, to))
+    (after (s.Word words.Null) ts >>= λ to. Some (c.IsNull x, to))
 
 -- an operator and an operand, or BETWEEN or IN
 unfoldable pub compared_at : Operand → Parser Condition
@@ -63,24 +65,24 @@ compared_at x ts =
 -- what follows an operand
 unfoldable pub tail_at : Operand → Parser Condition
 tail_at x ts =
-    choose (after s.Not ts) (range_at true x)
-    (choose (after s.Is ts) (null_at x)
+    choose (after (s.Word words.Not) ts) (range_at true x)
+    (choose (after (s.Word words.Is) ts) (null_at x)
     (compared_at x ts))
 
 unfoldable pub bare_at : Parser Condition
 bare_at ts = operand_at ts >>= λ x. tail_at x.0 x.1
 
 unfoldable pub test_at : Parser Condition → Parser Condition
-test_at inner ts = choose (after s.Open ts) (closed_at inner) (bare_at ts)
+test_at inner ts = choose (after (s.Mark marks.Open) ts) (closed_at inner) (bare_at ts)
 
 unfoldable pub neg_at : Parser Condition → Parser Condition
-neg_at inner ts = choose (after s.Not ts) (λ rest. test_at inner rest >>= λ x. Some (c.Not x.0, x.1)) (test_at inner ts)
+neg_at inner ts = choose (after (s.Word words.Not) ts) (λ rest. test_at inner rest >>= λ x. Some (c.Not x.0, x.1)) (test_at inner ts)
 
 unfoldable pub conj_at : Parser Condition → Parser Condition
-conj_at inner ts = chained_at s.And (neg_at inner) ts >>= λ xs. Some (and_chain xs.0, xs.1)
+conj_at inner ts = chained_at (s.Word words.And) (neg_at inner) ts >>= λ xs. Some (and_chain xs.0, xs.1)
 
 abbrev pub disj_at : Parser Condition → Parser Condition
-disj_at inner ts = chained_at s.Or (conj_at inner) ts >>= λ xs. Some (or_chain xs.0, xs.1)
+disj_at inner ts = chained_at (s.Word words.Or) (conj_at inner) ts >>= λ xs. Some (or_chain xs.0, xs.1)
 
 -- a condition with fewer than this many open parentheses
 unfoldable pub cond_at : ℕ → Parser Condition

@@ -2,6 +2,7 @@
 -- For the contracts inside this crate.
 use Rattle.std.specs.Prelude.{ℕ, zero, suc, if◌then◌else◌, List, [], Option, Some, None}
 use Rattle.ssb_sql.specs.declared.token.Token.{Token}
+use Rattle.ssb_sql.specs.declared.token.Mark.TheVariants as marks
 use Rattle.ssb_sql.specs.declared.token.Sign.TheVariants as s
 use Rattle.ssb_sql.specs.declared.expr.Adding.{Adding}
 use Rattle.ssb_sql.specs.declared.expr.Adding.TheVariants as a
@@ -19,20 +20,20 @@ bare_primary_at ts =
     else (number_at ts >>= λ x. Some (e.Number x.0, x.1))
 
 unfoldable pub primary_at : Parser Expr → Parser Expr
-primary_at inner ts = choose (after s.Open ts) (closed_at inner) (bare_primary_at ts)
+primary_at inner ts = choose (after (s.Mark marks.Open) ts) (closed_at inner) (bare_primary_at ts)
 
 unfoldable pub factor_at : Parser Expr → Parser Expr
 factor_at inner ts =
-    choose (after s.Plus ts) (λ rest. primary_at inner rest >>= λ x. Some (e.Positive x.0, x.1))
-    (choose (after s.Minus ts) (λ rest. primary_at inner rest >>= λ x. Some (e.Negative x.0, x.1))
+    choose (after (s.Mark marks.Plus) ts) (λ rest. primary_at inner rest >>= λ x. Some (e.Positive x.0, x.1))
+    (choose (after (s.Mark marks.Minus) ts) (λ rest. primary_at inner rest >>= λ x. Some (e.Negative x.0, x.1))
     (primary_at inner ts))
 
 unfoldable pub term_at : Parser Expr → Parser Expr
-term_at inner ts = chained_at s.Times (factor_at inner) ts >>= λ xs. Some (times_of xs.0, xs.1)
+term_at inner ts = chained_at (s.Mark marks.Times) (factor_at inner) ts >>= λ xs. Some (times_of xs.0, xs.1)
 
 -- `+` or `-`, and what follows
 unfoldable pub adding_at : List Token → Option (Adding × List Token)
-adding_at ts = choose (after s.Plus ts) (λ rest. Some (a.Plus, rest)) (choose (after s.Minus ts) (λ rest. Some (a.Minus, rest)) None)
+adding_at ts = choose (after (s.Mark marks.Plus) ts) (λ rest. Some (a.Plus, rest)) (choose (after (s.Mark marks.Minus) ts) (λ rest. Some (a.Minus, rest)) None)
 
 -- a term behind its sign
 unfoldable pub step_at : Parser Expr → Adding × List Token → Option (Step × List Token)

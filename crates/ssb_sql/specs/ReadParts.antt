@@ -1,6 +1,7 @@
 -- Reading columns, literals and operands.
 -- For the contracts inside this crate.
 use Rattle.std.specs.Prelude.{ℕ, nat_le, if◌then◌else◌, List, Option, Some, None, ℤ, pos, neg_ℤ}
+use Rattle.ssb_sql.specs.declared.token.Mark.TheVariants as marks
 use Rattle.ssb_sql.specs.declared.token.Sign.TheVariants as s
 use Rattle.ssb_sql.specs.declared.expr.ColumnName.{ColumnName}
 use Rattle.ssb_sql.specs.declared.condition.Literal.{Literal}
@@ -14,7 +15,7 @@ abbrev pub column_of : Option (List ℕ) → List ℕ → ColumnName
 column_of t n = record { table = t; column = n }
 
 unfoldable pub column_at : Parser ColumnName
-column_at ts = name_at ts >>= λ x. choose (after s.Dot x.1) (λ rest. name_at rest >>= λ y. Some (column_of (Some x.0) y.0, y.1)) (Some (column_of None x.0, x.1))
+column_at ts = name_at ts >>= λ x. choose (after (s.Mark marks.Dot) x.1) (λ rest. name_at rest >>= λ y. Some (column_of (Some x.0) y.0, y.1)) (Some (column_of None x.0, x.1))
 
 -- a number that fits in 64 bits with a sign; and one that stands behind a `-`, with that sign
 unfoldable pub small_at : Parser ℤ
@@ -30,8 +31,8 @@ plain_literal_at ts =
 
 unfoldable pub literal_at : Parser Literal
 literal_at ts =
-    choose (after s.Plus ts) (λ rest. small_at rest >>= λ x. Some (l.Number x.0, x.1))
-    (choose (after s.Minus ts) (λ rest. below_at rest >>= λ x. Some (l.Number x.0, x.1))
+    choose (after (s.Mark marks.Plus) ts) (λ rest. small_at rest >>= λ x. Some (l.Number x.0, x.1))
+    (choose (after (s.Mark marks.Minus) ts) (λ rest. below_at rest >>= λ x. Some (l.Number x.0, x.1))
     (plain_literal_at ts))
 
 unfoldable pub operand_at : Parser Operand

@@ -2,6 +2,8 @@
 -- For the contracts inside this crate.
 use Rattle.std.specs.Prelude.{ℕ, suc, Bool, true, false, if◌then◌else◌, List, [], ◌∷◌, Option, Some, None}
 use Rattle.ssb_sql.specs.declared.token.Token.{Token}
+use Rattle.ssb_cells.specs.declared.keyword.Keyword.TheVariants as words
+use Rattle.ssb_sql.specs.declared.token.Mark.TheVariants as marks
 use Rattle.ssb_sql.specs.declared.token.Sign.TheVariants as s
 use Rattle.ssb_sql.specs.declared.expr.ColumnName.{ColumnName}
 use Rattle.ssb_sql.specs.declared.condition.Condition.{Condition}
@@ -21,13 +23,13 @@ use Rattle.ssb_sql.specs.ReadConditions.{cond_at}
 -- what follows COUNT and its `(`
 unfoldable pub count_at : ℕ → Parser Output
 count_at d ts =
-    choose (after s.Times ts) (λ rest. after s.Close rest >>= λ to. Some (u.CountRows, to))
+    choose (after (s.Mark marks.Times) ts) (λ rest. after (s.Mark marks.Close) rest >>= λ to. Some (u.CountRows, to))
     (closed_at (expr_at d) ts >>= λ x. Some (u.Count x.0, x.1))
 
 unfoldable pub output_at : ℕ → Parser Output
 output_at d ts =
-    choose (after s.Sum ts) (λ rest. parens_at (expr_at d) rest >>= λ x. Some (u.Sum x.0, x.1))
-    (choose (after s.Count ts) (λ rest. after s.Open rest >>= λ inside. count_at d inside)
+    choose (after (s.Word words.Sum) ts) (λ rest. parens_at (expr_at d) rest >>= λ x. Some (u.Sum x.0, x.1))
+    (choose (after (s.Word words.Count) ts) (λ rest. after (s.Mark marks.Open) rest >>= λ inside. count_at d inside)
     (column_at ts >>= λ x. Some (u.Column x.0, x.1)))
 
 abbrev pub item_of : Output → Option (List ℕ) → Item
@@ -35,13 +37,13 @@ item_of x n = record { output = x; alias = n }
 
 unfoldable pub item_at : ℕ → Parser Item
 item_at d ts =
-    output_at d ts >>= λ x. choose (after s.As x.1) (λ rest. name_at rest >>= λ n. Some (item_of x.0 (Some n.0), n.1)) (Some (item_of x.0 None, x.1))
+    output_at d ts >>= λ x. choose (after (s.Word words.As) x.1) (λ rest. name_at rest >>= λ n. Some (item_of x.0 (Some n.0), n.1)) (Some (item_of x.0 None, x.1))
 
 unfoldable pub where_at : ℕ → Parser (Option Condition)
-where_at d ts = choose (after s.Where ts) (λ rest. cond_at d rest >>= λ x. Some (Some x.0, x.1)) (Some (None, ts))
+where_at d ts = choose (after (s.Word words.Where) ts) (λ rest. cond_at d rest >>= λ x. Some (Some x.0, x.1)) (Some (None, ts))
 
 unfoldable pub groups_at : Parser (List ColumnName)
-groups_at ts = choose (after s.Group ts) (λ rest. after s.By rest >>= λ start. list_at column_at start) (Some ([], ts))
+groups_at ts = choose (after (s.Word words.Group) ts) (λ rest. after (s.Word words.By) rest >>= λ start. list_at column_at start) (Some ([], ts))
 
 unfoldable pub key_at : Parser Key
 key_at ts =
@@ -53,11 +55,11 @@ order_of x descending = record { key = x; descending = descending }
 
 unfoldable pub order_at : Parser Order
 order_at ts =
-    key_at ts >>= λ x. choose (after s.Asc x.1) (λ rest. Some (order_of x.0 false, rest))
-    (choose (after s.Desc x.1) (λ rest. Some (order_of x.0 true, rest)) (Some (order_of x.0 false, x.1)))
+    key_at ts >>= λ x. choose (after (s.Word words.Asc) x.1) (λ rest. Some (order_of x.0 false, rest))
+    (choose (after (s.Word words.Desc) x.1) (λ rest. Some (order_of x.0 true, rest)) (Some (order_of x.0 false, x.1)))
 
 unfoldable pub orders_at : Parser (List Order)
-orders_at ts = choose (after s.Order ts) (λ rest. after s.By rest >>= λ start. list_at order_at start) (Some ([], ts))
+orders_at ts = choose (after (s.Word words.Order) ts) (λ rest. after (s.Word words.By) rest >>= λ start. list_at order_at start) (Some ([], ts))
 
 abbrev pub is_nil : List Token → Bool
 is_nil [] = true
@@ -65,7 +67,7 @@ is_nil (t ∷ ts) = false
 
 -- the end, or a `;` and the end
 unfoldable pub ends : List Token → Bool
-ends ts = choose (after s.Semicolon ts) is_nil (is_nil ts)
+ends ts = choose (after (s.Mark marks.Semicolon) ts) is_nil (is_nil ts)
 
 abbrev pub select_of : List Item → List (List ℕ) → Option Condition → List ColumnName → List Order → Select
 select_of items from condition groups orders = record { items = items; from = from; condition = condition; groups = groups; orders = orders }
@@ -78,4 +80,4 @@ rest_at d items from ts =
 -- a query with no `;`, with at most this many open parentheses
 unfoldable pub query_at : ℕ → Parser Select
 query_at d ts =
-    after s.Select ts >>= λ start. list_at (item_at d) start >>= λ items. after s.From items.1 >>= λ tables. list_at name_at tables >>= λ from. rest_at d items.0 from.0 from.1
+    after (s.Word words.Select) ts >>= λ start. list_at (item_at d) start >>= λ items. after (s.Word words.From) items.1 >>= λ tables. list_at name_at tables >>= λ from. rest_at d items.0 from.0 from.1

@@ -3,18 +3,21 @@
 use Rattle.std.specs.Prelude.{◌≡◌, ℕ, zero, suc, Bool, true, false, ◌&&◌, ◌==◌, if◌then◌else◌, nat_le, List, [], ◌∷◌, ◌++◌, Option, Some, None, Result, Ok, Err}
 use Rattle.std.specs.Char.{is_ascii_digit}
 use Rattle.std.specs.Str.{IsUtf8, str_to_ascii_lowercase}
+use Rattle.ssb_cells.specs.Keywords.{keyword_of}
 use Rattle.ssb_cells.specs.Names.{is_word_byte}
 use Rattle.ssb_sql.specs.Reading.{◌>>=◌}
 use Rattle.ssb_sql.specs.declared.class.Class.{Class}
 use Rattle.ssb_sql.specs.declared.class.Class.TheVariants as k
 use Rattle.ssb_sql.specs.declared.fault.SqlFault.{SqlFault}
 use Rattle.ssb_sql.specs.declared.fault.SqlFault.TheVariants as fault
-use Rattle.ssb_sql.specs.declared.token.Sign.{Sign}
+use Rattle.ssb_cells.specs.declared.keyword.Keyword.{Keyword}
+use Rattle.ssb_sql.specs.declared.token.Mark.{Mark}
+use Rattle.ssb_sql.specs.declared.token.Mark.TheVariants as marks
 use Rattle.ssb_sql.specs.declared.token.Sign.TheVariants as s
 use Rattle.ssb_sql.specs.declared.token.Token.{Token}
 use Rattle.ssb_sql.specs.declared.token.Token.TheVariants.{Fixed, Name, Number, Text}
 use Rattle.ssb_sql.specs.Class.{class_of}
-use Rattle.ssb_sql.specs.Tokens.{begins, goes_on, is_blank, is_dash, is_quote, sign_of, value_of}
+use Rattle.ssb_sql.specs.Tokens.{begins, goes_on, is_blank, is_dash, is_quote, value_of}
 
 -- the bytes in front that pass a test, and what follows them
 unfoldable pub run : (ℕ → Bool) → List ℕ → List ℕ
@@ -58,13 +61,13 @@ piece_at (b ∷ bs) = if is_quote b then closing_at bs else Some (Some b, bs)
 
 -- ---- tokens
 
-abbrev pub token_by_sign : Option Sign → List ℕ → Token
-token_by_sign None word = Name (str_to_ascii_lowercase word)
-token_by_sign (Some x) word = Fixed x
+abbrev pub token_by_keyword : Option Keyword → List ℕ → Token
+token_by_keyword None word = Name (str_to_ascii_lowercase word)
+token_by_keyword (Some x) word = Fixed (s.Word x)
 
 -- a reserved word or a name
 abbrev pub token_of : List ℕ → Token
-token_of word = token_by_sign (sign_of word) word
+token_of word = token_by_keyword (keyword_of word) word
 
 unfoldable pub word_at : List ℕ → Option (Token × List ℕ)
 word_at bs = Some (token_of (run is_word_byte bs), past is_word_byte bs)
@@ -83,19 +86,19 @@ text_token_at bs = text_of (text_at false bs)
 
 -- the mark that begins with `<`, by what stands behind that
 unfoldable pub less_at : List ℕ → Token × List ℕ
-less_at [] = (Fixed s.Less, [])
-less_at (b ∷ bs) = if b == 61 then (Fixed s.LessEqual, bs) else (if b == 62 then (Fixed s.NotEqual, bs) else (Fixed s.Less, b ∷ bs))
+less_at [] = (Fixed (s.Mark marks.Less), [])
+less_at (b ∷ bs) = if b == 61 then (Fixed (s.Mark marks.LessEqual), bs) else (if b == 62 then (Fixed (s.Mark marks.NotEqual), bs) else (Fixed (s.Mark marks.Less), b ∷ bs))
 
 -- the mark that begins with `>`, by what stands behind that
 unfoldable pub greater_at : List ℕ → Token × List ℕ
-greater_at [] = (Fixed s.Greater, [])
-greater_at (b ∷ bs) = if b == 61 then (Fixed s.GreaterEqual, bs) else (Fixed s.Greater, b ∷ bs)
+greater_at [] = (Fixed (s.Mark marks.Greater), [])
+greater_at (b ∷ bs) = if b == 61 then (Fixed (s.Mark marks.GreaterEqual), bs) else (Fixed (s.Mark marks.Greater), b ∷ bs)
 
 -- the mark whose first byte alone is the mark x, behind that byte
-abbrev pub mark_at : Sign → List ℕ → Token × List ℕ
-mark_at s.Less bs = less_at bs
-mark_at s.Greater bs = greater_at bs
-mark_at x bs = (Fixed x, bs)
+abbrev pub mark_at : Mark → List ℕ → Token × List ℕ
+mark_at marks.Less bs = less_at bs
+mark_at marks.Greater bs = greater_at bs
+mark_at x bs = (Fixed (s.Mark x), bs)
 
 abbrev pub token_by : Class → List ℕ → List ℕ → Option (Token × List ℕ)
 token_by k.Letter bytes rest = word_at bytes

@@ -5,7 +5,11 @@ use Rattle.std.specs.Borrow.{Bor}
 use Rattle.ssb_sql.specs.Reading.{◌>>=◌, seen}
 use Rattle.ssb_sql.specs.declared.token.Token.{Token}
 use Rattle.ssb_sql.specs.declared.token.Token.TheVariants.{Fixed, Name, Number, Text}
+use Rattle.ssb_cells.specs.declared.keyword.Keyword.{Keyword}
+use Rattle.ssb_sql.specs.declared.token.Mark.{Mark}
 use Rattle.ssb_sql.specs.declared.token.Sign.{Sign}
+use Rattle.ssb_cells.specs.declared.keyword.Keyword.TheVariants as words
+use Rattle.ssb_sql.specs.declared.token.Mark.TheVariants as marks
 use Rattle.ssb_sql.specs.declared.token.Sign.TheVariants as s
 use Rattle.ssb_sql.specs.declared.steps.Stop.{Stop}
 use Rattle.ssb_sql.specs.declared.steps.Stop.TheVariants as stop
@@ -28,45 +32,53 @@ abbrev pub Gives : {X Y : Type 0} → (X → Y) → Result X Stop → Option Y �
 Gives view (Ok x) read = read ≡ Some (view x)
 Gives view (Err e) read = Fails e read
 
-abbrev pub code : Sign → ℕ
-code s.Select = 0
-code s.From = 1
-code s.Where = 2
-code s.Group = 3
-code s.By = 4
-code s.Order = 5
-code s.And = 6
-code s.Or = 7
-code s.Not = 8
-code s.Between = 9
-code s.In = 10
-code s.Is = 11
-code s.Null = 12
-code s.As = 13
-code s.Asc = 14
-code s.Desc = 15
-code s.Sum = 16
-code s.Count = 17
-code s.Min = 18
-code s.Max = 19
-code s.Having = 20
-code s.Open = 21
-code s.Close = 22
-code s.Comma = 23
-code s.Dot = 24
-code s.Semicolon = 25
-code s.Plus = 26
-code s.Minus = 27
-code s.Times = 28
-code s.Equal = 29
-code s.NotEqual = 30
-code s.Less = 31
-code s.LessEqual = 32
-code s.Greater = 33
-code s.GreaterEqual = 34
+abbrev pub word_code : Keyword → ℕ
+word_code words.Select = 0
+word_code words.From = 1
+word_code words.Where = 2
+word_code words.Group = 3
+word_code words.By = 4
+word_code words.Order = 5
+word_code words.And = 6
+word_code words.Or = 7
+word_code words.Not = 8
+word_code words.Between = 9
+word_code words.In = 10
+word_code words.Is = 11
+word_code words.Null = 12
+word_code words.As = 13
+word_code words.Asc = 14
+word_code words.Desc = 15
+word_code words.Sum = 16
+word_code words.Count = 17
+word_code words.Min = 18
+word_code words.Max = 19
+word_code words.Having = 20
+
+abbrev pub mark_code : Mark → ℕ
+mark_code marks.Open = 0
+mark_code marks.Close = 1
+mark_code marks.Comma = 2
+mark_code marks.Dot = 3
+mark_code marks.Semicolon = 4
+mark_code marks.Plus = 5
+mark_code marks.Minus = 6
+mark_code marks.Times = 7
+mark_code marks.Equal = 8
+mark_code marks.NotEqual = 9
+mark_code marks.Less = 10
+mark_code marks.LessEqual = 11
+mark_code marks.Greater = 12
+mark_code marks.GreaterEqual = 13
+
+abbrev pub is_same : Sign → Sign → Bool
+is_same (s.Word a) (s.Word b) = word_code a == word_code b
+is_same (s.Mark a) (s.Mark b) = mark_code a == mark_code b
+is_same (s.Word a) (s.Mark b) = false
+is_same (s.Mark a) (s.Word b) = false
 
 unfoldable pub is_sign : Sign → Sign → Bool
-is_sign a b = code a == code b
+is_sign a b = is_same a b
 
 unfoldable pub is_fixed : Sign → Token → Bool
 is_fixed sign (Fixed found) = is_sign found sign
@@ -124,7 +136,7 @@ chained_at sign p ts = p ts >>= λ x. more_at (after sign) p (x.0 ∷ []) x.1
 
 -- p {"," p}
 abbrev pub list_at : {A : Type 0} → Parser A → Parser (List A)
-list_at p = chained_at s.Comma p
+list_at p = chained_at (s.Mark marks.Comma) p
 
 -- what a piece reads is shorter, and no piece begins at the end
 pub record Shrinks {A L : Type 0} (link : List Token → Option L) (piece : L → Option (A × List Token)) : Type 0 where
@@ -137,8 +149,8 @@ Reads returns p = (ts : Bor (List Token)) (r : Result _ Stop) → returns ts r �
 
 -- p ")"
 unfoldable pub closed_at : {A : Type 0} → Parser A → Parser A
-closed_at p ts = p ts >>= λ x. after s.Close x.1 >>= λ to. Some (x.0, to)
+closed_at p ts = p ts >>= λ x. after (s.Mark marks.Close) x.1 >>= λ to. Some (x.0, to)
 
 -- "(" p ")"
 unfoldable pub parens_at : {A : Type 0} → Parser A → Parser A
-parens_at p ts = after s.Open ts >>= λ inside. closed_at p inside
+parens_at p ts = after (s.Mark marks.Open) ts >>= λ inside. closed_at p inside

@@ -1,11 +1,14 @@
 -- Which bytes spell which tokens.
--- Source: SQL-92, 5.2 <token> and <separator>, cut down: words of ASCII, whole numbers, texts of one piece, fifteen marks, and comments from `--`.
-use Rattle.std.specs.Prelude.{◌≡◌, ℕ, ◌+◌, ◌*◌, ◌-◌, ◌≤◌, Bool, true, false, not, ◌&&◌, ◌||◌, ◌==◌, if◌then◌else◌, List, [], ◌∷◌, ◌++◌, Option, Some, codes}
+-- Source: SQL-92, 5.2 <token> and <separator>, cut down: words of ASCII, whole numbers, texts of one piece, fourteen marks, and comments from `--`.
+use Rattle.std.specs.Prelude.{◌≡◌, ℕ, ◌+◌, ◌*◌, ◌-◌, ◌≤◌, Bool, true, false, not, ◌&&◌, ◌||◌, ◌==◌, if◌then◌else◌, List, [], ◌∷◌, ◌++◌, Some, codes}
 use Rattle.std.specs.Char.{is_ascii_digit}
-use Rattle.std.specs.List.{find, list_all}
-use Rattle.std.specs.Str.{str_eq_ignore_ascii_case, str_to_ascii_lowercase}
+use Rattle.std.specs.List.{list_all}
+use Rattle.std.specs.Str.{str_to_ascii_lowercase}
+use Rattle.ssb_cells.specs.Keywords.{keyword_of}
 use Rattle.ssb_cells.specs.Names.{is_name, is_word, is_word_byte}
-use Rattle.ssb_sql.specs.declared.token.Sign.{Sign}
+use Rattle.ssb_cells.specs.declared.keyword.Keyword.{Keyword}
+use Rattle.ssb_sql.specs.declared.token.Mark.{Mark}
+use Rattle.ssb_sql.specs.declared.token.Mark.TheVariants as marks
 use Rattle.ssb_sql.specs.declared.token.Sign.TheVariants as s
 use Rattle.ssb_sql.specs.declared.token.Token.{Token}
 use Rattle.ssb_sql.specs.declared.token.Token.TheVariants.{Fixed, Name, Number, Text}
@@ -48,79 +51,30 @@ begins p (b ∷ bs) = p b
 abbrev pub Stops : (ℕ → Bool) → List ℕ → Type 0
 Stops p rest = begins p rest ≡ false
 
--- ---- reserved words and marks
+-- ---- marks
 
--- how a reserved word or a mark is written: SQL-92, 5.2 <reserved word> and <delimiter token>, cut down
-abbrev pub spelling : Sign → List ℕ
-spelling s.Select = codes "select"
-spelling s.From = codes "from"
-spelling s.Where = codes "where"
-spelling s.Group = codes "group"
-spelling s.By = codes "by"
-spelling s.Order = codes "order"
-spelling s.And = codes "and"
-spelling s.Or = codes "or"
-spelling s.Not = codes "not"
-spelling s.Between = codes "between"
-spelling s.In = codes "in"
-spelling s.Is = codes "is"
-spelling s.Null = codes "null"
-spelling s.As = codes "as"
-spelling s.Asc = codes "asc"
-spelling s.Desc = codes "desc"
-spelling s.Sum = codes "sum"
-spelling s.Count = codes "count"
-spelling s.Min = codes "min"
-spelling s.Max = codes "max"
-spelling s.Having = codes "having"
-spelling s.Open = codes "("
-spelling s.Close = codes ")"
-spelling s.Comma = codes ","
-spelling s.Dot = codes "."
-spelling s.Semicolon = codes ";"
-spelling s.Plus = codes "+"
-spelling s.Minus = codes "-"
-spelling s.Times = codes "*"
-spelling s.Equal = codes "="
-spelling s.NotEqual = codes "<>"
-spelling s.Less = codes "<"
-spelling s.LessEqual = codes "<="
-spelling s.Greater = codes ">"
-spelling s.GreaterEqual = codes ">="
-
--- the signs that are words
-abbrev pub reserved_signs : List Sign
-reserved_signs =
-    s.Select ∷ s.From ∷ s.Where ∷ s.Group ∷ s.By ∷ s.Order ∷ s.And ∷ s.Or ∷ s.Not ∷ s.Between ∷ s.In ∷ s.Is ∷ s.Null ∷ s.As ∷ s.Asc
-    ∷ s.Desc ∷ s.Sum ∷ s.Count ∷ s.Min ∷ s.Max ∷ s.Having ∷ []
-
--- the reserved word that these letters are, whatever their case
-unfoldable pub sign_of : List ℕ → Option Sign
-sign_of word = find (λ x. str_eq_ignore_ascii_case word (spelling x)) reserved_signs
-
--- the signs that are marks
-abbrev pub is_mark : Sign → Bool
-is_mark s.Open = true
-is_mark s.Close = true
-is_mark s.Comma = true
-is_mark s.Dot = true
-is_mark s.Semicolon = true
-is_mark s.Plus = true
-is_mark s.Minus = true
-is_mark s.Times = true
-is_mark s.Equal = true
-is_mark s.NotEqual = true
-is_mark s.Less = true
-is_mark s.LessEqual = true
-is_mark s.Greater = true
-is_mark s.GreaterEqual = true
-is_mark _ = false
+-- how a mark is written: SQL-92, 5.2 <delimiter token>, cut down
+abbrev pub mark_text : Mark → List ℕ
+mark_text marks.Open = codes "("
+mark_text marks.Close = codes ")"
+mark_text marks.Comma = codes ","
+mark_text marks.Dot = codes "."
+mark_text marks.Semicolon = codes ";"
+mark_text marks.Plus = codes "+"
+mark_text marks.Minus = codes "-"
+mark_text marks.Times = codes "*"
+mark_text marks.Equal = codes "="
+mark_text marks.NotEqual = codes "<>"
+mark_text marks.Less = codes "<"
+mark_text marks.LessEqual = codes "<="
+mark_text marks.Greater = codes ">"
+mark_text marks.GreaterEqual = codes ">="
 
 -- no longer mark and no comment begins so
-abbrev pub IsLongest : Sign → List ℕ → Type 0
-IsLongest s.Minus rest = Stops is_dash rest
-IsLongest s.Less rest = Stops follows_less rest
-IsLongest s.Greater rest = Stops is_equal rest
+abbrev pub IsLongest : Mark → List ℕ → Type 0
+IsLongest marks.Minus rest = Stops is_dash rest
+IsLongest marks.Less rest = Stops follows_less rest
+IsLongest marks.Greater rest = Stops is_equal rest
 IsLongest _ rest = Unit {0}
 
 -- ---- numbers and texts
@@ -154,8 +108,8 @@ pub data IsTokens : List ℕ → List Token → Type 0 where
   -- `--`, and all that follows up to LF or the end of the text
   comment : (note rest : List ℕ) {ts : List Token} → Each goes_on note → Stops goes_on rest → IsTokens rest ts → IsTokens (45 ∷ 45 ∷ (note ++ rest)) ts
   -- a word, as long as it can be, that is reserved
-  reserved : (word rest : List ℕ) (x : Sign) {ts : List Token} → is_word word ≡ true → sign_of word ≡ Some x → Stops is_word_byte rest → IsTokens rest ts
-      → IsTokens (word ++ rest) (Fixed x ∷ ts)
+  reserved : (word rest : List ℕ) (x : Keyword) {ts : List Token} → is_word word ≡ true → keyword_of word ≡ Some x → Stops is_word_byte rest → IsTokens rest ts
+      → IsTokens (word ++ rest) (Fixed (s.Word x) ∷ ts)
   -- a word, as long as it can be, that is not reserved: its letters are the same in either case
   name : (word rest : List ℕ) {ts : List Token} → is_name word ≡ true → Stops is_word_byte rest → IsTokens rest ts
       → IsTokens (word ++ rest) (Name (str_to_ascii_lowercase word) ∷ ts)
@@ -165,4 +119,4 @@ pub data IsTokens : List ℕ → List Token → Type 0 where
   -- a quote, the text with each quote doubled, and a quote with none behind it
   text : (t rest : List ℕ) {ts : List Token} → Stops is_quote rest → IsTokens rest ts → IsTokens (39 ∷ (doubled t ++ 39 ∷ rest)) (Text t ∷ ts)
   -- a mark, the longest that fits
-  mark : (x : Sign) (rest : List ℕ) {ts : List Token} → is_mark x ≡ true → IsLongest x rest → IsTokens rest ts → IsTokens (spelling x ++ rest) (Fixed x ∷ ts)
+  mark : (x : Mark) (rest : List ℕ) {ts : List Token} → IsLongest x rest → IsTokens rest ts → IsTokens (mark_text x ++ rest) (Fixed (s.Mark x) ∷ ts)

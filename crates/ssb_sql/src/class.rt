@@ -3,7 +3,7 @@
 ghost use Rattle.std.specs.Prelude.{◌≡◌};
 ghost use Rattle.ssb_sql.specs.Class.{class_of};
 
-use crate::token::Sign;
+use crate::token::Mark;
 
 /// What token may begin with a byte.
 #[derive(Clone, Copy, PartialEq, Eq, Debug)]
@@ -15,7 +15,7 @@ pub(crate) enum Class {
     /// A text.
     Quote,
     /// The mark of this byte alone, or a longer one.
-    Mark(Sign),
+    Mark(Mark),
     /// None.
     Other,
 }
@@ -31,27 +31,27 @@ pub(crate) fn class_of(byte: u8) -> Class
     } else if byte == b'\'' {
         Class::Quote
     } else if byte == b'(' {
-        Class::Mark(Sign::Open)
+        Class::Mark(Mark::Open)
     } else if byte == b')' {
-        Class::Mark(Sign::Close)
+        Class::Mark(Mark::Close)
     } else if byte == b',' {
-        Class::Mark(Sign::Comma)
+        Class::Mark(Mark::Comma)
     } else if byte == b'.' {
-        Class::Mark(Sign::Dot)
+        Class::Mark(Mark::Dot)
     } else if byte == b';' {
-        Class::Mark(Sign::Semicolon)
+        Class::Mark(Mark::Semicolon)
     } else if byte == b'+' {
-        Class::Mark(Sign::Plus)
+        Class::Mark(Mark::Plus)
     } else if byte == b'-' {
-        Class::Mark(Sign::Minus)
+        Class::Mark(Mark::Minus)
     } else if byte == b'*' {
-        Class::Mark(Sign::Times)
+        Class::Mark(Mark::Times)
     } else if byte == b'=' {
-        Class::Mark(Sign::Equal)
+        Class::Mark(Mark::Equal)
     } else if byte == b'<' {
-        Class::Mark(Sign::Less)
+        Class::Mark(Mark::Less)
     } else if byte == b'>' {
-        Class::Mark(Sign::Greater)
+        Class::Mark(Mark::Greater)
     } else {
         Class::Other
     }

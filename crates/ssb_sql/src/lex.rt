@@ -10,12 +10,11 @@ ghost use Rattle.ssb_sql.specs.Lexes.{Lexes, OneListOfTokens};
 
 use crate::class::{Class, class_of};
 use crate::fault::SqlFault;
-use crate::reserved::sign_of;
 use crate::scan::{TOO_LARGE, begins_with_word_byte, next, number, skip, text, word};
 use crate::text::Text;
-use crate::token::{Sign, Token};
+use crate::token::{Mark, Sign, Token};
 use sqlite_items::Items;
-use ssb_cells::Name;
+use ssb_cells::{Name, keyword_of};
 use std::alloc::Global;
 
 // The word in front: a reserved word or a name.
@@ -25,8 +24,8 @@ fn word_token(alloc: Global, bytes: &[u8]) -> Result<(Token, &[u8]), SqlFault>
     ensures { Gives seen result (word_at bytes.now) }
 {
     let (word, rest) = word(bytes);
-    if let Some(sign) = sign_of(word) {
-        return Ok((Token::Fixed(sign), rest));
+    if let Some(keyword) = keyword_of(word) {
+        return Ok((Token::Fixed(Sign::Word(keyword)), rest));
     }
     let name = Name::new(alloc, word)?;
     Ok((Token::Name(name), rest))
@@ -66,9 +65,9 @@ fn less(bytes: &[u8]) -> (Token, &[u8])
     ensures { seen result ≡ less_at bytes.now }
 {
     match next(bytes) {
-        Some((byte, rest)) if byte == b'=' => (Token::Fixed(Sign::LessEqual), rest),
-        Some((byte, rest)) if byte == b'>' => (Token::Fixed(Sign::NotEqual), rest),
-        _ => (Token::Fixed(Sign::Less), bytes),
+        Some((byte, rest)) if byte == b'=' => (Token::Fixed(Sign::Mark(Mark::LessEqual)), rest),
+        Some((byte, rest)) if byte == b'>' => (Token::Fixed(Sign::Mark(Mark::NotEqual)), rest),
+        _ => (Token::Fixed(Sign::Mark(Mark::Less)), bytes),
     }
 }
 
@@ -78,19 +77,19 @@ fn greater(bytes: &[u8]) -> (Token, &[u8])
     ensures { seen result ≡ greater_at bytes.now }
 {
     match next(bytes) {
-        Some((byte, rest)) if byte == b'=' => (Token::Fixed(Sign::GreaterEqual), rest),
-        _ => (Token::Fixed(Sign::Greater), bytes),
+        Some((byte, rest)) if byte == b'=' => (Token::Fixed(Sign::Mark(Mark::GreaterEqual)), rest),
+        _ => (Token::Fixed(Sign::Mark(Mark::Greater)), bytes),
     }
 }
 
 // The mark that begins with this one, which is one byte long, behind that byte.
-fn mark(sign: Sign, bytes: &[u8]) -> (Token, &[u8])
-    ensures { seen result ≡ mark_at sign bytes.now }
+fn mark(mark: Mark, bytes: &[u8]) -> (Token, &[u8])
+    ensures { seen result ≡ mark_at mark bytes.now }
 {
-    match sign {
-        Sign::Less => less(bytes),
-        Sign::Greater => greater(bytes),
-        _ => (Token::Fixed(sign), bytes),
+    match mark {
+        Mark::Less => less(bytes),
+        Mark::Greater => greater(bytes),
+        _ => (Token::Fixed(Sign::Mark(mark)), bytes),
     }
 }
 
@@ -106,7 +105,7 @@ fn token(alloc: Global, bytes: &[u8]) -> Result<(Token, &[u8]), SqlFault>
         Class::Letter => word_token(alloc, bytes),
         Class::Digit => number_token(bytes),
         Class::Quote => text_token(alloc, rest),
-        Class::Mark(sign) => Ok(mark(sign, rest)),
+        Class::Mark(first) => Ok(mark(first, rest)),
         Class::Other => Err(SqlFault::Syntax),
     }
 }

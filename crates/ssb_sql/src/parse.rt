@@ -11,7 +11,7 @@ use crate::fault::SqlFault;
 use crate::read_select::{ends, query};
 use crate::select::Select;
 use crate::steps::{Stop, is_fixed};
-use crate::token::{Sign, Token};
+use crate::token::{Mark, Sign, Token};
 use std::alloc::Global;
 
 // How many parentheses may be open at once.
@@ -22,9 +22,9 @@ fn room_after(room: u128, token: &Token) -> Option<u128>
     requires { room < 2 ^ 127 }
     ensures { result ≡ room_after room token.now }
 {
-    if is_fixed(token, Sign::Open) {
+    if is_fixed(token, Sign::Mark(Mark::Open)) {
         room.checked_sub(1)
-    } else if is_fixed(token, Sign::Close) {
+    } else if is_fixed(token, Sign::Mark(Mark::Close)) {
         Some(room + 1)
     } else {
         Some(room)

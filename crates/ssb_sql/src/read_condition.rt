@@ -5,14 +5,16 @@ ghost use Rattle.ssb_sql.specs.Conditions.{or_chain, and_chain};
 ghost use Rattle.ssb_sql.specs.Reading.{seen};
 ghost use Rattle.ssb_sql.specs.Steps.{Gives, after, chained_at, closed_at};
 ghost use Rattle.ssb_sql.specs.ReadConditions.{neg_at, conj_at, cond_at, test_at};
+ghost use Rattle.ssb_cells.specs.declared.keyword.Keyword.TheVariants as words;
 ghost use Rattle.ssb_sql.specs.declared.token.Sign.TheVariants as s;
 
 use crate::chain::chain;
 use crate::condition::Condition;
 use crate::read_test::bare;
 use crate::steps::{Stop, after, expect};
-use crate::token::{Sign, Token};
+use crate::token::{Mark, Sign, Token};
 use sqlite_items::{Boxed, Items};
+use ssb_cells::Keyword;
 use std::alloc::Global;
 
 #[tactic(auto, using(crate::proofs::Chains::one, crate::proofs::Chains::many))]
@@ -43,7 +45,7 @@ fn closed(alloc: Global, depth: usize, tokens: &[Token]) -> Result<(Condition, &
     ensures { Gives seen result (closed_at (cond_at depth) tokens.now) }
 {
     let (found, rest) = condition(alloc, depth, tokens)?;
-    let rest = expect(rest, Sign::Close)?;
+    let rest = expect(rest, Sign::Mark(Mark::Close))?;
     Ok((found, rest))
 }
 
@@ -52,7 +54,7 @@ fn closed(alloc: Global, depth: usize, tokens: &[Token]) -> Result<(Condition, &
 fn test(alloc: Global, depth: usize, tokens: &[Token]) -> Result<(Condition, &[Token]), Stop>
     ensures { Gives seen result (test_at (cond_at depth) tokens.now) }
 {
-    match after(tokens, Sign::Open) {
+    match after(tokens, Sign::Mark(Mark::Open)) {
         Some(inside) => closed(alloc, depth, inside),
         None => bare(alloc, tokens),
     }
@@ -63,7 +65,7 @@ fn test(alloc: Global, depth: usize, tokens: &[Token]) -> Result<(Condition, &[T
 fn negation(alloc: Global, depth: usize, tokens: &[Token]) -> Result<(Condition, &[Token]), Stop>
     ensures { Gives seen result (neg_at (cond_at depth) tokens.now) }
 {
-    match after(tokens, Sign::Not) {
+    match after(tokens, Sign::Word(Keyword::Not)) {
         Some(rest) => {
             let (found, rest) = test(alloc, depth, rest)?;
             Ok((Condition::Not(Boxed::new(alloc, found)?), rest))
@@ -78,11 +80,11 @@ fn negations(
     depth: usize,
     tokens: &[Token],
 ) -> Result<(Items<Condition>, &[Token]), Stop>
-    ensures { Gives seen result (chained_at s.And (neg_at (cond_at depth)) tokens.now) }
+    ensures { Gives seen result (chained_at (s.Word words.And) (neg_at (cond_at depth)) tokens.now) }
 {
     chain(
         alloc,
-        Sign::And,
+        Sign::Word(Keyword::And),
         tokens,
         |start: &[Token]|
             ensures { Gives seen result (neg_at (cond_at depth) start.now) }
@@ -105,11 +107,11 @@ fn conjunctions(
     depth: usize,
     tokens: &[Token],
 ) -> Result<(Items<Condition>, &[Token]), Stop>
-    ensures { Gives seen result (chained_at s.Or (conj_at (cond_at depth)) tokens.now) }
+    ensures { Gives seen result (chained_at (s.Word words.Or) (conj_at (cond_at depth)) tokens.now) }
 {
     chain(
         alloc,
-        Sign::Or,
+        Sign::Word(Keyword::Or),
         tokens,
         |start: &[Token]|
             ensures { Gives seen result (conj_at (cond_at depth) start.now) }

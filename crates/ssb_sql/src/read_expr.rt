@@ -5,13 +5,14 @@ ghost use Rattle.ssb_sql.specs.Expressions.{sum_of, times_of};
 ghost use Rattle.ssb_sql.specs.Reading.{seen, seen_if};
 ghost use Rattle.ssb_sql.specs.Steps.{Gives, after, chained_at, more_at, closed_at};
 ghost use Rattle.ssb_sql.specs.ReadExpressions.{bare_primary_at, primary_at, factor_at, term_at, adding_at, step_at, expr_at};
+ghost use Rattle.ssb_sql.specs.declared.token.Mark.TheVariants as marks;
 ghost use Rattle.ssb_sql.specs.declared.token.Sign.TheVariants as s;
 
 use crate::chain::chain;
 use crate::expr::{Adding, Expr, Step};
 use crate::read_parts::column;
 use crate::steps::{Stop, after, expect, is_name_next, number};
-use crate::token::{Sign, Token};
+use crate::token::{Mark, Sign, Token};
 use sqlite_items::{Boxed, Items};
 use std::alloc::{AllocError, Global};
 
@@ -55,9 +56,9 @@ fn bare_primary(alloc: Global, tokens: &[Token]) -> Result<(Expr, &[Token]), Sto
 fn adding(tokens: &[Token]) -> Option<(Adding, &[Token])>
     ensures { seen_if result ≡ adding_at tokens.now }
 {
-    match after(tokens, Sign::Plus) {
+    match after(tokens, Sign::Mark(Mark::Plus)) {
         Some(rest) => Some((Adding::Plus, rest)),
-        None => match after(tokens, Sign::Minus) {
+        None => match after(tokens, Sign::Mark(Mark::Minus)) {
             Some(rest) => Some((Adding::Minus, rest)),
             None => None,
         },
@@ -75,7 +76,7 @@ pub(crate) fn closed(
     ensures { Gives seen result (closed_at (expr_at depth) tokens.now) }
 {
     let (found, rest) = expression(alloc, depth, tokens)?;
-    let rest = expect(rest, Sign::Close)?;
+    let rest = expect(rest, Sign::Mark(Mark::Close))?;
     Ok((found, rest))
 }
 
@@ -84,7 +85,7 @@ pub(crate) fn closed(
 fn primary(alloc: Global, depth: usize, tokens: &[Token]) -> Result<(Expr, &[Token]), Stop>
     ensures { Gives seen result (primary_at (expr_at depth) tokens.now) }
 {
-    match after(tokens, Sign::Open) {
+    match after(tokens, Sign::Mark(Mark::Open)) {
         Some(inside) => closed(alloc, depth, inside),
         None => bare_primary(alloc, tokens),
     }
@@ -95,11 +96,11 @@ fn primary(alloc: Global, depth: usize, tokens: &[Token]) -> Result<(Expr, &[Tok
 fn factor(alloc: Global, depth: usize, tokens: &[Token]) -> Result<(Expr, &[Token]), Stop>
     ensures { Gives seen result (factor_at (expr_at depth) tokens.now) }
 {
-    if let Some(rest) = after(tokens, Sign::Plus) {
+    if let Some(rest) = after(tokens, Sign::Mark(Mark::Plus)) {
         let (found, rest) = primary(alloc, depth, rest)?;
         return Ok((Expr::Positive(Boxed::new(alloc, found)?), rest));
     }
-    if let Some(rest) = after(tokens, Sign::Minus) {
+    if let Some(rest) = after(tokens, Sign::Mark(Mark::Minus)) {
         let (found, rest) = primary(alloc, depth, rest)?;
         return Ok((Expr::Negative(Boxed::new(alloc, found)?), rest));
     }
@@ -108,11 +109,11 @@ fn factor(alloc: Global, depth: usize, tokens: &[Token]) -> Result<(Expr, &[Toke
 
 #[cycle(expression)]
 fn factors(alloc: Global, depth: usize, tokens: &[Token]) -> Result<(Items<Expr>, &[Token]), Stop>
-    ensures { Gives seen result (chained_at s.Times (factor_at (expr_at depth)) tokens.now) }
+    ensures { Gives seen result (chained_at (s.Mark marks.Times) (factor_at (expr_at depth)) tokens.now) }
 {
     chain(
         alloc,
-        Sign::Times,
+        Sign::Mark(Mark::Times),
         tokens,
         |start: &[Token]|
             ensures { Gives seen result (factor_at (expr_at depth) start.now) }

@@ -13,15 +13,16 @@ use crate::read_expr::closed;
 use crate::read_parts::column;
 use crate::select::{Item, Key, Order, Output};
 use crate::steps::{Stop, after, expect, is_name_next, name, number};
-use crate::token::{Sign, Token};
+use crate::token::{Mark, Sign, Token};
 use sqlite_items::Items;
+use ssb_cells::Keyword;
 use std::alloc::Global;
 
 #[tactic(auto, unfolding(crate::specs::Steps::parens_at))]
 fn in_parens(alloc: Global, depth: usize, tokens: &[Token]) -> Result<(Expr, &[Token]), Stop>
     ensures { Gives seen result (parens_at (expr_at depth) tokens.now) }
 {
-    let inside = expect(tokens, Sign::Open)?;
+    let inside = expect(tokens, Sign::Mark(Mark::Open))?;
     closed(alloc, depth, inside)
 }
 
@@ -30,9 +31,9 @@ fn in_parens(alloc: Global, depth: usize, tokens: &[Token]) -> Result<(Expr, &[T
 fn count(alloc: Global, depth: usize, tokens: &[Token]) -> Result<(Output, &[Token]), Stop>
     ensures { Gives seen result (count_at depth tokens.now) }
 {
-    match after(tokens, Sign::Times) {
+    match after(tokens, Sign::Mark(Mark::Times)) {
         Some(rest) => {
-            let rest = expect(rest, Sign::Close)?;
+            let rest = expect(rest, Sign::Mark(Mark::Close))?;
             Ok((Output::CountRows, rest))
         }
         None => {
@@ -46,12 +47,12 @@ fn count(alloc: Global, depth: usize, tokens: &[Token]) -> Result<(Output, &[Tok
 fn output(alloc: Global, depth: usize, tokens: &[Token]) -> Result<(Output, &[Token]), Stop>
     ensures { Gives seen result (output_at depth tokens.now) }
 {
-    if let Some(rest) = after(tokens, Sign::Sum) {
+    if let Some(rest) = after(tokens, Sign::Word(Keyword::Sum)) {
         let (found, rest) = in_parens(alloc, depth, rest)?;
         return Ok((Output::Sum(found), rest));
     }
-    if let Some(rest) = after(tokens, Sign::Count) {
-        let inside = expect(rest, Sign::Open)?;
+    if let Some(rest) = after(tokens, Sign::Word(Keyword::Count)) {
+        let inside = expect(rest, Sign::Mark(Mark::Open))?;
         return count(alloc, depth, inside);
     }
     let (found, rest) = column(alloc, tokens)?;
@@ -63,7 +64,7 @@ fn item(alloc: Global, depth: usize, tokens: &[Token]) -> Result<(Item, &[Token]
     ensures { Gives seen result (item_at depth tokens.now) }
 {
     let (output, rest) = output(alloc, depth, tokens)?;
-    match after(rest, Sign::As) {
+    match after(rest, Sign::Word(Keyword::As)) {
         Some(rest) => {
             let (alias, rest) = name(alloc, rest)?;
             Ok((
@@ -93,7 +94,7 @@ pub(crate) fn items(
 {
     chain(
         alloc,
-        Sign::Comma,
+        Sign::Mark(Mark::Comma),
         tokens,
         |start: &[Token]| item(alloc, depth, start),
     )
@@ -117,7 +118,7 @@ fn order(alloc: Global, tokens: &[Token]) -> Result<(Order, &[Token]), Stop>
     ensures { Gives seen result (order_at tokens.now) }
 {
     let (key, rest) = key(alloc, tokens)?;
-    if let Some(rest) = after(rest, Sign::Asc) {
+    if let Some(rest) = after(rest, Sign::Word(Keyword::Asc)) {
         return Ok((
             Order {
                 key,
@@ -126,7 +127,7 @@ fn order(alloc: Global, tokens: &[Token]) -> Result<(Order, &[Token]), Stop>
             rest,
         ));
     }
-    match after(rest, Sign::Desc) {
+    match after(rest, Sign::Word(Keyword::Desc)) {
         Some(rest) => Ok((
             Order {
                 key,
@@ -150,7 +151,7 @@ pub(crate) fn orders(alloc: Global, tokens: &[Token]) -> Result<(Items<Order>, &
 {
     chain(
         alloc,
-        Sign::Comma,
+        Sign::Mark(Mark::Comma),
         tokens,
         |start: &[Token]| order(alloc, start),
     )

@@ -10,7 +10,7 @@ use crate::chain::chain;
 use crate::condition::{Literal, Operand};
 use crate::expr::ColumnName;
 use crate::steps::{Stop, after, is_name_next, is_text_next, name, number, text};
-use crate::token::{Sign, Token};
+use crate::token::{Mark, Sign, Token};
 use sqlite_items::Items;
 use ssb_cells::Name;
 use std::alloc::Global;
@@ -20,7 +20,7 @@ pub(crate) fn column(alloc: Global, tokens: &[Token]) -> Result<(ColumnName, &[T
     ensures { Gives seen result (column_at tokens.now) }
 {
     let (found, rest) = name(alloc, tokens)?;
-    match after(rest, Sign::Dot) {
+    match after(rest, Sign::Mark(Mark::Dot)) {
         Some(rest) => {
             let (column, rest) = name(alloc, rest)?;
             Ok((
@@ -84,11 +84,11 @@ fn plain_literal(alloc: Global, tokens: &[Token]) -> Result<(Literal, &[Token]),
 pub(crate) fn literal(alloc: Global, tokens: &[Token]) -> Result<(Literal, &[Token]), Stop>
     ensures { Gives seen result (literal_at tokens.now) }
 {
-    if let Some(rest) = after(tokens, Sign::Plus) {
+    if let Some(rest) = after(tokens, Sign::Mark(Mark::Plus)) {
         let (number, rest) = small(rest)?;
         return Ok((Literal::Number(number), rest));
     }
-    if let Some(rest) = after(tokens, Sign::Minus) {
+    if let Some(rest) = after(tokens, Sign::Mark(Mark::Minus)) {
         let (number, rest) = below(rest)?;
         return Ok((Literal::Number(number), rest));
     }
@@ -114,7 +114,7 @@ pub(crate) fn names(alloc: Global, tokens: &[Token]) -> Result<(Items<Name>, &[T
 {
     chain(
         alloc,
-        Sign::Comma,
+        Sign::Mark(Mark::Comma),
         tokens,
         |start: &[Token]| name(alloc, start),
     )
@@ -129,7 +129,7 @@ pub(crate) fn columns(
 {
     chain(
         alloc,
-        Sign::Comma,
+        Sign::Mark(Mark::Comma),
         tokens,
         |start: &[Token]| column(alloc, start),
     )

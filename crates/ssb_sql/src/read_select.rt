@@ -14,9 +14,9 @@ use crate::read_item::{items, orders};
 use crate::read_parts::{columns, names};
 use crate::select::{Item, Order, Select};
 use crate::steps::{Stop, after, expect};
-use crate::token::{Sign, Token};
+use crate::token::{Mark, Sign, Token};
 use sqlite_items::Items;
-use ssb_cells::Name;
+use ssb_cells::{Keyword, Name};
 use std::alloc::Global;
 
 #[tactic(auto, unfolding(crate::specs::ReadSelects::where_at))]
@@ -27,7 +27,7 @@ fn condition_if(
 ) -> Result<(Option<Condition>, &[Token]), Stop>
     ensures { Gives seen result (where_at depth tokens.now) }
 {
-    match after(tokens, Sign::Where) {
+    match after(tokens, Sign::Word(Keyword::Where)) {
         Some(rest) => {
             let (found, rest) = condition(alloc, depth, rest)?;
             Ok((Some(found), rest))
@@ -40,9 +40,9 @@ fn condition_if(
 fn groups_if(alloc: Global, tokens: &[Token]) -> Result<(Items<ColumnName>, &[Token]), Stop>
     ensures { Gives seen result (groups_at tokens.now) }
 {
-    match after(tokens, Sign::Group) {
+    match after(tokens, Sign::Word(Keyword::Group)) {
         Some(rest) => {
-            let start = expect(rest, Sign::By)?;
+            let start = expect(rest, Sign::Word(Keyword::By))?;
             columns(alloc, start)
         }
         None => Ok((Items::new(alloc), tokens)),
@@ -53,9 +53,9 @@ fn groups_if(alloc: Global, tokens: &[Token]) -> Result<(Items<ColumnName>, &[To
 fn orders_if(alloc: Global, tokens: &[Token]) -> Result<(Items<Order>, &[Token]), Stop>
     ensures { Gives seen result (orders_at tokens.now) }
 {
-    match after(tokens, Sign::Order) {
+    match after(tokens, Sign::Word(Keyword::Order)) {
         Some(rest) => {
-            let start = expect(rest, Sign::By)?;
+            let start = expect(rest, Sign::Word(Keyword::By))?;
             orders(alloc, start)
         }
         None => Ok((Items::new(alloc), tokens)),
@@ -99,9 +99,9 @@ pub(crate) fn query(
     requires { depth < 2 ^ 32 }
     ensures { Gives seen result (query_at depth tokens.now) }
 {
-    let start = expect(tokens, Sign::Select)?;
+    let start = expect(tokens, Sign::Word(Keyword::Select))?;
     let (items, rest) = items(alloc, depth, start)?;
-    let tables = expect(rest, Sign::From)?;
+    let tables = expect(rest, Sign::Word(Keyword::From))?;
     let (from, rest) = names(alloc, tables)?;
     rest_of(alloc, depth, items, from, rest)
 }
@@ -120,7 +120,7 @@ fn is_nil(tokens: &[Token]) -> bool
 pub(crate) fn ends(tokens: &[Token]) -> bool
     ensures { result ≡ ends tokens.now }
 {
-    match after(tokens, Sign::Semicolon) {
+    match after(tokens, Sign::Mark(Mark::Semicolon)) {
         Some(rest) => is_nil(rest),
         None => is_nil(tokens),
     }

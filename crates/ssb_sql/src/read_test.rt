@@ -11,31 +11,31 @@ use crate::chain::chain;
 use crate::condition::{Condition, Literal, Operand};
 use crate::read_parts::{literal, operand};
 use crate::steps::{Stop, after, expect};
-use crate::token::{Sign, Token};
+use crate::token::{Mark, Sign, Token};
 use sqlite_items::Items;
-use ssb_cells::Op;
+use ssb_cells::{Keyword, Op};
 use std::alloc::Global;
 
 #[tactic(auto, unfolding(crate::specs::ReadConditions::op_at))]
 fn op(tokens: &[Token]) -> Option<(Op, &[Token])>
     ensures { seen_if result ≡ op_at tokens.now }
 {
-    if let Some(rest) = after(tokens, Sign::Equal) {
+    if let Some(rest) = after(tokens, Sign::Mark(Mark::Equal)) {
         return Some((Op::Eq, rest));
     }
-    if let Some(rest) = after(tokens, Sign::NotEqual) {
+    if let Some(rest) = after(tokens, Sign::Mark(Mark::NotEqual)) {
         return Some((Op::Ne, rest));
     }
-    if let Some(rest) = after(tokens, Sign::Less) {
+    if let Some(rest) = after(tokens, Sign::Mark(Mark::Less)) {
         return Some((Op::Lt, rest));
     }
-    if let Some(rest) = after(tokens, Sign::LessEqual) {
+    if let Some(rest) = after(tokens, Sign::Mark(Mark::LessEqual)) {
         return Some((Op::Le, rest));
     }
-    if let Some(rest) = after(tokens, Sign::Greater) {
+    if let Some(rest) = after(tokens, Sign::Mark(Mark::Greater)) {
         return Some((Op::Gt, rest));
     }
-    match after(tokens, Sign::GreaterEqual) {
+    match after(tokens, Sign::Mark(Mark::GreaterEqual)) {
         Some(rest) => Some((Op::Ge, rest)),
         None => None,
     }
@@ -47,7 +47,7 @@ fn limits(alloc: Global, tokens: &[Token]) -> Result<((Operand, Operand), &[Toke
     ensures { Gives seen result (limits_at tokens.now) }
 {
     let (low, rest) = operand(alloc, tokens)?;
-    let rest = expect(rest, Sign::And)?;
+    let rest = expect(rest, Sign::Word(Keyword::And))?;
     let (high, rest) = operand(alloc, rest)?;
     Ok(((low, high), rest))
 }
@@ -58,7 +58,7 @@ fn literals(alloc: Global, tokens: &[Token]) -> Result<(Items<Literal>, &[Token]
 {
     chain(
         alloc,
-        Sign::Comma,
+        Sign::Mark(Mark::Comma),
         tokens,
         |start: &[Token]| literal(alloc, start),
     )
@@ -68,9 +68,9 @@ fn literals(alloc: Global, tokens: &[Token]) -> Result<(Items<Literal>, &[Token]
 fn members(alloc: Global, tokens: &[Token]) -> Result<(Items<Literal>, &[Token]), Stop>
     ensures { Gives seen result (members_at tokens.now) }
 {
-    let rest = expect(tokens, Sign::Open)?;
+    let rest = expect(tokens, Sign::Mark(Mark::Open))?;
     let (found, rest) = literals(alloc, rest)?;
-    let rest = expect(rest, Sign::Close)?;
+    let rest = expect(rest, Sign::Mark(Mark::Close))?;
     Ok((found, rest))
 }
 
@@ -105,13 +105,13 @@ fn range(
 ) -> Result<(Condition, &[Token]), Stop>
     ensures { Gives seen result (range_at negated operand tokens.now) }
 {
-    match after(tokens, Sign::Between) {
+    match after(tokens, Sign::Word(Keyword::Between)) {
         Some(rest) => {
             let (limits, rest) = limits(alloc, rest)?;
             Ok((between_of(negated, operand, limits), rest))
         }
         None => {
-            let rest = expect(tokens, Sign::In)?;
+            let rest = expect(tokens, Sign::Word(Keyword::In))?;
             let (members, rest) = members(alloc, rest)?;
             Ok((in_of(negated, operand, members), rest))
         }
@@ -125,13 +125,13 @@ fn null(operand: Operand, tokens: &[Token]) -> Result<(Condition, &[Token]), Sto
 {
     match operand {
         Operand::Literal(_) => Err(Stop::Syntax),
-        Operand::Column(column) => match after(tokens, Sign::Not) {
+        Operand::Column(column) => match after(tokens, Sign::Word(Keyword::Not)) {
             Some(rest) => {
-                let rest = expect(rest, Sign::Null)?;
+                let rest = expect(rest, Sign::Word(Keyword::Null))?;
                 Ok((Condition::IsNotNull(column), rest))
             }
             None => {
-                let rest = expect(tokens, Sign::Null)?;
+                let rest = expect(tokens, Sign::Word(Keyword::Null))?;
                 Ok((Condition::IsNull(column), rest))
             }
         },
@@ -157,10 +157,10 @@ fn compared(alloc: Global, left: Operand, tokens: &[Token]) -> Result<(Condition
 fn tail(alloc: Global, operand: Operand, tokens: &[Token]) -> Result<(Condition, &[Token]), Stop>
     ensures { Gives seen result (tail_at operand tokens.now) }
 {
-    if let Some(rest) = after(tokens, Sign::Not) {
+    if let Some(rest) = after(tokens, Sign::Word(Keyword::Not)) {
         return range(alloc, true, operand, rest);
     }
-    if let Some(rest) = after(tokens, Sign::Is) {
+    if let Some(rest) = after(tokens, Sign::Word(Keyword::Is)) {
         return null(operand, rest);
     }
     compared(alloc, operand, tokens)

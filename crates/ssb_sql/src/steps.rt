@@ -31,7 +31,11 @@ impl From<AllocError> for Stop {
 fn is_sign(found: Sign, sign: Sign) -> bool
     ensures { result ≡ is_sign found sign }
 {
-    found as u8 == sign as u8
+    match (found, sign) {
+        (Sign::Word(found), Sign::Word(word)) => found as u8 == word as u8,
+        (Sign::Mark(found), Sign::Mark(mark)) => found as u8 == mark as u8,
+        _ => false,
+    }
 }
 
 #[tactic(auto, unfolding(crate::specs::Steps::is_fixed))]

@@ -1,53 +1,11 @@
 // What a query text is made of.
 
 use crate::text::Text;
-use ssb_cells::Name;
+use ssb_cells::{Keyword, Name};
 
-/// A reserved word or a mark.
+/// A mark.
 #[derive(Clone, Copy, PartialEq, Eq, Debug)]
-pub enum Sign {
-    /// `select`
-    Select,
-    /// `from`
-    From,
-    /// `where`
-    Where,
-    /// `group`
-    Group,
-    /// `by`
-    By,
-    /// `order`
-    Order,
-    /// `and`
-    And,
-    /// `or`
-    Or,
-    /// `not`
-    Not,
-    /// `between`
-    Between,
-    /// `in`
-    In,
-    /// `is`
-    Is,
-    /// `null`
-    Null,
-    /// `as`
-    As,
-    /// `asc`
-    Asc,
-    /// `desc`
-    Desc,
-    /// `sum`
-    Sum,
-    /// `count`
-    Count,
-    /// `min`
-    Min,
-    /// `max`
-    Max,
-    /// `having`
-    Having,
+pub enum Mark {
     /// `(`
     Open,
     /// `)`
@@ -76,6 +34,15 @@ pub enum Sign {
     Greater,
     /// `>=`
     GreaterEqual,
+}
+
+/// A reserved word or a mark.
+#[derive(Clone, Copy, PartialEq, Eq, Debug)]
+pub enum Sign {
+    /// A reserved word.
+    Word(Keyword),
+    /// A mark.
+    Mark(Mark),
 }
 
 /// A token of a query text.

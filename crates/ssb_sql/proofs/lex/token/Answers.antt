@@ -11,4 +11,4 @@ text_token-requires c =
     c.requires.behind [] rest (first_is c.args.bytes.now rest c.in-Some.byte (sym c.in-Some.ensures) ∙ ap (λ b. b ∷ rest) (quote_is c.in-Some.byte (sym c.class_of.ensures ∙ c.in-Quote.is)))
 
 pub returns-in-Mark : goal.returns-in-Mark
-returns-in-Mark c = mark_here c.args.bytes.now c.in-Some.rest.now c.in-Some.byte c.in-Mark.sign (seen c.mark.result) (sym c.in-Some.ensures) (sym c.class_of.ensures ∙ c.in-Mark.is) c.mark.ensures
+returns-in-Mark c = mark_here c.args.bytes.now c.in-Some.rest.now c.in-Some.byte c.in-Mark.first (seen c.mark.result) (sym c.in-Some.ensures) (sym c.class_of.ensures ∙ c.in-Mark.is) c.mark.ensures

@@ -1,11 +1,11 @@
 use Rattle.std.proofs.Common.{◌≡◌, true, sym, subst, ◌∙◌}
 use Rattle.ssb_cells.specs.Names.{is_word}
-use Rattle.ssb_sql.proofs.ReservedWords.{name_from_no_sign}
+use Rattle.ssb_sql.proofs.ReservedWords.{name_from_no_keyword}
 use Rattle.ssb_sql.proofs.TokenSound.{run_is_word}
 use Rattle.ssb_sql.proofs.lex.word_token.Goals as goal
 
 pub new-requires : goal.new-requires
 new-requires c =
-    name_from_no_sign c.word.result.0.now
+    name_from_no_keyword c.word.result.0.now
     (subst (λ w. is_word w ≡ true) (sym c.word.ensures.word) (run_is_word c.args.bytes.now c.requires))
-    (sym c.sign_of.ensures ∙ c.in_default.is)
+    (sym c.keyword_of.ensures ∙ c.in_default.is)

@@ -1,9 +1,10 @@
 -- What records are taken for, and what is wrong with them: a table under its rules, or a catalog.
 -- For the contracts inside this crate.
-use Rattle.std.specs.Prelude.{◌≡◌, ℕ, List, [], Some, ⊤}
+use Rattle.std.specs.Prelude.{◌≡◌, ℕ, List, [], Option, Some, ⊤, IfSome}
 use Rattle.ssb_load.specs.Catalog.{first_catalog_fault}
 use Rattle.ssb_load.specs.CatalogReading.{AreGoodEntries}
 use Rattle.ssb_load.specs.CutShort.{IsCutShort, IsGoodBefore}
+use Rattle.ssb_load.specs.Giving.{given_since}
 use Rattle.ssb_load.specs.Loading.{AreGoodRows}
 use Rattle.ssb_load.specs.Records.{Fields, records_of}
 use Rattle.ssb_load.specs.Tables.{first_fault}
@@ -51,3 +52,8 @@ StopsIn s bytes (load.Record f n) = RefusesRow s (records_of bytes) f n
 StopsIn s bytes (load.BadCatalog f n) = RefusesEntry s (records_of bytes) f n
 StopsIn s bytes (load.Read n) = IsGoodBefore (AreGood s) (records_of bytes) n
 StopsIn s bytes load.Memory = ⊤
+
+-- Why not all records of a source were taken: of the bytes that it gave, and of all its bytes where they are known.
+pub record Stops {S : Type 0} (given : S → List ℕ) (known : S → Option (List ℕ)) (s : Subject) (before after : S) (e : LoadFault) : Type 0 where
+  pub fails : StopsBy s (given_since (given before) (given after)) e
+  pub told : IfSome (known before) (λ all. StopsIn s (given_since (given before) all) e)

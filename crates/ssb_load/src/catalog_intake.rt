@@ -76,13 +76,9 @@ impl Intake for CatalogIntake {
     ghost stands = { IsDrafting };
 
     fn take(&mut self, row: &ByteRecord) -> Result<(), LoadFault> {
-        match accept(self.alloc, &mut self.tables, self.accepted + 1, row) {
-            Ok(()) => {
-                self.accepted += 1;
-                Ok(())
-            }
-            Err(fault) => Err(fault),
-        }
+        accept(self.alloc, &mut self.tables, self.accepted + 1, row)?;
+        self.accepted += 1;
+        Ok(())
     }
 
     fn accepted(&self) -> u64 {

@@ -1,9 +1,9 @@
 // The records of a source, piece by piece, and what takes them.
 
-ghost use Rattle.std.specs.Prelude.{◌≡◌, ◌+◌, ◌<◌, ◌^◌, ◌++◌, ◌∷◌, [], ℕ, List, length, OnOk, IfErr, IfSome};
+ghost use Rattle.std.specs.Prelude.{◌≡◌, ◌+◌, ◌<◌, ◌^◌, ◌++◌, ◌∷◌, [], ℕ, List, length, OnOk, IfErr};
 ghost use Rattle.csv.specs.Records.{fields_of};
 ghost use Rattle.ssb_load.specs.Giving.{given_since};
-ghost use Rattle.ssb_load.specs.Intake.{AreGood, Refuses, StopsBy, StopsIn, Subject};
+ghost use Rattle.ssb_load.specs.Intake.{AreGood, Refuses, Stops, Subject};
 ghost use Rattle.ssb_load.specs.CutShort.{IfRead};
 ghost use Rattle.ssb_load.specs.Records.{Fields, records_of};
 
@@ -61,9 +61,7 @@ fn take_text<T: Intake>(
             // A slice has no read that fails, so this is memory.
             Err(_) => return Err(LoadFault::Memory),
         }
-        if let Err(fault) = intake.take(row) {
-            return Err(fault);
-        }
+        intake.take(row)?;
     }
     // No text has as many records.
     Err(LoadFault::Memory)
@@ -83,9 +81,8 @@ pub(crate) fn take_all<S: Source, T: Intake>(
     ensures subject { T.subject intake.new ≡ T.subject intake.old }
     ensures taken { OnOk result (T.stands intake.new (records_of (given_since (S.given source.old) (S.given source.new)))) }
     ensures ended { OnOk result (S.ends source.old < S.ends source.new) }
-    ensures fails { IfErr result (StopsBy (T.subject intake.old) (given_since (S.given source.old) (S.given source.new))) }
+    ensures stops { IfErr result (Stops S.given S.whole (T.subject intake.old) source.old source.new) }
     ensures broken { IfErr result (λ e. IfRead e (λ n. S.failures source.old < S.failures source.new)) }
-    ensures told { IfErr result (λ e. IfSome (S.whole source.old) (λ all. StopsIn (T.subject intake.old) (given_since (S.given source.old) all) e)) }
 {
     let mut pieces = Pieces::new(alloc, source, size);
     let mut row = ByteRecord::new(alloc);
@@ -99,9 +96,7 @@ pub(crate) fn take_all<S: Source, T: Intake>(
             Ok(false) => return Ok(()),
             Err(_) => return Err(LoadFault::Memory),
         }
-        if let Err(fault) = take_text(alloc, before, pieces.piece(), &mut row, intake) {
-            return Err(fault);
-        }
+        take_text(alloc, before, pieces.piece(), &mut row, intake)?;
         // An empty line is no record, and `csv` looks for a byte order mark at the head alone.
         before = b"\n";
     }

@@ -60,9 +60,7 @@ impl Catalog {
         ensures { ReadsFrom S.given S.failures S.ends S.whole source.old source.new result }
     {
         let mut intake = CatalogIntake::new(alloc);
-        match take_all(alloc, source, size, &mut intake) {
-            Ok(()) => intake.finish(),
-            Err(fault) => Err(fault),
-        }
+        take_all(alloc, source, size, &mut intake)?;
+        intake.finish()
     }
 }

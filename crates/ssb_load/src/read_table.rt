@@ -106,8 +106,6 @@ pub fn load_in_pieces<S: Source>(
     let Ok(mut intake) = TableIntake::new(alloc, rules, max_rows) else {
         return Err(LoadFault::Memory);
     };
-    match take_all(alloc, source, size, &mut intake) {
-        Ok(()) => Ok(intake.into_table()),
-        Err(fault) => Err(fault),
-    }
+    take_all(alloc, source, size, &mut intake)?;
+    Ok(intake.into_table())
 }

@@ -66,16 +66,10 @@ impl Intake for TableIntake {
     ghost stands = { IsLoading };
 
     fn take(&mut self, row: &ByteRecord) -> Result<(), LoadFault> {
-        match self
-            .loader
-            .accept(&self.rules, self.key, self.accepted, self.max_rows, row)
-        {
-            Ok(()) => {
-                self.accepted += 1;
-                Ok(())
-            }
-            Err(fault) => Err(fault),
-        }
+        self.loader
+            .accept(&self.rules, self.key, self.accepted, self.max_rows, row)?;
+        self.accepted += 1;
+        Ok(())
     }
 
     fn accepted(&self) -> u64 {

@@ -1,4 +1,5 @@
 use Rattle.std.proofs.Common.{◌++◌, ◌∙◌, ◌+◌, List, Bool, refl, sym, ap, subst, inl, inr}
+use Rattle.std.proofs.lemmas.Result.{err_from_is_err_and}
 use Rattle.ssb_load.specs.Intake.{AreGood, Subject}
 use Rattle.ssb_load.specs.Pieces.{handed, piece_of, rest_of, Hands}
 use Rattle.ssb_load.specs.Records.{Fields, records_of}
@@ -17,8 +18,8 @@ loop-init g c = record {
   lead = inl (refl, c.new-pieces.ensures.handed);
 }
 
-pub returns-in-Ok-false-clause-fails : goal.returns-in-Ok-false-clause-fails
-returns-in-Ok-false-clause-fails g c =
+pub returns-in-Ok-false-clause-stops : goal.returns-in-Ok-false-clause-stops
+returns-in-Ok-false-clause-stops g c =
     let inv = c.loop.invariant in
     let p = c.loop.pieces in
     let q = c.fill.new.self in
@@ -27,47 +28,33 @@ returns-in-Ok-false-clause-fails g c =
     let failed = sym c.has_failed.ensures ∙ c.if-has_failed.true in
     let hands = let P : Bool → Type 0 = λ b. Hands b q in subst P c.in-Ok-false.field-0-test c.in-Ok-false.ensures.hands in
     let good = let P : Subject → Type 0 = λ s. AreGood s (records_of (handed p)) in subst P inv.same (g.met.T.Intake.good c.loop.intake (records_of (handed p)) inv.held) in
-    stops-at (g.T.Intake.subject c.args.intake.now) p q c.loop.before.now _ _ _ inv.lead failed c.fill.ensures.stays hands c.fill.ensures.handed told good (ap (λ n. n + 1) (c.accepted.ensures.count _ inv.held))
+    let number = ap (λ n. n + 1) (c.accepted.ensures.count _ inv.held) in
+    record {
+      fails = stops-at (g.T.Intake.subject c.args.intake.now) p q c.loop.before.now _ _ _ inv.lead failed c.fill.ensures.stays hands c.fill.ensures.handed told good number;
+      told = always (g.S.Source.whole c.args.source.now) _ (λ all is.
+          let front = holds-of (g.S.Source.whole c.fill.new.source) _ all (c.fill.ensures.whole ∙ inv.whole ∙ is) (g.met.S.Source.begins c.fill.new.source) in
+          good-before (g.T.Intake.subject c.args.intake.now) p q c.loop.before.now _ _ all _ inv.lead failed c.fill.ensures.stays hands c.fill.ensures.handed told good number front);
+    }
 
-pub returns-in-Ok-false-clause-told : goal.returns-in-Ok-false-clause-told
-returns-in-Ok-false-clause-told g c =
+pub returns-in_err-take_text-clause-stops : goal.returns-in_err-take_text-clause-stops
+returns-in_err-take_text-clause-stops g c =
     let inv = c.loop.invariant in
-    let p = c.loop.pieces in
-    let q = c.fill.new.self in
-    let begun = ap (λ s. s.value) c.fill.ensures.begun ∙ inv.begun in
-    let told = c.fill.ensures.follows.told ∙ ap (λ s. g.S.Source.given s ++ (handed q ++ rest_of q)) begun in
-    let failed = sym c.has_failed.ensures ∙ c.if-has_failed.true in
-    let hands = let P : Bool → Type 0 = λ b. Hands b q in subst P c.in-Ok-false.field-0-test c.in-Ok-false.ensures.hands in
-    let good = let P : Subject → Type 0 = λ s. AreGood s (records_of (handed p)) in subst P inv.same (g.met.T.Intake.good c.loop.intake (records_of (handed p)) inv.held) in
-    always (g.S.Source.whole c.args.source.now) _ (λ all is.
-    let front = holds-of (g.S.Source.whole c.fill.new.source) _ all (c.fill.ensures.whole ∙ inv.whole ∙ is) (g.met.S.Source.begins c.fill.new.source) in
-    good-before (g.T.Intake.subject c.args.intake.now) p q c.loop.before.now _ _ all _ inv.lead failed c.fill.ensures.stays hands c.fill.ensures.handed told good (ap (λ n. n + 1) (c.accepted.ensures.count _ inv.held)) front)
-
-pub returns-in-Err-take_text-clause-fails : goal.returns-in-Err-take_text-clause-fails
-returns-in-Err-take_text-clause-fails g c =
-    let inv = c.loop.invariant in
+    let e = c.in_err-take_text.field-0.0 in
     let p = c.loop.pieces in
     let q = c.fill.new.self in
     let begun = ap (λ s. s.value) c.fill.ensures.begun ∙ inv.begun in
     let told = c.fill.ensures.follows.told ∙ ap (λ s. g.S.Source.given s ++ (handed q ++ rest_of q)) begun in
     let hands = let P : Bool → Type 0 = λ b. Hands b q in subst P c.in-Ok-true.field-0-test c.in-Ok-true.ensures.hands in
-    let refused = λ (rest : List Fields). rw (inv.same, c.piece.ensures) at (c.in-Err-take_text.ensures.refused (records_of (handed p)) rest inv.held) in
-    refused-fails _ _ _ (refused-given (g.T.Intake.subject c.args.intake.now) c.in-Err-take_text.fault p q c.loop.before.now _ _ inv.lead hands c.fill.ensures.over c.fill.ensures.handed told refused)
-
-pub returns-in-Err-take_text-clause-told : goal.returns-in-Err-take_text-clause-told
-returns-in-Err-take_text-clause-told g c =
-    let inv = c.loop.invariant in
-    let p = c.loop.pieces in
-    let q = c.fill.new.self in
-    let begun = ap (λ s. s.value) c.fill.ensures.begun ∙ inv.begun in
-    let told = c.fill.ensures.follows.told ∙ ap (λ s. g.S.Source.given s ++ (handed q ++ rest_of q)) begun in
-    let hands = let P : Bool → Type 0 = λ b. Hands b q in subst P c.in-Ok-true.field-0-test c.in-Ok-true.ensures.hands in
-    let refused = λ (rest : List Fields). rw (inv.same, c.piece.ensures) at (c.in-Err-take_text.ensures.refused (records_of (handed p)) rest inv.held) in
-    always (g.S.Source.whole c.args.source.now) _ (λ all is.
-    let known = c.fill.ensures.whole ∙ inv.whole ∙ is in
-    let front = holds-of (g.S.Source.whole c.fill.new.source) _ all known (g.met.S.Source.begins c.fill.new.source) in
-    refused-in _ c.in-Err-take_text.fault _ (refused-all (g.T.Intake.subject c.args.intake.now) c.in-Err-take_text.fault p q c.loop.before.now _ _ all inv.lead hands c.fill.ensures.over c.fill.ensures.handed told refused front
-    (λ o. holds-of (g.S.Source.whole c.fill.new.source) _ all known (g.met.S.Source.settled c.fill.new.source (over-settled _ _ _ q _ c.fill.ensures.follows o)))))
+    let refused = λ (rest : List Fields). rw (inv.same, c.piece.ensures) at (c.in_err-take_text.ensures.refused (records_of (handed p)) rest inv.held) in
+    let out = err_from_is_err_and c.from_residual.result c.from_residual.ensures.1 in
+    rw (out.1, out.2) (record {
+      fails = refused-fails _ _ _ (refused-given (g.T.Intake.subject c.args.intake.now) e p q c.loop.before.now _ _ inv.lead hands c.fill.ensures.over c.fill.ensures.handed told refused);
+      told = always (g.S.Source.whole c.args.source.now) _ (λ all is.
+          let known = c.fill.ensures.whole ∙ inv.whole ∙ is in
+          let front = holds-of (g.S.Source.whole c.fill.new.source) _ all known (g.met.S.Source.begins c.fill.new.source) in
+          refused-in _ e _ (refused-all (g.T.Intake.subject c.args.intake.now) e p q c.loop.before.now _ _ all inv.lead hands c.fill.ensures.over c.fill.ensures.handed told refused front
+          (λ o. holds-of (g.S.Source.whole c.fill.new.source) _ all known (g.met.S.Source.settled c.fill.new.source (over-settled _ _ _ q _ c.fill.ensures.follows o)))));
+    })
 
 pub loop-preserved : goal.loop-preserved
 loop-preserved g c =
@@ -75,7 +62,7 @@ loop-preserved g c =
     let p = c.loop.pieces in
     let q = c.fill.new.self in
     let hands = let P : Bool → Type 0 = λ b. Hands b q in subst P c.in-Ok-true.field-0-test c.in-Ok-true.ensures.hands in
-    let taken = rw c.piece.ensures at (c.in_default.ensures.taken (records_of (handed p)) inv.held) in
+    let taken = rw c.piece.ensures at (c.in_ok-take_text.ensures.taken (records_of (handed p)) inv.held) in
     record {
       follows = c.fill.ensures.follows;
       whole = c.fill.ensures.whole ∙ inv.whole;

@@ -1,6 +1,7 @@
 use Rattle.std.proofs.Common.{◌++◌, ◌∷◌, ◌∙◌, [], List, Some, refl, sym, ap, subst, inl, inr, append_assoc}
 use Rattle.std.specs.Prelude.{option_map}
 use Rattle.std.proofs.lemmas.List.{append-nil}
+use Rattle.std.proofs.lemmas.Result.{err_from_is_err_and}
 use Rattle.csv.specs.Reading.{strip_bom}
 use Rattle.csv.specs.Records.{fields_of}
 use Rattle.ssb_load.specs.Intake.{Refuses}
@@ -37,22 +38,25 @@ returns-in-Err-clause-subject g c = c.loop.invariant.same
 pub take-requires : goal.take-requires
 take-requires g c = (c.requires.0 ++ c.loop.invariant.done, c.loop.invariant.moved c.requires.0 c.requires.1)
 
-pub returns-in-Err-take-clause-subject : goal.returns-in-Err-take-clause-subject
-returns-in-Err-take-clause-subject g c = c.take.ensures.subject ∙ c.loop.invariant.same
+pub returns-in_err-take-clause-subject : goal.returns-in_err-take-clause-subject
+returns-in_err-take-clause-subject g c = c.take.ensures.subject ∙ c.loop.invariant.same
 
-pub returns-in-Err-take-clause-refused : goal.returns-in-Err-take-clause-refused
-returns-in-Err-take-clause-refused g c good rest h =
+pub returns-in_err-take-clause-refused : goal.returns-in_err-take-clause-refused
+returns-in_err-take-clause-refused g c =
     let inv = c.loop.invariant in
+    let e = c.in_err-take.field-0.0 in
     let f = fields_of c.read_byte_record.new.row in
     let r = rw c.in-Ok-true.field-0-test at (c.in-Ok-true.ensures.reads inv.reading.plain inv.reading.ready) in
     let next = reading-more text_left (Some (c.args.before.now ++ c.args.text.now)) c.loop.reader c.read_byte_record.new.self inv.done f inv.reading r c.in-Ok-true.ensures.flexible
     (inl (c.in-Ok-true.ensures.ready inv.reading.plain)) in
+    let q = err_from_is_err_and c.from_residual.result c.from_residual.ensures.1 in
+    rw (q.1, q.2) (λ good rest h.
     reading-begins text_left (Some (c.args.before.now ++ c.args.text.now)) c.read_byte_record.new.self (inv.done ++ f ∷ [])
-    (λ records. Refuses (g.T.Intake.subject c.args.intake.now) (good ++ (records ++ rest)) c.in-Err-take.fault) next
+    (λ records. Refuses (g.T.Intake.subject c.args.intake.now) (good ++ (records ++ rest)) e) next
     (λ more.
-    let P : List Fields → Type 0 = λ records. Refuses (g.T.Intake.subject c.args.intake.now) records c.in-Err-take.fault in
+    let P : List Fields → Type 0 = λ records. Refuses (g.T.Intake.subject c.args.intake.now) records e in
     subst P (regroup good inv.done more rest f)
-    (rw inv.same at (c.in-Err-take.ensures.refused (good ++ inv.done) (more ++ rest) (inv.moved good h))))
+    (rw inv.same at (c.in_err-take.ensures.refused (good ++ inv.done) (more ++ rest) (inv.moved good h)))))
 
 pub loop-preserved : goal.loop-preserved
 loop-preserved g c =
@@ -64,7 +68,7 @@ loop-preserved g c =
       reading = reading-more text_left (Some (c.args.before.now ++ c.args.text.now)) c.loop.reader c.read_byte_record.new.self inv.done f inv.reading r c.in-Ok-true.ensures.flexible
           (inl (c.in-Ok-true.ensures.ready inv.reading.plain));
       same = c.take.ensures.subject ∙ inv.same;
-      moved = λ good h. subst (g.T.Intake.stands c.take.new.self) (append_assoc good inv.done (f ∷ [])) (c.in_default.ensures.taken (good ++ inv.done) (inv.moved good h));
+      moved = λ good h. subst (g.T.Intake.stands c.take.new.self) (append_assoc good inv.done (f ∷ [])) (c.in_ok-take.ensures.taken (good ++ inv.done) (inv.moved good h));
     }
 
 pub returns-clause-subject : goal.returns-clause-subject

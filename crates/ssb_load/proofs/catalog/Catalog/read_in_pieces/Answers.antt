@@ -1,4 +1,5 @@
 use Rattle.std.proofs.Common.{◌<◌, arith}
+use Rattle.std.proofs.lemmas.Result.{err_from_is_err_and}
 use Rattle.ssb_load.specs.CatalogReading.{AreGoodEntries, ReadsCatalog}
 use Rattle.ssb_load.specs.CutShort.{IsCutShort}
 use Rattle.ssb_load.specs.Giving.{given_since}
@@ -7,11 +8,11 @@ use Rattle.ssb_load.proofs.CatalogTaking.{cut-short, fault-kind, judged, refuses
 use Rattle.ssb_load.proofs.TakingAll.{of-all}
 use Rattle.ssb_load.proofs.catalog.Catalog.read_in_pieces.Goals as goal
 
-pub returns-in-Ok : goal.returns-in-Ok
-returns-in-Ok g c =
-    let taken = c.in-Ok.ensures.taken in
+pub returns : goal.returns
+returns g c =
+    let taken = c.in_ok-take_all.ensures.taken in
     let reads = c.finish.ensures.reads _ taken in
-    let ended = c.in-Ok.ensures.ended in
+    let ended = c.in_ok-take_all.ensures.ended in
     let met : 0 < g.S.Source.ends c.take_all.new.source = omega (arith, ended) in
     let given = given_since (g.S.Source.given c.args.source.now) (g.S.Source.given c.take_all.new.source) in
     let broken = judged c.finish.result _ _ (λ n. g.S.Source.failures c.args.source.now < g.S.Source.failures c.take_all.new.source) reads c.finish.ensures.faults ended in
@@ -29,17 +30,19 @@ returns-in-Ok g c =
       faults = broken.2;
     }
 
-pub returns-in-Err : goal.returns-in-Err
-returns-in-Err g c =
-    let stops = c.in-Err.ensures.fails in
-    let reads = tells-given _ c.in-Err.fault stops in
-    record {
+pub returns-in_err-take_all : goal.returns-in_err-take_all
+returns-in_err-take_all g c =
+    let e = c.in_err-take_all.field-0.0 in
+    let stops = c.in_err-take_all.ensures.stops.fails in
+    let reads = tells-given _ e stops in
+    let out = err_from_is_err_and c.from_residual.result c.from_residual.ensures.1 in
+    rw (out.1, out.2) (record {
       grows = c.take_all.ensures.grows;
       reads = reads;
       ended = tt;
-      broken = c.in-Err.ensures.broken;
-      short = cut-short _ c.in-Err.fault stops;
+      broken = c.in_err-take_all.ensures.broken;
+      short = cut-short _ e stops;
       whole = c.take_all.ensures.whole;
-      told = refuses-told _ _ c.in-Err.fault c.in-Err.ensures.told;
-      faults = fault-kind _ c.in-Err.fault reads;
-    }
+      told = refuses-told _ _ e c.in_err-take_all.ensures.stops.told;
+      faults = fault-kind _ e reads;
+    })

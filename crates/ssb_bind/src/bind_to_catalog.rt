@@ -20,7 +20,10 @@ fn keep(query: QueryParts, checked: Result<(), BindFault>) -> Result<QueryParts,
 {
     match checked {
         Ok(()) => Ok(query),
-        Err(fault) => Err(fault),
+        Err(fault) => {
+            drop(query);
+            Err(fault)
+        }
     }
 }
 
@@ -45,6 +48,7 @@ fn judged(alloc: Global, catalog: &[TableDef], select: &Select) -> Result<QueryP
 pub fn bind(alloc: Global, catalog: &Catalog, select: Select) -> Result<Query, BindFault>
     ensures { spec.BindsTo catalog.now select result }
 {
-    let parts = judged(alloc, catalog.tables(), &select)?;
-    Ok(Query::new(parts))
+    let parts = judged(alloc, catalog.tables(), &select);
+    drop(select);
+    Ok(Query::new(parts?))
 }

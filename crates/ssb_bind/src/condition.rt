@@ -5,7 +5,7 @@ use ssb_cells::Op;
 use ssb_sql::Literal;
 
 /// A column of a table of FROM.
-#[derive(Clone, Copy, PartialEq, Eq, Debug)]
+#[derive(Clone, Copy, PartialEq, Eq)]
 pub struct BoundColumn {
     /// The table's place in FROM, from 0.
     pub table: usize,
@@ -14,7 +14,7 @@ pub struct BoundColumn {
 }
 
 /// What a test compares.
-#[derive(Debug, Drop)]
+#[derive(Drop)]
 pub enum BoundOperand {
     /// A column.
     Column(BoundColumn),
@@ -23,7 +23,7 @@ pub enum BoundOperand {
 }
 
 /// A condition over columns: the one that is written, with a column in the place of each name.
-#[derive(Debug, Drop)]
+#[derive(Drop)]
 pub enum BoundCondition {
     /// Two or more, joined by OR.
     Any(Items<BoundCondition>),

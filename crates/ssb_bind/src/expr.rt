@@ -5,7 +5,7 @@ use sqlite_items::{Boxed, Items};
 use ssb_sql::Adding;
 
 /// A further term of a chain, with the sign before it.
-#[derive(Debug, Drop)]
+#[derive(Drop)]
 #[cycle(expr)]
 pub struct BoundStep {
     /// Whether the term is added or taken away.
@@ -16,7 +16,7 @@ pub struct BoundStep {
 
 /// An expression over columns: the one that is written, with a column in the place of each name. Its
 /// chains are taken from left to right.
-#[derive(Debug, Drop)]
+#[derive(Drop)]
 #[cycle(expr)]
 pub enum BoundExpr {
     /// A column.

@@ -5,7 +5,7 @@ ghost use Rattle.ssb_groups.specs.Joining.{Fits, joined};
 
 /// How many values an aggregate has met, and their exact sum. A sum of as many 64-bit numbers as a
 /// table has rows fits in its 128 bits, so it never leaves its range on the way.
-#[derive(Clone, Copy, PartialEq, Eq, Debug)]
+#[derive(Clone, Copy, PartialEq, Eq)]
 pub struct Accumulator {
     /// How many values there are that are not null.
     pub values: u64,

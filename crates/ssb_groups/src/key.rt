@@ -7,7 +7,7 @@ use ssb_cells::OwnedValue;
 use std::alloc::{AllocError, Global};
 
 /// The values of the group columns, in their order.
-#[derive(PartialEq, Eq, Hash, Drop, Debug)]
+#[derive(PartialEq, Eq, Hash, Drop)]
 pub struct GroupKey {
     pub(crate) cells: Vec<OwnedValue>,
 }

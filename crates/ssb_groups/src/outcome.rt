@@ -11,7 +11,7 @@ use crate::accumulator::Accumulator;
 use ssb_cells::Value;
 
 /// What is done with two numbers.
-#[derive(Clone, Copy, PartialEq, Eq, Debug)]
+#[derive(Clone, Copy, PartialEq, Eq)]
 pub(crate) enum Operation {
     /// Their sum.
     Plus,

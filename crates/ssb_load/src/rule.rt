@@ -50,7 +50,7 @@ pub struct Rule {
 }
 
 /// What a field under a rule may fail.
-#[derive(Clone, Copy, PartialEq, Eq, Debug)]
+#[derive(Clone, Copy, PartialEq, Eq)]
 pub(crate) enum Test {
     /// To spell a number, where it is not empty and the type is that of numbers.
     Number,

@@ -4,6 +4,7 @@ use Rattle.std.proofs.lemmas.Bool.{ltb-false}
 use Rattle.std.proofs.lemmas.List.{length-map}
 use Rattle.std.proofs.lemmas.List.Quantifiers.{position-Some}
 use Rattle.std.specs.List.{All}
+use Rattle.ssb_load.proofs.Choices.{cond-none, cond-passes}
 use Rattle.ssb_load.specs.Catalog.{IsCatalog, is_table_named}
 use Rattle.ssb_load.specs.Shapes.{TableShape, rules_of}
 use Rattle.ssb_sql.specs.declared.select.Select.{Select}
@@ -41,14 +42,10 @@ not_so false f e = refl
 
 -- ---- names
 
-step : {X : Type 0} (b : Bool) (x : X) (r : Option X) → cond b (Some x) r ≡ None → (b ≡ false) × (r ≡ None)
-step true x r e = absurd cc
-step false x r e = (refl, e)
-
 none_found : {X : Type 0} (p : X → Bool) (xs : List X) → find p xs ≡ None → (k : ℕ) (d : X) → k < length xs → p (get_or xs k d) ≡ false
 none_found p [] e k d below = absurd (omega arith)
-none_found p (x ∷ xs) e zero d below = (step (p x) x (find p xs) e).0
-none_found p (x ∷ xs) e (suc k) d below = none_found p xs (step (p x) x (find p xs) e).1 k d (omega arith)
+none_found p (x ∷ xs) e zero d below = (cond-none (p x) x (find p xs) e).0
+none_found p (x ∷ xs) e (suc k) d below = none_found p xs (cond-none (p x) x (find p xs) e).1 k d (omega arith)
 
 single : (xs : List BoundColumn) (other : BoundColumn) → is_wrong_fit wrong.Unknown (fit_of xs) ≡ false → is_wrong_fit wrong.Ambiguous (fit_of xs) ≡ false → xs ≡ the_one (fit_of xs) other ∷ []
 single [] other e h = absurd cc
@@ -142,14 +139,10 @@ not_more false x r e = refl
 few : (s : Select) → too_many s ≡ None → length s.from ≤ 8
 few s e = let h = ltb-false 8 (length s.from) (not_more (nat_lt 8 (length s.from)) many.Tables _ e) in omega arith
 
-passes : {X : Type 0} (b : Bool) (x : X) (r : Option X) → cond b r (Some x) ≡ None → (b ≡ true) × (r ≡ None)
-passes true x r e = (refl, e)
-passes false x r e = absurd cc
-
 all_joined : (q : QueryParts) (names : List (List ℕ)) (from k place : ℕ) → unjoined_from q from names ≡ None → k < length names → place ≡ from + k → is_joined q place ≡ true
 all_joined q [] from k place e below at = absurd (omega arith)
-all_joined q (name ∷ names) from zero place e below at = let here : place ≡ from = omega arith in rw here (passes (is_joined q from) name (unjoined_from q (from + 1) names) e).0
-all_joined q (name ∷ names) from (suc k) place e below at = all_joined q names (from + 1) k place (passes (is_joined q from) name (unjoined_from q (from + 1) names) e).1 (omega arith) (omega arith)
+all_joined q (name ∷ names) from zero place e below at = let here : place ≡ from = omega arith in rw here (cond-passes (is_joined q from) name (unjoined_from q (from + 1) names) e).0
+all_joined q (name ∷ names) from (suc k) place e below at = all_joined q names (from + 1) k place (cond-passes (is_joined q from) name (unjoined_from q (from + 1) names) e).1 (omega arith) (omega arith)
 
 star_of : (c : List TableShape) (s : Select) (q : QueryParts) → IsCatalog c → q ≡ bound_query c s → first_of (faults c q s) ≡ None → IsStar q
 unfolding bound_query

@@ -2,6 +2,7 @@
 use Rattle.std.proofs.Common.{◌≡◌, ℕ, ◌+◌, Bool, true, false, cond, Option, Some, None, List, [], ◌∷◌, ◌++◌, length, map, find, is_none, slice_get, unwrap_or, refl, sym, ap, ap₂, ◌∙◌, append_assoc, length-append, arith}
 use Rattle.std.specs.List.{filter_map, cons_option, range_with_len}
 use Rattle.std.proofs.lemmas.Option.{same_Some}
+use Rattle.ssb_load.proofs.Choices.{cond-none, cond-passes}
 use Rattle.ssb_load.specs.Shapes.{TableShape}
 use Rattle.ssb_sql.specs.declared.select.Item.{Item}
 use Rattle.ssb_sql.specs.declared.select.Order.{Order}
@@ -100,10 +101,6 @@ one_query c s p q h g =
 
 -- ---- the bound query
 
-step : {X : Type 0} (b : Bool) (x : X) (r : Option X) → cond b (Some x) r ≡ None → (b ≡ false) × (r ≡ None)
-step true x r e = absurd cc
-step false x r e = (refl, e)
-
 there : {X : Type 0} (o : Option X) (d : X) → is_none o ≡ false → o ≡ Some (unwrap_or o d)
 there None d e = absurd cc
 there (Some x) d e = refl
@@ -111,7 +108,7 @@ there (Some x) d e = refl
 pub each_table : (c : List TableShape) (names : List (List ℕ)) → unknown_table c names ≡ None → map (table_number c) names ≡ map Some (map (λ name. unwrap_or (table_number c name) 0) names)
 each_table c [] e = refl
 each_table c (name ∷ names) e =
-    let here = step (is_none (table_number c name)) name (unknown_table c names) e in
+    let here = cond-none (is_none (table_number c name)) name (unknown_table c names) e in
     ap₂ (λ z zs. z ∷ zs) (there (table_number c name) 0 here.0) (each_table c names here.1)
 
 at_length : {X : Type 0} (front : List X) (x : X) (back : List X) → slice_get (front ++ x ∷ back) (length front) ≡ Some x
@@ -137,7 +134,7 @@ module _ (c : List TableShape) (q : QueryParts) where
           → find (is_ungrouped c q.from q.groups) (cons_option (own_column o) (filter_map (λ i. own_column i.output) items)) ≡ None
           → Shows c q o (origin_of c q.from q.groups n o) × Each (IsItem c q) items (bound_items c q.from q.groups (cond (is_aggregate o) (n + 1) n) items)
       at (output.Column name) more list grouped =
-          let here = step (is_ungrouped c q.from q.groups name) name (not_grouped c q.from q.groups items) grouped in
+          let here = cond-none (is_ungrouped c q.from q.groups name) name (not_grouped c q.from q.groups items) grouped in
           (there (group_place q.groups (bound_name c q.from name)) 0 here.0, more front n list many here.1)
       at (output.Sum x) more list grouped = (found (aggregate.Sum (bound_expr c q.from x)) list, rest more (aggregate.Sum (bound_expr c q.from x)) list grouped)
       at output.CountRows more list grouped = (found aggregate.CountRows list, rest more aggregate.CountRows list grouped)
@@ -163,12 +160,8 @@ alone [] e = cc
 alone (x ∷ []) e = refl
 alone (x ∷ y ∷ ys) e = cc
 
-passes : {X : Type 0} (b : Bool) (x : X) (r : Option X) → cond b r (Some x) ≡ None → (b ≡ true) × (r ≡ None)
-passes true x r e = (refl, e)
-passes false x r e = absurd cc
-
 pub each_order : (items : List Item) (number : ℕ) (os : List Order) → bad_from items number os ≡ None → Each (IsOrder items) os (map (bound_order items) os)
 each_order items number [] e = tt
 each_order items number (o ∷ os) e =
-    let here = passes (fits_one (fit_of (places_for items o.key))) number (bad_from items (number + 1) os) e in
+    let here = cond-passes (fits_one (fit_of (places_for items o.key))) number (bad_from items (number + 1) os) e in
     (record { item = alone (places_for items o.key) here.0; descending = refl }, each_order items (number + 1) os here.1)

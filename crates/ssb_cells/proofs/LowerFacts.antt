@@ -5,10 +5,10 @@ use Rattle.std.specs.List.{find, list_all}
 use Rattle.std.specs.Str.{str_eq_ignore_ascii_case, str_to_ascii_lowercase}
 use Rattle.std.proofs.lemmas.Bool.Decides.{nat_tests}
 use Rattle.std.proofs.lemmas.Str.Ascii.{lowercase-lowercase}
+use Rattle.std.proofs.lemmas.Bool.{and_parts}
 use Rattle.ssb_cells.specs.declared.keyword.Keyword.{Keyword}
 use Rattle.ssb_cells.specs.Keywords.{keyword_of, keywords, spelling}
 use Rattle.ssb_cells.specs.Names.{IsLowerName, is_name, is_reserved, is_word, is_word_byte}
-use Rattle.ssb_cells.proofs.NameFacts.{and-both}
 
 lower-letter : (b : ℕ) → is_ascii_alphabetic b ≡ true → is_ascii_alphabetic (to_ascii_lowercase b) ≡ true
 lower-letter b e = grind (arith, nat_tests)
@@ -19,13 +19,13 @@ lower-word-byte b e = grind (arith, nat_tests)
 lower-word-bytes : (bs : List ℕ) → list_all is_word_byte bs ≡ true → list_all is_word_byte (str_to_ascii_lowercase bs) ≡ true
 lower-word-bytes [] e = refl
 lower-word-bytes (b ∷ bs) e =
-    let both = and-both (is_word_byte b) _ e in
+    let both = and_parts (is_word_byte b) _ e in
     rw (lower-word-byte b both.0) (lower-word-bytes bs both.1)
 
 lower-word : (bs : List ℕ) → is_word bs ≡ true → is_word (str_to_ascii_lowercase bs) ≡ true
 lower-word [] e = e
 lower-word (b ∷ bs) e =
-    let both = and-both (is_ascii_alphabetic b) _ e in
+    let both = and_parts (is_ascii_alphabetic b) _ e in
     rw (lower-letter b both.0) (lower-word-bytes bs both.1)
 
 pub lower-twice : (bs : List ℕ) → str_to_ascii_lowercase (str_to_ascii_lowercase bs) ≡ str_to_ascii_lowercase bs
@@ -42,7 +42,7 @@ same-keyword bs = same-found bs keywords
 
 pub lower-name : (bs : List ℕ) → is_name bs ≡ true → IsLowerName (str_to_ascii_lowercase bs)
 lower-name bs e =
-    let both = and-both (is_word bs) (not (is_reserved bs)) e in
+    let both = and_parts (is_word bs) (not (is_reserved bs)) e in
     record {
       name = rw (lower-word bs both.0, same-keyword bs) both.1;
       lower = lower-twice bs;

@@ -65,7 +65,7 @@ cell_cmp-trans = cell_total.trans
 
 -- ---- what does not differ is the same
 
-at-equal : (P Q R : Type 0) (o : Ordering) → o ≡ Equal → MatchOrdering o P Q R → Q
+pub at-equal : (P Q R : Type 0) (o : Ordering) → o ≡ Equal → MatchOrdering o P Q R → Q
 at-equal P Q R o e m = subst (λ w. MatchOrdering w P Q R) e m
 
 int-same : (x y : ℤ) → int_cmp x y ≡ Equal → x ≡ y

@@ -3,7 +3,7 @@ use Rattle.std.proofs.Common.{◌≡◌, ◌≤◌, ◌||◌, Bool, true, false,
 use Rattle.std.specs.List.{All, AllByRecursion, filter, list_all}
 use Rattle.std.specs.Set.{distinct_count}
 use Rattle.std.specs.Str.{bytes_eq}
-use Rattle.std.proofs.lemmas.Bool.{leb-true}
+use Rattle.std.proofs.lemmas.Bool.{and_parts, leb-true}
 use Rattle.std.proofs.lemmas.Cmp.{nat_list_eq_equiv}
 use Rattle.std.proofs.lemmas.List.Elements.{All-cons, All-from_recursion, All-nil}
 use Rattle.std.proofs.lemmas.Map.Made.{IsDistinct-from_count}
@@ -14,7 +14,6 @@ use Rattle.ssb_load.specs.Catalog.{IsCatalog, IsTable, is_key_column}
 use Rattle.ssb_load.specs.Rules.{is_int}
 use Rattle.ssb_load.specs.Shapes.{TableShape}
 use Rattle.ssb_load.specs.declared.catalog.ColumnDef.{ColumnDef}
-use Rattle.ssb_load.proofs.ListFacts.{both}
 
 abbrev is_int_if_key : ColumnDef → Bool
 is_int_if_key c = not (is_key_column c) || is_int c.rule.kind
@@ -30,13 +29,13 @@ is_short c = leb (length c.name) 128
 all-short : (cs : List ColumnDef) → list_all is_short cs ≡ true → All (λ c. length c.name ≤ 128) cs
 all-short [] e = All-nil (λ c. length c.name ≤ 128)
 all-short (c ∷ cs) e =
-    let h = both (is_short c) (list_all is_short cs) e in
+    let h = and_parts (is_short c) (list_all is_short cs) e in
     All-cons (λ c. length c.name ≤ 128) c cs (leb-true (length c.name) 128 h.0) (all-short cs h.1)
 
 int-keys : (cs : List ColumnDef) → list_all is_int_if_key cs ≡ true → All (λ c. is_key_column c ≡ true → c.rule.kind ≡ kinds.Int) cs
 int-keys [] e = All-nil (λ c. is_key_column c ≡ true → c.rule.kind ≡ kinds.Int)
 int-keys (c ∷ cs) e =
-    let h = both (is_int_if_key c) (list_all is_int_if_key cs) e in
+    let h = and_parts (is_int_if_key c) (list_all is_int_if_key cs) e in
     All-cons (λ c. is_key_column c ≡ true → c.rule.kind ≡ kinds.Int) c cs (int-of c.rule.kind (is_key_column c) h.0) (int-keys cs h.1)
 
 tested : (t : TableShape) → T (ltb 0 (length t.columns)) → T (leb (length t.columns) 64) → T (leb (length t.name) 128) → list_all is_short t.columns ≡ true → distinct_count bytes_eq (map (λ c. c.name) t.columns) ≡ length (map (λ c. c.name) t.columns)

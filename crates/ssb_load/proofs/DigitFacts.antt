@@ -1,5 +1,5 @@
 -- One digit more.
-use Rattle.std.proofs.Common.{◌≡◌, ◌+◌, ◌-◌, ◌*◌, ◌<◌, ◌≤◌, ◌^◌, ◌&&◌, ℕ, zero, suc, Bool, true, false, List, [], ◌∷◌, ◌++◌, length, take, get_or, refl, arith, add-one}
+use Rattle.std.proofs.Common.{◌≡◌, ◌+◌, ◌-◌, ◌*◌, ◌<◌, ◌≤◌, ◌^◌, ℕ, zero, suc, true, List, [], ◌∷◌, ◌++◌, length, take, get_or, refl, arith, add-one}
 use Rattle.std.specs.Str.{all_ascii_digits}
 use Rattle.std.specs.Str.Parse.{digits_value}
 use Rattle.std.specs.Char.{digit_value, is_ascii_digit}
@@ -8,6 +8,7 @@ use Rattle.std.proofs.Math.Nat.{pow-le-pow_right}
 use Rattle.std.proofs.lemmas.List.{take_more}
 use Rattle.std.proofs.lemmas.Int.Digits.{digits_value_more}
 use Rattle.std.proofs.lemmas.Bool.Decides.{nat_tests}
+use Rattle.std.proofs.lemmas.Bool.{and_parts}
 
 pub digits-room : (k value : ℕ) → k < 18 → value < 10 ^ k → value * 10 + 9 < 2 ^ 63
 digits-room k value lt small =
@@ -26,10 +27,6 @@ digit-is c lo hi = grind (arith, nat_tests)
 is-digit : (c : ℕ) → 48 ≤ c → c ≤ 57 → is_ascii_digit c ≡ true
 is-digit c lo hi = grind (arith, nat_tests)
 
-both : (a b : Bool) → (a && b) ≡ true → (a ≡ true) × (b ≡ true)
-both true b e = (refl, e)
-both false b e = cc e
-
 get-same : (bs : List ℕ) (k p q : ℕ) → k < length bs → get_or bs k p ≡ get_or bs k q
 get-same [] k p q lt = absurd (omega arith)
 get-same (b ∷ bs) zero p q lt = refl
@@ -37,7 +34,7 @@ get-same (b ∷ bs) (suc k) p q lt = get-same bs k p q (omega arith)
 
 all-push : (xs : List ℕ) (c : ℕ) → all_ascii_digits xs ≡ true → is_ascii_digit c ≡ true → all_ascii_digits (xs ++ c ∷ []) ≡ true
 all-push [] c all is = rw is refl
-all-push (x ∷ xs) c all is = let (a, b) = both (is_ascii_digit x) (all_ascii_digits xs) all in rw a (all-push xs c b is)
+all-push (x ∷ xs) c all is = let (a, b) = and_parts (is_ascii_digit x) (all_ascii_digits xs) all in rw a (all-push xs c b is)
 
 pub digit-more : (bs : List ℕ) (k value d : ℕ) (q : ℕ) → k < length bs → value ≡ digits_value 10 (take k bs) → all_ascii_digits (take k bs) ≡ true → value < 10 ^ k
     → 48 ≤ get_or bs k q → get_or bs k q ≤ 57 → d ≡ get_or bs k q - 48

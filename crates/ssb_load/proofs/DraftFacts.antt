@@ -6,9 +6,10 @@ use Rattle.std.specs.Str.{bytes_eq}
 use Rattle.std.proofs.lemmas.Bool.{cases_Bool}
 use Rattle.std.proofs.lemmas.Bool.Decides.{nat_tests}
 use Rattle.std.proofs.lemmas.Cmp.{nat_list_eq_equiv}
-use Rattle.std.proofs.lemmas.List.{append-nil, map-append}
+use Rattle.std.proofs.lemmas.List.{append-nil, length-map, map-append}
 use Rattle.std.proofs.lemmas.List.Elements.{All-push, All-nil, All-from_recursion, recursion_from_All, filter-append}
 use Rattle.std.proofs.lemmas.Map.Keys.{IsDistinct-push}
+use Rattle.ssb_load.proofs.Choices.{cond-none}
 use Rattle.ssb_cells.specs.declared.value.ColType.{ColType}
 use Rattle.ssb_cells.specs.declared.value.ColType.TheVariants as kinds
 use Rattle.ssb_load.specs.Shapes.{TableShape}
@@ -28,10 +29,6 @@ record Fits (columns : List ColumnDef) (c : ColumnDef) : Type 0 where
   one_key : (is_key_column c && list_any is_key_column columns) ≡ false
   int_key : (is_key_column c && not (is_int c.rule.kind)) ≡ false
   room : length columns < 64
-
-cond-none : {A : Type 0} (b : Bool) (x : A) (o : Option A) → cond b (Some x) o ≡ None → (b ≡ false) × (o ≡ None)
-cond-none true x o e = cc e
-cond-none false x o e = (refl, e)
 
 any-names : (name : List ℕ) (cs : List ColumnDef) → list_any (bytes_eq name) (map (λ c. c.name) cs) ≡ list_any (is_column_named name) cs
 any-names name [] = refl
@@ -100,10 +97,6 @@ each-put (t ∷ ts) name c short h f =
       | inr other ↦ rw other (h.0, each-put ts name c short h.1 (fits-past t ts name c other f))
     ]
 
-or-none : (a b : Bool) → (a || b) ≡ false → (a ≡ false) × (b ≡ false)
-or-none true b e = cc e
-or-none false b e = (refl, e)
-
 -- the names of tables with one more column
 same-names : (ts : List TableShape) (name : List ℕ) (c : ColumnDef) → list_any (is_table_named name) ts ≡ true → map (λ t. t.name) (with_column ts name c) ≡ map (λ t. t.name) ts
 same-names [] name c e = cc e
@@ -113,12 +106,8 @@ same-names (t ∷ ts) name c e =
       | inr other ↦ rw (other, same-names ts name c (rw other at e)) refl
     ]
 
-len-map : {A B : Type 0} (f : A → B) (xs : List A) → length (map f xs) ≡ length xs
-len-map f [] = refl
-len-map f (x ∷ xs) = let h = len-map f xs in omega arith
-
 same-length : (ts us : List TableShape) → map (λ t. t.name) ts ≡ map (λ t. t.name) us → length ts ≡ length us
-same-length ts us e = sym (len-map (λ (t : TableShape). t.name) ts) ∙ ap length e ∙ len-map (λ (t : TableShape). t.name) us
+same-length ts us e = sym (length-map ts (λ (t : TableShape). t.name)) ∙ ap length e ∙ length-map us (λ (t : TableShape). t.name)
 
 any-tables : (name : List ℕ) (ts : List TableShape) → list_any (bytes_eq name) (map (λ t. t.name) ts) ≡ list_any (is_table_named name) ts
 any-tables name [] = refl

@@ -1,9 +1,11 @@
 -- The fault of a record, test by test.
-use Rattle.std.proofs.Common.{◌≡◌, ◌∙◌, ◌++◌, ◌||◌, ℕ, ℤ, Bool, true, false, cond, List, [], ◌∷◌, length, Option, Some, None, refl, sym, ap, not, append_assoc}
+use Rattle.std.proofs.Common.{◌≡◌, ◌∙◌, ◌++◌, ◌||◌, ℕ, ℤ, Bool, true, false, List, [], ◌∷◌, length, Option, Some, None, refl, sym, ap, not, append_assoc}
 use Rattle.std.specs.Prelude.{nat_le, ◌+◌}
 use Rattle.std.specs.List.{list_all}
 use Rattle.std.specs.Str.{is_utf8}
 use Rattle.std.proofs.lemmas.List.{append-nil}
+use Rattle.std.proofs.lemmas.Bool.{or_parts}
+use Rattle.ssb_load.proofs.Choices.{cond-none}
 use Rattle.ssb_load.specs.Records.{Fields, field}
 use Rattle.ssb_load.specs.Rules.{any_from, any_field, key_of}
 use Rattle.ssb_load.specs.Loader.{fails}
@@ -24,10 +26,6 @@ pub record Passes (rules : List Rule) (max_rows count : ℕ) (has : ℤ → Bool
   pub fresh : repeats (key_of rules r) has ≡ false
   pub room : nat_le max_rows count ≡ false
   pub lengths : any_field (fails tests.Length) rules r ≡ false
-
-cond-none : {A : Type 0} (b : Bool) (x : A) (o : Option A) → cond b (Some x) o ≡ None → (b ≡ false) × (o ≡ None)
-cond-none true x o e = cc e
-cond-none false x o e = (refl, e)
 
 not-false : (b : Bool) → not b ≡ false → b ≡ true
 not-false true e = refl
@@ -61,14 +59,10 @@ any-or s t at (p ∷ ps) r = rw (any-or s t (at + 1) ps r) (or-swap (s p (field 
 pub some-is : (ps : List Rule) (r : Fields) → any_from fails_some 0 ps r ≡ (any_field (fails tests.Number) ps r || (any_field (fails tests.Value) ps r || any_field (fails tests.Length) ps r))
 some-is ps r = any-or (fails tests.Number) (λ p f. fails tests.Value p f || fails tests.Length p f) 0 ps r ∙ ap (λ t. any_field (fails tests.Number) ps r || t) (any-or (fails tests.Value) (fails tests.Length) 0 ps r)
 
-or-none : (a b : Bool) → (a || b) ≡ false → (a ≡ false) × (b ≡ false)
-or-none true b e = cc e
-or-none false b e = (refl, e)
-
 pub all-pass : (ps : List Rule) (r : Fields) → any_from fails_some 0 ps r ≡ false → (any_field (fails tests.Number) ps r ≡ false) × (any_field (fails tests.Value) ps r ≡ false) × (any_field (fails tests.Length) ps r ≡ false)
 all-pass ps r e =
-    let a = or-none _ _ (sym (some-is ps r) ∙ e) in
-    let b = or-none _ _ a.1 in
+    let a = or_parts _ _ (sym (some-is ps r) ∙ e) in
+    let b = or_parts _ _ a.1 in
     (a.0, b.0, b.1)
 
 pub some-passes : (ps : List Rule) (m n : ℕ) (has : ℤ → Bool) (r : Fields) → Passes ps m n has r → any_from fails_some 0 ps r ≡ false

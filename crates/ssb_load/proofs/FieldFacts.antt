@@ -3,7 +3,7 @@ use Rattle.std.proofs.Common.{◌≡◌, ◌<◌, ◌&&◌, ℕ, zero, suc, Bool
 use Rattle.std.specs.List.{list_all}
 use Rattle.std.specs.Str.{is_utf8, IsUtf8}
 use Rattle.std.proofs.lemmas.Str.{is_utf8-from_IsUtf8, IsUtf8-from_is_utf8, IsUtf8-nil}
-use Rattle.std.proofs.lemmas.Bool.{cases_Bool}
+use Rattle.std.proofs.lemmas.Bool.{and_parts, cases_Bool}
 use Rattle.std.specs.Str.{IsAscii}
 use Rattle.std.specs.Prelude.{◌-◌}
 use Rattle.std.proofs.lemmas.Str.{IsUtf8-from_ascii, IsAscii-take, IsAscii-drop}
@@ -13,10 +13,6 @@ use Rattle.ssb_load.specs.Records.{Fields, field}
 and-false : (a b : Bool) → b ≡ false → (a && b) ≡ false
 and-false true b e = e
 and-false false b e = refl
-
-and-both : (a b : Bool) → (a && b) ≡ true → (a ≡ true) × (b ≡ true)
-and-both true b e = (refl, e)
-and-both false b e = cc e
 
 pub texts-from : (fs : Fields) → ((k : ℕ) → k < length fs → is_utf8 (field fs k) ≡ true) → list_all is_utf8 fs ≡ true
 unfolding field_at
@@ -32,8 +28,8 @@ texts-not (f ∷ fs) (suc k) lt e = and-false (is_utf8 f) (list_all is_utf8 fs) 
 pub texts-at : (fs : Fields) (k : ℕ) → list_all is_utf8 fs ≡ true → is_utf8 (field fs k) ≡ true
 unfolding field_at
 texts-at [] k e = is_utf8-from_IsUtf8 [] IsUtf8-nil
-texts-at (f ∷ fs) zero e = (and-both (is_utf8 f) (list_all is_utf8 fs) e).0
-texts-at (f ∷ fs) (suc k) e = texts-at fs k (and-both (is_utf8 f) (list_all is_utf8 fs) e).1
+texts-at (f ∷ fs) zero e = (and_parts (is_utf8 f) (list_all is_utf8 fs) e).0
+texts-at (f ∷ fs) (suc k) e = texts-at fs k (and_parts (is_utf8 f) (list_all is_utf8 fs) e).1
 
 pub not-text : (bs : List ℕ) → ¬ (IsUtf8 bs) → is_utf8 bs ≡ false
 not-text bs never = elim (cases_Bool (is_utf8 bs)) [ inl h ↦ absurd (never (IsUtf8-from_is_utf8 bs h)) | inr e ↦ e ]

@@ -2,7 +2,7 @@
 use Rattle.std.proofs.Common.{◌≡◌, ◌∙◌, ◌++◌, ◌||◌, ℕ, Bool, true, false, cond, not, List, [], ◌∷◌, map, inl, inr, refl, ap}
 use Rattle.std.specs.List.{AllByRecursion, IsDistinct, filter, list_any}
 use Rattle.std.specs.Str.{bytes_eq}
-use Rattle.std.proofs.lemmas.Bool.{cases_Bool}
+use Rattle.std.proofs.lemmas.Bool.{cases_Bool, or_parts}
 use Rattle.std.proofs.lemmas.Cmp.{nat_list_eq_equiv}
 use Rattle.std.proofs.lemmas.List.{append-nil, map-append}
 use Rattle.std.proofs.lemmas.List.Elements.{filter-append}
@@ -126,13 +126,9 @@ put-found f g x c (n ∷ ns) h apart has =
           rw (other, e, rest) refl)
     ]
 
-or-none : (a b : Bool) → (a || b) ≡ false → (a ≡ false) × (b ≡ false)
-or-none true b e = cc e
-or-none false b e = (refl, e)
-
 all-other : (x : List ℕ) (ns : List (List ℕ)) → list_any (bytes_eq x) ns ≡ false → AllByRecursion (λ n. bytes_eq n x ≡ false) ns
 all-other x [] none = tt
-all-other x (n ∷ ns) none = let h = or-none (bytes_eq x n) (list_any (bytes_eq x) ns) none in (flipped x n false h.0, all-other x ns h.1)
+all-other x (n ∷ ns) none = let h = or_parts (bytes_eq x n) (list_any (bytes_eq x) ns) none in (flipped x n false h.0, all-other x ns h.1)
 
 any-named : (f : List ℕ → List ColumnDef) (x : List ℕ) (ns : List (List ℕ)) → list_any (is_table_named x) (tables_by f ns) ≡ list_any (bytes_eq x) ns
 any-named f x [] = refl
@@ -159,7 +155,7 @@ columns-push good r =
 
 no-records : (x : List ℕ) (rs : List Fields) → list_any (bytes_eq x) (map table_in rs) ≡ false → columns_in rs x ≡ []
 no-records x [] none = refl
-no-records x (r ∷ rs) none = let h = or-none (bytes_eq x (table_in r)) (list_any (bytes_eq x) (map table_in rs)) none in rw h.0 (no-records x rs h.1)
+no-records x (r ∷ rs) none = let h = or_parts (bytes_eq x (table_in r)) (list_any (bytes_eq x) (map table_in rs)) none in rw h.0 (no-records x rs h.1)
 
 push-by-names : (good : List Fields) (r : Fields) (m : Bool) → list_any (bytes_eq (table_in r)) (map table_in good) ≡ m
     → with_column (tables_in good) (table_in r) (column_in r) ≡ tables_by (columns_in (good ++ r ∷ [])) (cond m (table_names good) (table_names good ++ table_in r ∷ []))

@@ -1,7 +1,7 @@
 -- One more record in the columns and among the keys.
-use Rattle.std.proofs.Common.{◌≡◌, ◌∙◌, ◌++◌, ◌+◌, ℕ, ℤ, Bool, true, false, cond, ◌||◌, List, [], ◌∷◌, length, map, take, get_or, zero, suc, ◌<◌, add-one, Option, Some, None, refl, sym, ap, arith}
+use Rattle.std.proofs.Common.{◌≡◌, ◌∙◌, ◌++◌, ◌+◌, ℕ, ℤ, Bool, true, false, cond, ◌||◌, List, [], ◌∷◌, length, take, get_or, zero, suc, ◌<◌, add-one, Option, Some, None, refl, sym, ap, arith}
 use Rattle.std.proofs.lemmas.Cmp.{int_eq_equiv}
-use Rattle.std.proofs.lemmas.List.{map-append}
+use Rattle.std.proofs.lemmas.List.{length-map, map-append}
 use Rattle.ssb_cells.specs.Cell.{Filled}
 use Rattle.ssb_cells.specs.Tables.{AreLong, rows_in}
 use Rattle.ssb_load.proofs.RuleFacts.{sized-len}
@@ -44,13 +44,9 @@ pub columns-last : (at : ℕ) (ps : List Rule) (good : List Fields) (r : Fields)
 columns-last at [] good r = refl
 columns-last at (p ∷ ps) good r = rw (columns-last (at + 1) ps good r, map-append) refl
 
-len-map : {A B : Type 0} (f : A → B) (xs : List A) → length (map f xs) ≡ length xs
-len-map f [] = refl
-len-map f (x ∷ xs) = let h = len-map f xs in omega arith
-
 pub columns-sized : (at : ℕ) (ps : List Rule) (good : List Fields) → AreSized (length good) ps (columns_from at ps good)
 columns-sized at [] good = tt
-columns-sized at (p ∷ ps) good = (refl, len-map _ good, columns-sized (at + 1) ps good)
+columns-sized at (p ∷ ps) good = (refl, length-map good _, columns-sized (at + 1) ps good)
 
 pub holds-more : (rules : List Rule) (good : List Fields) (r : Fields) (seen seen' : List ℤ) (columns columns' : List Filled) → Holds rules good seen columns
     → AddsKey (key_of rules r) seen seen' → columns' ≡ with_record rules columns r → Holds rules (good ++ r ∷ []) seen' columns'

@@ -1,13 +1,13 @@
 -- Good records give a lawful table.
-use Rattle.std.proofs.Common.{◌≡◌, ◌≢◌, ◌∙◌, ◌+◌, ◌<◌, ◌++◌, ◌||◌, ◌&&◌, ℕ, ℤ, zero, suc, Bool, true, false, cond, not, List, [], ◌∷◌, length, map, take, get_or, slice_get, Option, Some, None, inl, inr, refl, sym, ap, subst, arith, append_assoc}
+use Rattle.std.proofs.Common.{◌≡◌, ◌≢◌, ◌∙◌, ◌+◌, ◌<◌, ◌++◌, ◌&&◌, ℕ, ℤ, zero, suc, Bool, true, false, cond, not, List, [], ◌∷◌, length, map, take, get_or, slice_get, Option, Some, None, inl, inr, refl, sym, ap, subst, arith, append_assoc}
 use Rattle.std.specs.Prelude.{All, AllPairs, is_none, nat_lt, unwrap_or, pos, neg_ℤ, drop, ◌^◌, ◌≤◌}
 use Rattle.std.specs.Str.{all_ascii_digits}
 use Rattle.std.specs.Str.Parse.{digits_value, starts_with_minus}
 use Rattle.std.specs.List.{list_any}
 use Rattle.std.specs.Ordering.{int_eq}
-use Rattle.std.proofs.lemmas.Bool.{false≢true}
+use Rattle.std.proofs.lemmas.Bool.{false≢true, or_parts}
 use Rattle.std.proofs.lemmas.Bool.Decides.{Decides-int_eq, Decides-ltb, leb_tells, nat_tests}
-use Rattle.std.proofs.lemmas.List.{append-nil}
+use Rattle.std.proofs.lemmas.List.{append-nil, get_or-map, length-map}
 use Rattle.std.proofs.lemmas.List.Elements.{All-cons, All-nil}
 use Rattle.ssb_cells.specs.Cell.{Cell, Filled, null, number}
 use Rattle.ssb_cells.specs.declared.value.ColType.{ColType}
@@ -24,24 +24,11 @@ use Rattle.ssb_load.specs.declared.rule.Rule.{Rule}
 use Rattle.ssb_load.specs.declared.rule.Test.TheVariants as tests
 use Rattle.ssb_load.proofs.FaultFacts.{Passes, passes, later-none}
 
-or-none : (a b : Bool) → (a || b) ≡ false → (a ≡ false) × (b ≡ false)
-or-none true b e = cc e
-or-none false b e = (refl, e)
-
-length-map : {A B : Type 0} (f : A → B) (xs : List A) → length (map f xs) ≡ length xs
-length-map f [] = refl
-length-map f (x ∷ xs) = let h = length-map f xs in omega arith
-
-get-map : {A B : Type 0} (f : A → B) (xs : List A) (i : ℕ) (a : A) (b : B) → i < length xs → get_or (map f xs) i b ≡ f (get_or xs i a)
-get-map f [] i a b lt = absurd (omega arith)
-get-map f (x ∷ xs) zero a b lt = refl
-get-map f (x ∷ xs) (suc i) a b lt = get-map f xs i a b (omega arith)
-
 all-map : {A B : Type 0} (f : A → B) (P : B → Type 0) (a : A) (xs : List A) → ((i : ℕ) → i < length xs → P (f (get_or xs i a))) → All P (map f xs)
 all-map f P a xs h k d lt =
-    let n = length-map f xs in
+    let n = length-map xs f in
     let small : k < length xs = omega arith in
-    subst P (sym (get-map f xs k a d small)) (h k small)
+    subst P (sym (get_or-map f xs k a d small)) (h k small)
 
 -- each record of good ones passes, beside those before it
 pub each-good : (rules : List Rule) (m : ℕ) (before rs : List Fields) (j : ℕ) → first_fault rules m before rs ≡ None → j < length rs → fault_of rules m (before ++ take j rs) (get_or rs j []) ≡ None
@@ -58,10 +45,10 @@ any-at t at k [] p r e is = cc is
 any-at t at zero (q ∷ ps) p r e is =
     let same : q ≡ p = cc in
     let h : at + 0 ≡ at = omega arith in
-    rw (← same, h) (or-none _ _ e).0
+    rw (← same, h) (or_parts _ _ e).0
 any-at t at (suc k) (q ∷ ps) p r e is =
     let h : at + suc k ≡ at + 1 + k = omega arith in
-    rw h (any-at t (at + 1) k ps p r (or-none _ _ e).1 is)
+    rw h (any-at t (at + 1) k ps p r (or_parts _ _ e).1 is)
 
 -- the column of a rule
 column-at : (at k : ℕ) (ps : List Rule) (p : Rule) (rs : List Fields) (c : Filled) → slice_get ps k ≡ Some p → slice_get (columns_from at ps rs) k ≡ Some c → c ≡ record { kind = p.kind; values = map (λ r. cell_in p.kind (field r (at + k))) rs }
@@ -152,17 +139,17 @@ obeys at (p ∷ ps) rs h = (
   record {
     kind = refl;
     typed = all-map (λ r. cell_in p.kind (field r at)) (FitsType p.kind) [] rs (λ i lt. fits-cell p.kind (field (get_or rs i []) at));
-    given = all-map (λ r. cell_in p.kind (field r at)) IsGiven [] rs (λ i lt. given-cell p.kind (field (get_or rs i []) at) (or-none _ _ (h i lt).1).0);
-    needed = λ needs. all-map (λ r. cell_in p.kind (field r at)) (λ v. v ≢ null) [] rs (λ i lt. cell-some p.kind (field (get_or rs i []) at) (and-true (needs_value p.role) _ needs (or-none _ _ (h i lt).0).0));
+    given = all-map (λ r. cell_in p.kind (field r at)) IsGiven [] rs (λ i lt. given-cell p.kind (field (get_or rs i []) at) (or_parts _ _ (h i lt).1).0);
+    needed = λ needs. all-map (λ r. cell_in p.kind (field r at)) (λ v. v ≢ null) [] rs (λ i lt. cell-some p.kind (field (get_or rs i []) at) (and-true (needs_value p.role) _ needs (or_parts _ _ (h i lt).0).0));
   },
-  obeys (at + 1) ps rs (λ i lt. ((or-none _ _ (h i lt).0).1, (or-none _ _ (h i lt).1).1)),
+  obeys (at + 1) ps rs (λ i lt. ((or_parts _ _ (h i lt).0).1, (or_parts _ _ (h i lt).1).1)),
 )
 
 -- no key of the records before is that of a record
 any-none-at : {A : Type 0} (t : A → Bool) (xs : List A) (i : ℕ) (d : A) → list_any t xs ≡ false → i < length xs → t (get_or xs i d) ≡ false
 any-none-at t [] i d e lt = absurd (omega arith)
-any-none-at t (x ∷ xs) zero d e lt = (or-none _ _ e).0
-any-none-at t (x ∷ xs) (suc i) d e lt = any-none-at t xs i d (or-none _ _ e).1 (omega arith)
+any-none-at t (x ∷ xs) zero d e lt = (or_parts _ _ e).0
+any-none-at t (x ∷ xs) (suc i) d e lt = any-none-at t xs i d (or_parts _ _ e).1 (omega arith)
 
 get-take : {A : Type 0} (i j : ℕ) (xs : List A) (d : A) → i < j → get_or (take j xs) i d ≡ get_or xs i d
 get-take i zero [] d lt = refl
@@ -181,7 +168,7 @@ some-number : (o : Option ℤ) → is_none o ≡ false → (z : ℤ) × (o ≡ S
 some-number None e = absurd (false≢true (sym e))
 some-number (Some z) e = (z, refl)
 
-key-needs : (role : Role) → is_key role ≡ true → needs_value role ≡ true
+pub key-needs : (role : Role) → is_key role ≡ true → needs_value role ≡ true
 key-needs roles.Key e = refl
 key-needs roles.Need e = cc e
 key-needs roles.Nullable e = cc e
@@ -235,9 +222,9 @@ keys-differ rules m rs k p e at key int place i j lt lj same =
 
 pairs-map : {A B : Type 0} (f : A → B) (a : A) (xs : List A) → ((i j : ℕ) → i < j → j < length xs → f (get_or xs i a) ≡ f (get_or xs j a) → ⊥) → AllPairs (λ x y. x ≢ y) (map f xs)
 pairs-map f a xs h i j d lt lj same =
-    let n = length-map f xs in
+    let n = length-map xs f in
     let small : j < length xs = omega arith in
-    h i j lt small (sym (get-map f xs i a d (omega arith)) ∙ same ∙ get-map f xs j a d small)
+    h i j lt small (sym (get_or-map f xs i a d (omega arith)) ∙ same ∙ get_or-map f xs j a d small)
 
 -- there are no more good records than rows allowed
 good-few : (rules : List Rule) (m : ℕ) (rs : List Fields) → first_fault rules m [] rs ≡ None → length rs ≤ m
@@ -252,7 +239,7 @@ few-rows : (m at : ℕ) (ps : List Rule) (rs : List Fields) → length rs ≤ m 
 few-rows m at [] rs le = All-nil (λ (c : Filled). length c.values ≤ m)
 few-rows m at (p ∷ ps) rs le =
     All-cons (λ (c : Filled). length c.values ≤ m) (record { kind = p.kind; values = map (λ r. cell_in p.kind (field r at)) rs }) (columns_from (at + 1) ps rs)
-    (let n = length-map (λ r. cell_in p.kind (field r at)) rs in omega (arith, n, le)) (few-rows m (at + 1) ps rs le)
+    (let n = length-map rs (λ r. cell_in p.kind (field r at)) in omega (arith, n, le)) (few-rows m (at + 1) ps rs le)
 
 -- the columns of good records are a lawful table
 pub lawful : (rules : List Rule) (m : ℕ) (rs : List Fields) (columns : List Filled) → HasOneKey rules → first_fault rules m [] rs ≡ None → columns ≡ columns_of rules rs → IsLawful rules m columns

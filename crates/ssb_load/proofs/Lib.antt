@@ -3,6 +3,7 @@ pub mod BuiltInFacts
 pub mod CatalogFaults
 pub mod CatalogLaws
 mod CatalogTaking
+pub mod Choices
 mod Cutting
 pub mod DigitFacts
 pub mod DraftFacts

@@ -1,9 +1,9 @@
 -- The table of a name, by its place.
-use Rattle.std.proofs.Common.{◌≡◌, ◌∙◌, ◌<◌, ◌++◌, ◌||◌, ℕ, zero, suc, Bool, true, false, List, [], ◌∷◌, length, get_or, Some, None, inl, inr, refl, sym, ap, arith, ltb}
+use Rattle.std.proofs.Common.{◌≡◌, ◌∙◌, ◌<◌, ◌++◌, ℕ, zero, suc, Bool, true, false, List, [], ◌∷◌, length, get_or, Some, None, inl, inr, refl, sym, ap, arith, ltb}
 use Rattle.std.proofs.Math.ListN.{set}
 use Rattle.std.specs.List.{list_any, position, position_or_len}
 use Rattle.std.specs.Prelude.{nat_le}
-use Rattle.std.proofs.lemmas.Bool.{cases_Bool, ltb-false}
+use Rattle.std.proofs.lemmas.Bool.{cases_Bool, ltb-false, or_parts}
 use Rattle.std.proofs.lemmas.List.Folds.{list_any_none, list_any_at}
 use Rattle.std.proofs.lemmas.List.Quantifiers.{position-Some}
 use Rattle.std.proofs.lemmas.List.Sums.{fails_before_first}
@@ -32,17 +32,13 @@ put-at [] name c k d lt is before = absurd (omega arith)
 put-at (t ∷ ts) name c zero d lt is before = rw is refl
 put-at (t ∷ ts) name c (suc k) d lt is before = rw (before 0 (omega arith)) (ap (λ us. t ∷ us) (put-at ts name c k d (omega arith) is (λ j l. before (suc j) (omega arith))))
 
-or-none : (a b : Bool) → (a || b) ≡ false → (a ≡ false) × (b ≡ false)
-or-none true b e = cc e
-or-none false b e = (refl, e)
-
 pub columns-none : (ts : List TableShape) (name : List ℕ) → list_any (is_table_named name) ts ≡ false → columns_named ts name ≡ []
 columns-none [] name e = refl
-columns-none (t ∷ ts) name e = let h = or-none (is_table_named name t) (list_any (is_table_named name) ts) e in rw h.0 (columns-none ts name h.1)
+columns-none (t ∷ ts) name e = let h = or_parts (is_table_named name t) (list_any (is_table_named name) ts) e in rw h.0 (columns-none ts name h.1)
 
 pub put-none : (ts : List TableShape) (name : List ℕ) (c : ColumnDef) → list_any (is_table_named name) ts ≡ false → with_column ts name c ≡ ts ++ record { name = name; columns = c ∷ [] } ∷ []
 put-none [] name c e = refl
-put-none (t ∷ ts) name c e = let h = or-none (is_table_named name t) (list_any (is_table_named name) ts) e in rw h.0 (ap (λ us. t ∷ us) (put-none ts name c h.1))
+put-none (t ∷ ts) name c e = let h = or_parts (is_table_named name t) (list_any (is_table_named name) ts) e in rw h.0 (ap (λ us. t ∷ us) (put-none ts name c h.1))
 
 -- by the place of the first
 pub some-columns : (ts : List TableShape) (name : List ℕ) (k : ℕ) (d : TableShape) → position (is_table_named name) ts ≡ Some k → (get_or ts k d).columns ≡ columns_named ts name

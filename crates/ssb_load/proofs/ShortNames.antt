@@ -2,8 +2,8 @@
 use Rattle.std.proofs.Common.{◌≡◌, ◌≤◌, ◌&&◌, ℕ, Bool, true, false, cond, not, List, length, map, Option, Some, None, refl, arith}
 use Rattle.std.specs.Prelude.{nat_le, is_none}
 use Rattle.std.specs.Char.{to_ascii_lowercase}
-use Rattle.std.proofs.lemmas.Bool.Decides.{nat_tests}
 use Rattle.std.proofs.lemmas.List.{length-map}
+use Rattle.std.proofs.lemmas.Bool.{and_parts, leb-true}
 use Rattle.ssb_cells.specs.Names.{is_name}
 use Rattle.ssb_load.specs.Records.{Fields, field}
 use Rattle.ssb_load.specs.Catalog.{column_in, is_short_name, kind_named, role_named, spelling_fault, table_in}
@@ -21,17 +21,10 @@ not-refused : {A : Type 0} (b : Bool) (x : A) (o : Option A) → cond (not b) (S
 not-refused true x o e = (refl, e)
 not-refused false x o e = cc e
 
-both-true : (a b : Bool) → (a && b) ≡ true → (a ≡ true) × (b ≡ true)
-both-true true b e = (refl, e)
-both-true false b e = cc e
-
-at-most : (m n : ℕ) → nat_le m n ≡ true → m ≤ n
-at-most m n e = grind (arith, nat_tests)
-
 short-word : (word : List ℕ) → is_short_name word ≡ true → length (map to_ascii_lowercase word) ≤ 128
 short-word word e =
     let n = length-map word to_ascii_lowercase in
-    let m = at-most (length word) 128 (both-true (is_name word) (nat_le (length word) 128) e).1 in
+    let m = leb-true (length word) 128 (and_parts (is_name word) (nat_le (length word) 128) e).1 in
     omega arith
 
 pub short-names : (r : Fields) → spelling_fault r ≡ None → AreShort (table_in r) (column_in r)
@@ -42,5 +35,5 @@ short-names r e =
     let name : Option CatalogFault = cond (not words) (Some faults.BadName) kind in
     let wide = not-refused (has_width 4 r) faults.FieldCount name e in
     let named = not-refused words faults.BadName kind wide.1 in
-    let both = both-true (is_short_name (field r 0)) (is_short_name (field r 1)) named.0 in
+    let both = and_parts (is_short_name (field r 0)) (is_short_name (field r 1)) named.0 in
     record { table = short-word (field r 0) both.0; column = short-word (field r 1) both.1 }

@@ -1,8 +1,9 @@
 -- Each query of the grammar is read, and tokens spell one query at most.
-use Rattle.std.proofs.Common.{◌≡◌, ℕ, zero, suc, true, false, List, [], ◌∷◌, length, Option, Some, None, refl, sym, ap, ◌∙◌, arith}
+use Rattle.std.proofs.Common.{◌≡◌, ℕ, zero, suc, true, false, List, [], ◌∷◌, length, Option, Some, None, refl, sym, ◌∙◌, arith}
 use Rattle.ssb_sql.specs.declared.token.Token.{Token}
 use Rattle.ssb_sql.specs.declared.token.Token.TheVariants.{Fixed, Name}
 use Rattle.ssb_sql.specs.declared.token.Sign.{Sign}
+use Rattle.ssb_cells.specs.declared.keyword.Keyword.{Keyword}
 use Rattle.ssb_cells.specs.declared.keyword.Keyword.TheVariants as words
 use Rattle.ssb_sql.specs.declared.token.Mark.TheVariants as marks
 use Rattle.ssb_sql.specs.declared.token.Sign.TheVariants as s
@@ -27,10 +28,10 @@ use Rattle.ssb_sql.specs.Grammar.IsGroups.{no_groups, groups}
 use Rattle.ssb_sql.specs.Grammar.IsOrders.{no_orders, orders}
 use Rattle.ssb_sql.specs.Grammar.IsEnd.{end, semicolon}
 use Rattle.ssb_sql.specs.Grammar.Parses.{query}
-use Rattle.ssb_sql.specs.Steps.{after, is_sign, name_at, is_name_next, list_at, parens_at}
+use Rattle.ssb_sql.specs.Steps.{Parser, after, is_sign, name_at, is_name_next, list_at, parens_at}
 use Rattle.ssb_sql.specs.ReadParts.{column_at}
 use Rattle.ssb_sql.specs.ReadExpressions.{expr_at}
-use Rattle.ssb_sql.specs.ReadSelects.{count_at, output_at, item_at, where_at, groups_at, key_at, order_at, orders_at, ends, select_of, rest_at, query_at}
+use Rattle.ssb_sql.specs.ReadSelects.{count_at, output_at, item_at, where_at, by_at, key_at, order_at, ends, select_of, ordered_at, grouped_at, filtered_at, joined_at, query_at}
 use Rattle.ssb_sql.proofs.StepFacts.{some_is, Stops, stops, differs, sees}
 use Rattle.ssb_sql.proofs.Shapes.{Complete, GoesOn, closed_read, list_read, tame_list}
 use Rattle.ssb_sql.proofs.PartFacts.{tame_name, tame_column, named_read, name_read, number_read, column_read}
@@ -160,33 +161,35 @@ unfolding where_at
 where_read no_where d h n z = rw n refl
 where_read (where_cond {from = from} a) d h n z = rw (sees (s.Word words.Where) from, cond_read a d h z) refl
 
-groups_read : {from to : List Token} {xs : List ColumnName} → IsGroups from to xs → Stops (s.Word words.Group) to → Stops (s.Mark marks.Dot) to → Stops (s.Mark marks.Comma) to → groups_at from ≡ Some (xs, to)
-unfolding groups_at
-groups_read no_groups g m n = rw g refl
-groups_read (groups {from = from} {to = to} {xs = xs} a) g m n = rw (sees (s.Word words.Group) (Fixed (s.Word words.By) ∷ from), sees (s.Word words.By) from) (columns_read from to xs a m n)
+by_none : {A : Type 0} (word : Keyword) (p : Parser A) (ts : List Token) → Stops (s.Word word) ts → by_at word p ts ≡ Some ([], ts)
+unfolding by_at
+by_none word p ts g = rw g refl
 
-orders_read : {from to : List Token} {xs : List Order} → IsOrders from to xs → Stops (s.Word words.Order) to → EndsKey to → Stops (s.Mark marks.Comma) to → orders_at from ≡ Some (xs, to)
-unfolding orders_at
-orders_read no_orders g z n = rw g refl
-orders_read (orders {from = from} {to = to} {xs = xs} a) g z n = rw (sees (s.Word words.Order) (Fixed (s.Word words.By) ∷ from), sees (s.Word words.By) from) (keys_read from to xs a z n)
+by_goes : {A : Type 0} (word : Keyword) (p : Parser A) (from to : List Token) (xs : List A) → list_at p from ≡ Some (xs, to) → by_at word p (Fixed (s.Word word) ∷ Fixed (s.Word words.By) ∷ from) ≡ Some (xs, to)
+unfolding by_at
+by_goes word p from to xs e = rw (sees (s.Word word) (Fixed (s.Word words.By) ∷ from), sees (s.Word words.By) from) e
+
+groups_read : {from to : List Token} {xs : List ColumnName} → IsGroups from to xs → Stops (s.Word words.Group) to → Stops (s.Mark marks.Dot) to → Stops (s.Mark marks.Comma) to → by_at words.Group column_at from ≡ Some (xs, to)
+groups_read (no_groups {to = to}) g m n = by_none words.Group column_at to g
+groups_read (groups {from = from} {to = to} {xs = xs} a) g m n = by_goes words.Group column_at from to xs (columns_read from to xs a m n)
+
+orders_read : {from to : List Token} {xs : List Order} → IsOrders from to xs → Stops (s.Word words.Order) to → EndsKey to → Stops (s.Mark marks.Comma) to → by_at words.Order order_at from ≡ Some (xs, to)
+orders_read (no_orders {to = to}) g z n = by_none words.Order order_at to g
+orders_read (orders {from = from} {to = to} {xs = xs} a) g z n = by_goes words.Order order_at from to xs (keys_read from to xs a z n)
 
 ends_read : {ts : List Token} → IsEnd ts → ends ts ≡ true
 unfolding ends
 ends_read end = rw (nil_stops (s.Mark marks.Semicolon)) refl
 ends_read semicolon = rw (sees (s.Mark marks.Semicolon) []) refl
 
-rest_goes : (d : ℕ) (items : List Item) (from : List (List ℕ)) (c e f g : List Token) (w : Option Condition) (xs : List ColumnName) (ys : List Order) → where_at (suc d) c ≡ Some (w, e) → groups_at e ≡ Some (xs, f)
-    → orders_at f ≡ Some (ys, g) → rest_at d items from c ≡ Some (select_of items from w xs ys, g)
-unfolding rest_at
-rest_goes d items from c e f g w xs ys p q r = rw (p, q, r) refl
+query_goes : (d : ℕ) (a b c e f g : List Token) (items : List Item) (from : List (List ℕ)) (w : Option Condition) (xs : List ColumnName) (ys : List Order) → list_at (item_at d) a ≡ Some (items, Fixed (s.Word words.From) ∷ b)
+    → list_at name_at b ≡ Some (from, c) → where_at (suc d) c ≡ Some (w, e) → by_at words.Group column_at e ≡ Some (xs, f) → by_at words.Order order_at f ≡ Some (ys, g) → ends g ≡ true
+    → query_at d (Fixed (s.Word words.Select) ∷ a) ≡ Some (select_of items from w xs ys)
+unfolding query_at joined_at filtered_at grouped_at ordered_at
+query_goes d a b c e f g items from w xs ys i n p q r z = rw (sees (s.Word words.Select) a, i, sees (s.Word words.From) b, n, p, q, r, z) refl
 
-query_goes : (d : ℕ) (a b c g : List Token) (items : List Item) (from : List (List ℕ)) (x : Select) → list_at (item_at d) a ≡ Some (items, Fixed (s.Word words.From) ∷ b) → list_at name_at b ≡ Some (from, c)
-    → rest_at d items from c ≡ Some (x, g) → query_at d (Fixed (s.Word words.Select) ∷ a) ≡ Some (x, g)
-unfolding query_at
-query_goes d a b c g items from x p q r = rw (sees (s.Word words.Select) a, p, sees (s.Word words.From) b, q) r
-
--- what is read of a query, and that nothing is left but its end
-pub whole_read : {ts : List Token} {x : Select} → Parses ts x → (d : ℕ) → HasRoom d ts → (rest : List Token) × (query_at d ts ≡ Some (x, rest)) × (ends rest ≡ true)
+-- what is read of a query
+pub whole_read : {ts : List Token} {x : Select} → Parses ts x → (d : ℕ) → HasRoom d ts → query_at d ts ≡ Some x
 whole_read (query {a = a} {b = b} {c = c} {d = e} {e = f} {f = g} {items = items} {from = from} {condition = w} {groups = xs} {orders = ys} one two where_is groups_are orders_are last) d h =
     let within_b : HasRoom d b = (tame_list IsItem tame_item).within one d h in
     let within_c : HasRoom d c = (tame_list IsNamed tame_name).within two d within_b in
@@ -203,22 +206,13 @@ whole_read (query {a = a} {b = b} {c = c} {d = e} {e = f} {f = g} {items = items
     let ends_key : EndsKey g = record { asc = end_stops last (s.Word words.Asc) (differs (s.Mark marks.Semicolon) (s.Word words.Asc) refl); desc = end_stops last (s.Word words.Desc) (differs (s.Mark marks.Semicolon) (s.Word words.Desc) refl) } in
     let r = orders_read orders_are (end_stops last (s.Word words.Order) (differs (s.Mark marks.Semicolon) (s.Word words.Order) refl)) ends_key (end_stops last (s.Mark marks.Comma) (differs (s.Mark marks.Semicolon) (s.Mark marks.Comma) refl)) in
     let comma_stops = where_stops where_is (s.Mark marks.Comma) (differs (s.Word words.Where) (s.Mark marks.Comma) refl) (stops_e (s.Mark marks.Comma) (differs (s.Mark marks.Semicolon) (s.Mark marks.Comma) refl) (differs (s.Word words.Order) (s.Mark marks.Comma) refl) (differs (s.Word words.Group) (s.Mark marks.Comma) refl)) in
-    (g, query_goes d a b c g items from (select_of items from w xs ys) (items_read d a b items one h) (names_read b c from two comma_stops) (rest_goes d items from c e f g w xs ys p q r), ends_read last)
+    query_goes d a b c e f g items from w xs ys (items_read d a b items one h) (names_read b c from two comma_stops) p q r (ends_read last)
 
 -- tokens spell one query at most
 pub one_meaning : (ts : List Token) (x y : Select) → Parses ts x → Parses ts y → x ≡ y
 one_meaning ts x y a b =
     let h = all_within ts (length ts) (omega arith) in
-    let p = whole_read a (length ts) h in
-    let q = whole_read b (length ts) h in
-    ap (λ (r : Select × List Token). r.0) (some_is (x, p.0) (y, q.0) (sym p.1 ∙ q.1))
+    some_is x y (sym (whole_read a (length ts) h) ∙ whole_read b (length ts) h)
 
 pub spells_none : (ts : List Token) → HasRoom 64 ts → query_at 64 ts ≡ None → (y : Select) → Parses ts y → ⊥
-spells_none ts h e y is = let f = (whole_read is 64 h).1 in absurd cc
-
-pub spells_less : (ts rest : List Token) (x : Select) → HasRoom 64 ts → query_at 64 ts ≡ Some (x, rest) → ends rest ≡ false → (y : Select) → Parses ts y → ⊥
-spells_less ts rest x h e n y is =
-    let f = whole_read is 64 h in
-    let same : rest ≡ f.0 = ap (λ (r : Select × List Token). r.1) (some_is (x, rest) (y, f.0) (sym e ∙ f.1)) in
-    let z : ends rest ≡ true = ap ends same ∙ f.2 in
-    absurd cc
+spells_none ts h e y is = let f = whole_read is 64 h in absurd cc

@@ -2,6 +2,7 @@
 use Rattle.std.proofs.Common.{◌≡◌, ℕ, suc, true, List, [], ◌∷◌, Option, Some, None, refl, sym, ap, subst, ◌∙◌, inl, inr}
 use Rattle.ssb_sql.specs.declared.token.Token.{Token}
 use Rattle.ssb_sql.specs.declared.token.Token.TheVariants.{Fixed}
+use Rattle.ssb_cells.specs.declared.keyword.Keyword.{Keyword}
 use Rattle.ssb_cells.specs.declared.keyword.Keyword.TheVariants as words
 use Rattle.ssb_sql.specs.declared.token.Mark.TheVariants as marks
 use Rattle.ssb_sql.specs.declared.token.Sign.TheVariants as s
@@ -10,19 +11,19 @@ use Rattle.ssb_sql.specs.declared.condition.Condition.{Condition}
 use Rattle.ssb_sql.specs.declared.select.Item.{Item}
 use Rattle.ssb_sql.specs.declared.select.Order.{Order}
 use Rattle.ssb_sql.specs.declared.select.Select.{Select}
-use Rattle.ssb_sql.specs.Forms.{IsList, IsNamed, IsColumn}
+use Rattle.ssb_sql.specs.Forms.{Spelling, IsList, IsNamed, IsColumn}
 use Rattle.ssb_sql.specs.Grammar.{IsItem, IsWhere, IsGroups, IsOrder, IsOrders, IsEnd, Parses}
 use Rattle.ssb_sql.specs.Grammar.IsWhere.{no_where, where_cond}
 use Rattle.ssb_sql.specs.Grammar.IsGroups.{no_groups, groups}
 use Rattle.ssb_sql.specs.Grammar.IsOrders.{no_orders, orders}
 use Rattle.ssb_sql.specs.Grammar.IsEnd.{end, semicolon}
 use Rattle.ssb_sql.specs.Grammar.Parses.{query}
-use Rattle.ssb_sql.specs.Steps.{after, name_at, list_at}
+use Rattle.ssb_sql.specs.Steps.{Parser, after, name_at, list_at}
 use Rattle.ssb_sql.specs.ReadParts.{column_at}
 use Rattle.ssb_sql.specs.ReadConditions.{cond_at}
-use Rattle.ssb_sql.specs.ReadSelects.{item_at, where_at, groups_at, order_at, orders_at, is_nil, ends, select_of, rest_at, query_at}
-use Rattle.ssb_sql.proofs.StepFacts.{some_is, bind_some, choose_some, after_is}
-use Rattle.ssb_sql.proofs.Shapes.{spells, starts, begins, followed, sound_list}
+use Rattle.ssb_sql.specs.ReadSelects.{item_at, where_at, by_at, order_at, is_nil, ends, select_of, ordered_at, grouped_at, filtered_at, joined_at, query_at}
+use Rattle.ssb_sql.proofs.StepFacts.{some_is, bind_some, choose_some, guard_some, after_is, two_are}
+use Rattle.ssb_sql.proofs.Shapes.{Sound, spells, starts, begins, followed, sound_list}
 use Rattle.ssb_sql.proofs.PartFacts.{sound_name, sound_column}
 use Rattle.ssb_sql.proofs.ConditionSound.{sound_cond}
 use Rattle.ssb_sql.proofs.ItemFacts.{sound_item, sound_order}
@@ -37,29 +38,19 @@ where_sound d ts x e =
       | inr g ↦ spells IsWhere ts ts None x no_where g.1
     ]
 
-groups_sound : (ts : List Token) (x : List ColumnName × List Token) → groups_at ts ≡ Some x → IsGroups ts x.1 x.0
-unfolding groups_at
-groups_sound ts x e =
-    elim (choose_some (after (s.Word words.Group) ts) _ _ (Some x) e) as (λ _. IsGroups ts x.1 x.0) [
+-- the word, BY and a list, or nothing
+by_sound : {A : Type 0} (word : Keyword) (p : Parser A) (R : Spelling A) (Q : Spelling (List A)) → Sound p R → ((to : List Token) → Q to to []) → ((from to : List Token) (xs : List A) → IsList R from to xs → Q (Fixed (s.Word word) ∷ Fixed (s.Word words.By) ∷ from) to xs)
+    → (ts : List Token) (x : List A × List Token) → by_at word p ts ≡ Some x → Q ts x.1 x.0
+unfolding by_at
+by_sound word p R Q h none some ts x e =
+    elim (choose_some (after (s.Word word) ts) _ _ (Some x) e) as (λ _. Q ts x.1 x.0) [
       | inl g ↦
           let f = bind_some (after (s.Word words.By) g.0) _ x g.2 in
-          let m : ts ≡ Fixed (s.Word words.Group) ∷ Fixed (s.Word words.By) ∷ f.0 = after_is (s.Word words.Group) ts g.0 g.1 ∙ ap (λ z. Fixed (s.Word words.Group) ∷ z) (after_is (s.Word words.By) g.0 f.0 f.1) in
-          starts IsGroups ts (Fixed (s.Word words.Group) ∷ Fixed (s.Word words.By) ∷ f.0) x.1 x.0 m (groups ((sound_list column_at IsColumn sound_column).by f.0 x f.2))
-      | inr g ↦ spells IsGroups ts ts [] x no_groups g.1
+          starts Q ts (Fixed (s.Word word) ∷ Fixed (s.Word words.By) ∷ f.0) x.1 x.0 (two_are (s.Word word) (s.Word words.By) ts g.0 f.0 g.1 f.1) (some f.0 x.1 x.0 ((sound_list p R h).by f.0 x f.2))
+      | inr g ↦ spells Q ts ts [] x (none ts) g.1
     ]
 
-orders_sound : (ts : List Token) (x : List Order × List Token) → orders_at ts ≡ Some x → IsOrders ts x.1 x.0
-unfolding orders_at
-orders_sound ts x e =
-    elim (choose_some (after (s.Word words.Order) ts) _ _ (Some x) e) as (λ _. IsOrders ts x.1 x.0) [
-      | inl g ↦
-          let f = bind_some (after (s.Word words.By) g.0) _ x g.2 in
-          let m : ts ≡ Fixed (s.Word words.Order) ∷ Fixed (s.Word words.By) ∷ f.0 = after_is (s.Word words.Order) ts g.0 g.1 ∙ ap (λ z. Fixed (s.Word words.Order) ∷ z) (after_is (s.Word words.By) g.0 f.0 f.1) in
-          starts IsOrders ts (Fixed (s.Word words.Order) ∷ Fixed (s.Word words.By) ∷ f.0) x.1 x.0 m (orders ((sound_list order_at IsOrder sound_order).by f.0 x f.2))
-      | inr g ↦ spells IsOrders ts ts [] x no_orders g.1
-    ]
-
-pub nil_is : (ts : List Token) → is_nil ts ≡ true → ts ≡ []
+nil_is : (ts : List Token) → is_nil ts ≡ true → ts ≡ []
 nil_is [] e = refl
 nil_is (t ∷ ts) e = absurd cc
 
@@ -71,26 +62,53 @@ ends_sound ts e =
       | inr g ↦ subst IsEnd (sym (nil_is ts g.1)) end
     ]
 
--- what follows the names of FROM, up to the end
-rest_sound : (d : ℕ) (items : List Item) (from : List (List ℕ)) (ts a b : List Token) (x : Select × List Token) → IsList IsItem a (Fixed (s.Word words.From) ∷ b) items → IsList IsNamed b ts from
-    → rest_at d items from ts ≡ Some x → IsEnd x.1 → Parses (Fixed (s.Word words.Select) ∷ a) x.0
-unfolding rest_at
-rest_sound d items from ts a b x one two e z =
-    let w = bind_some (where_at (suc d) ts) _ x e in
-    let g = bind_some (groups_at w.0.1) _ x w.2 in
-    let o = bind_some (orders_at g.0.1) _ x g.2 in
-    let same = some_is (select_of items from w.0.0 g.0.0 o.0.0, o.0.1) x o.2 in
-    let last : IsEnd o.0.1 = subst IsEnd (sym (ap (λ q. q.1) same)) z in
-    subst (λ q. Parses (Fixed (s.Word words.Select) ∷ a) q.0) same
-    (query one two (where_sound (suc d) ts w.0 w.1) (groups_sound w.0.1 g.0 g.1) (orders_sound g.0.1 o.0 o.1) last)
+-- the parts of a query, from the last one on
+ordered_is : (ts : List Token) (x : List Order) → ordered_at ts ≡ Some x → (to : List Token) × IsOrders ts to x × IsEnd to
+unfolding ordered_at
+ordered_is ts x e =
+    let o = bind_some (by_at words.Order order_at ts) _ x e in
+    let z = guard_some (ends o.0.1) o.0.0 x o.2 in
+    let here = by_sound words.Order order_at IsOrder IsOrders sound_order (λ to. no_orders) (λ from to xs a. orders a) ts o.0 o.1 in
+    (o.0.1, subst (λ y. IsOrders ts o.0.1 y) z.1 here, ends_sound o.0.1 z.0)
 
-pub query_sound : (d : ℕ) (ts : List Token) (x : Select × List Token) → query_at d ts ≡ Some x → ends x.1 ≡ true → Parses ts x.0
+grouped_is : (ts : List Token) (x : List ColumnName × List Order) → grouped_at ts ≡ Some x → (mid to : List Token) × IsGroups ts mid x.0 × IsOrders mid to x.1 × IsEnd to
+unfolding grouped_at
+grouped_is ts x e =
+    let g = bind_some (by_at words.Group column_at ts) _ x e in
+    let o = bind_some (ordered_at g.0.1) _ x g.2 in
+    let q = ordered_is g.0.1 o.0 o.1 in
+    let here = by_sound words.Group column_at IsColumn IsGroups sound_column (λ to. no_groups) (λ from to xs a. groups a) ts g.0 g.1 in
+    subst (λ y. (mid to : List Token) × IsGroups ts mid y.0 × IsOrders mid to y.1 × IsEnd to) (some_is (g.0.0, o.0) x o.2) (g.0.1, q.0, here, q.1, q.2)
+
+filtered_is : (d : ℕ) (ts : List Token) (x : Option Condition × List ColumnName × List Order) → filtered_at d ts ≡ Some x → (a b to : List Token) × IsWhere ts a x.0 × IsGroups a b x.1 × IsOrders b to x.2 × IsEnd to
+unfolding filtered_at
+filtered_is d ts x e =
+    let w = bind_some (where_at (suc d) ts) _ x e in
+    let g = bind_some (grouped_at w.0.1) _ x w.2 in
+    let q = grouped_is w.0.1 g.0 g.1 in
+    subst (λ y. (a b to : List Token) × IsWhere ts a y.0 × IsGroups a b y.1 × IsOrders b to y.2 × IsEnd to) (some_is (w.0.0, g.0.0, g.0.1) x g.2)
+    (w.0.1, q.0, q.1, where_sound (suc d) ts w.0 w.1, q.2, q.3, q.4)
+
+joined_is : (d : ℕ) (a ts : List Token) (items : List Item) (x : List (List ℕ) × Option Condition × List ColumnName × List Order) → IsList IsItem a ts items → joined_at d ts ≡ Some x
+    → Parses (Fixed (s.Word words.Select) ∷ a) (select_of items x.0 x.1 x.2 x.3)
+unfolding joined_at
+joined_is d a ts items x one e =
+    let t = bind_some (after (s.Word words.From) ts) _ x e in
+    let n = bind_some (list_at name_at t.0) _ x t.2 in
+    let w = bind_some (filtered_at d n.0.1) _ x n.2 in
+    let q = filtered_is d n.0.1 w.0 w.1 in
+    let first = followed (IsList IsItem) (s.Word words.From) a ts t.0 items t.1 one in
+    let two = (sound_list name_at IsNamed sound_name).by t.0 n.0 n.1 in
+    let read : List (List ℕ) × Option Condition × List ColumnName × List Order = (n.0.0, w.0.0, w.0.1, w.0.2) in
+    subst (λ y. Parses (Fixed (s.Word words.Select) ∷ a) (select_of items y.0 y.1 y.2 y.3)) {x = read} (some_is read x w.2)
+    (query first two q.3 q.4 q.5 q.6)
+
+pub query_sound : (d : ℕ) (ts : List Token) (x : Select) → query_at d ts ≡ Some x → Parses ts x
 unfolding query_at
-query_sound d ts x e z =
+query_sound d ts x e =
     let f = bind_some (after (s.Word words.Select) ts) _ x e in
     let i = bind_some (list_at (item_at d) f.0) _ x f.2 in
-    let t = bind_some (after (s.Word words.From) i.0.1) _ x i.2 in
-    let n = bind_some (list_at name_at t.0) _ x t.2 in
-    let one = followed (IsList IsItem) (s.Word words.From) f.0 i.0.1 t.0 i.0.0 t.1 ((sound_list (item_at d) IsItem (sound_item d)).by f.0 i.0 i.1) in
-    let two = (sound_list name_at IsNamed sound_name).by t.0 n.0 n.1 in
-    subst (λ us. Parses us x.0) (sym (after_is (s.Word words.Select) ts f.0 f.1)) (rest_sound d i.0.0 n.0.0 n.0.1 f.0 t.0 x one two n.2 (ends_sound x.1 z))
+    let j = bind_some (joined_at d i.0.1) _ x i.2 in
+    let one = (sound_list (item_at d) IsItem (sound_item d)).by f.0 i.0 i.1 in
+    let here = joined_is d f.0 i.0.1 i.0.0 j.0 one j.1 in
+    subst (λ us. Parses us x) (sym (after_is (s.Word words.Select) ts f.0 f.1)) (subst (λ y. Parses (Fixed (s.Word words.Select) ∷ f.0) y) (some_is (select_of i.0.0 j.0.0 j.0.1 j.0.2 j.0.3) x j.2) here)

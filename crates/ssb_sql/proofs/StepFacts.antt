@@ -94,7 +94,7 @@ same_sign (s.Mark a) (s.Mark b) e = ap (λ x. s.Mark x) (sym (mark_back a) ∙ a
 same_sign (s.Word a) (s.Mark b) e = absurd cc
 same_sign (s.Mark a) (s.Word b) e = absurd cc
 
-guard_some : {A : Type 0} (b : Bool) (x y : A) → cond b (Some x) None ≡ Some y → (b ≡ true) × (x ≡ y)
+pub guard_some : {A : Type 0} (b : Bool) (x y : A) → cond b (Some x) None ≡ Some y → (b ≡ true) × (x ≡ y)
 guard_some true x y e = (refl, cc)
 guard_some false x y e = absurd cc
 
@@ -108,6 +108,10 @@ after_is sign (Fixed found ∷ ts) rest e =
 after_is sign (Name n ∷ ts) rest e = absurd cc
 after_is sign (Number n ∷ ts) rest e = absurd cc
 after_is sign (Text t ∷ ts) rest e = absurd cc
+
+-- two signs in a row
+pub two_are : (a b : Sign) (ts mid rest : List Token) → after a ts ≡ Some mid → after b mid ≡ Some rest → ts ≡ Fixed a ∷ Fixed b ∷ rest
+two_are a b ts mid rest e f = after_is a ts mid e ∙ ap (λ z. Fixed a ∷ z) (after_is b mid rest f)
 
 -- what follows is shorter
 pub after_shorter : (sign : Sign) (ts rest : List Token) → after sign ts ≡ Some rest → length rest < length ts

@@ -2,6 +2,7 @@
 -- For the contracts inside this crate.
 use Rattle.std.specs.Prelude.{ℕ, suc, Bool, true, false, if◌then◌else◌, List, [], ◌∷◌, Option, Some, None}
 use Rattle.ssb_sql.specs.declared.token.Token.{Token}
+use Rattle.ssb_cells.specs.declared.keyword.Keyword.{Keyword}
 use Rattle.ssb_cells.specs.declared.keyword.Keyword.TheVariants as words
 use Rattle.ssb_sql.specs.declared.token.Mark.TheVariants as marks
 use Rattle.ssb_sql.specs.declared.token.Sign.TheVariants as s
@@ -42,8 +43,9 @@ item_at d ts =
 unfoldable pub where_at : ℕ → Parser (Option Condition)
 where_at d ts = choose (after (s.Word words.Where) ts) (λ rest. cond_at d rest >>= λ x. Some (Some x.0, x.1)) (Some (None, ts))
 
-unfoldable pub groups_at : Parser (List ColumnName)
-groups_at ts = choose (after (s.Word words.Group) ts) (λ rest. after (s.Word words.By) rest >>= λ start. list_at column_at start) (Some ([], ts))
+-- the word, BY, p {"," p}; or nothing
+unfoldable pub by_at : {A : Type 0} → Keyword → Parser A → Parser (List A)
+by_at word p ts = choose (after (s.Word word) ts) (λ rest. after (s.Word words.By) rest >>= λ start. list_at p start) (Some ([], ts))
 
 unfoldable pub key_at : Parser Key
 key_at ts =
@@ -58,9 +60,6 @@ order_at ts =
     key_at ts >>= λ x. choose (after (s.Word words.Asc) x.1) (λ rest. Some (order_of x.0 false, rest))
     (choose (after (s.Word words.Desc) x.1) (λ rest. Some (order_of x.0 true, rest)) (Some (order_of x.0 false, x.1)))
 
-unfoldable pub orders_at : Parser (List Order)
-orders_at ts = choose (after (s.Word words.Order) ts) (λ rest. after (s.Word words.By) rest >>= λ start. list_at order_at start) (Some ([], ts))
-
 abbrev pub is_nil : List Token → Bool
 is_nil [] = true
 is_nil (t ∷ ts) = false
@@ -72,12 +71,22 @@ ends ts = choose (after (s.Mark marks.Semicolon) ts) is_nil (is_nil ts)
 abbrev pub select_of : List Item → List (List ℕ) → Option Condition → List ColumnName → List Order → Select
 select_of items from condition groups orders = record { items = items; from = from; condition = condition; groups = groups; orders = orders }
 
--- what follows the names of FROM
-unfoldable pub rest_at : ℕ → List Item → List (List ℕ) → Parser Select
-rest_at d items from ts =
-    where_at (suc d) ts >>= λ w. groups_at w.1 >>= λ g. orders_at g.1 >>= λ o. Some (select_of items from w.0 g.0 o.0, o.1)
+-- ORDER BY, and nothing behind it but the end
+unfoldable pub ordered_at : List Token → Option (List Order)
+ordered_at ts = by_at words.Order order_at ts >>= λ o. if ends o.1 then Some o.0 else None
 
--- a query with no `;`, with at most this many open parentheses
-unfoldable pub query_at : ℕ → Parser Select
-query_at d ts =
-    after (s.Word words.Select) ts >>= λ start. list_at (item_at d) start >>= λ items. after (s.Word words.From) items.1 >>= λ tables. list_at name_at tables >>= λ from. rest_at d items.0 from.0 from.1
+-- GROUP BY, and what follows
+unfoldable pub grouped_at : List Token → Option (List ColumnName × List Order)
+grouped_at ts = by_at words.Group column_at ts >>= λ g. ordered_at g.1 >>= λ o. Some (g.0, o)
+
+-- WHERE, and what follows
+unfoldable pub filtered_at : ℕ → List Token → Option (Option Condition × List ColumnName × List Order)
+filtered_at d ts = where_at (suc d) ts >>= λ w. grouped_at w.1 >>= λ g. Some (w.0, g.0, g.1)
+
+-- FROM, and what follows
+unfoldable pub joined_at : ℕ → List Token → Option (List (List ℕ) × Option Condition × List ColumnName × List Order)
+joined_at d ts = after (s.Word words.From) ts >>= λ tables. list_at name_at tables >>= λ f. filtered_at d f.1 >>= λ w. Some (f.0, w.0, w.1, w.2)
+
+-- a query up to its end, with at most this many open parentheses
+unfoldable pub query_at : ℕ → List Token → Option Select
+query_at d ts = after (s.Word words.Select) ts >>= λ start. list_at (item_at d) start >>= λ i. joined_at d i.1 >>= λ f. Some (select_of i.0 f.0 f.1 f.2 f.3)

@@ -6,7 +6,7 @@ ghost use Rattle.ssb_sql.specs.Class.{class_of};
 use crate::token::Mark;
 
 /// What token may begin with a byte.
-#[derive(Clone, Copy, PartialEq, Eq, Debug)]
+#[derive(Clone, Copy)]
 pub(crate) enum Class {
     /// A word.
     Letter,

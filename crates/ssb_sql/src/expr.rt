@@ -4,7 +4,7 @@ use sqlite_items::{Boxed, Items};
 use ssb_cells::Name;
 
 /// A column, with its table's name where that is written.
-#[derive(Debug, Drop)]
+#[derive(Drop)]
 pub struct ColumnName {
     /// The table's name, where it stands in front.
     pub table: Option<Name>,
@@ -22,7 +22,7 @@ pub enum Adding {
 }
 
 /// A further term of a chain, with the sign before it.
-#[derive(Debug, Drop)]
+#[derive(Drop)]
 #[cycle(expr)]
 pub struct Step {
     /// Whether the term is added or taken away.
@@ -33,7 +33,7 @@ pub struct Step {
 
 /// An expression. Its chains are taken from left to right, and parentheses round one thing leave no
 /// trace.
-#[derive(Debug, Drop)]
+#[derive(Drop)]
 #[cycle(expr)]
 pub enum Expr {
     /// A column.

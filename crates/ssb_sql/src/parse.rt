@@ -8,7 +8,7 @@ ghost use Rattle.ssb_sql.specs.Exact.{Reads};
 ghost use Rattle.ssb_sql.specs.Room.{HasRoom, room_after};
 
 use crate::fault::SqlFault;
-use crate::read_select::{ends, query};
+use crate::read_select::query;
 use crate::select::Select;
 use crate::steps::{Stop, is_fixed};
 use crate::token::{Mark, Sign, Token};
@@ -53,13 +53,7 @@ pub(crate) fn parse(alloc: Global, tokens: &[Token]) -> Result<Select, SqlFault>
         return Err(SqlFault::TooDeep);
     }
     match query(alloc, MAX_OPEN, tokens) {
-        Ok((found, rest)) => {
-            if ends(rest) {
-                Ok(found)
-            } else {
-                Err(SqlFault::Syntax)
-            }
-        }
+        Ok(found) => Ok(found),
         Err(Stop::Syntax) => Err(SqlFault::Syntax),
         Err(Stop::Memory) => Err(SqlFault::Memory),
     }

@@ -7,7 +7,7 @@ ghost use Rattle.ssb_sql.specs.ReadExpressions.{expr_at};
 ghost use Rattle.ssb_sql.specs.ReadSelects.{count_at, output_at, item_at, key_at, order_at};
 ghost use Rattle.ssb_sql.specs.declared.token.Sign.TheVariants as s;
 
-use crate::chain::chain;
+use crate::chain::list;
 use crate::expr::Expr;
 use crate::read_expr::closed;
 use crate::read_parts::column;
@@ -92,12 +92,7 @@ pub(crate) fn items(
 ) -> Result<(Items<Item>, &[Token]), Stop>
     ensures { Gives seen result (list_at (item_at depth) tokens.now) }
 {
-    chain(
-        alloc,
-        Sign::Mark(Mark::Comma),
-        tokens,
-        |start: &[Token]| item(alloc, depth, start),
-    )
+    list(alloc, tokens, |start: &[Token]| item(alloc, depth, start))
 }
 
 #[tactic(auto, unfolding(crate::specs::ReadSelects::key_at))]
@@ -114,7 +109,7 @@ fn key(alloc: Global, tokens: &[Token]) -> Result<(Key, &[Token]), Stop>
 }
 
 #[tactic(auto, unfolding(crate::specs::ReadSelects::order_at))]
-fn order(alloc: Global, tokens: &[Token]) -> Result<(Order, &[Token]), Stop>
+pub(crate) fn order(alloc: Global, tokens: &[Token]) -> Result<(Order, &[Token]), Stop>
     ensures { Gives seen result (order_at tokens.now) }
 {
     let (key, rest) = key(alloc, tokens)?;
@@ -143,16 +138,4 @@ fn order(alloc: Global, tokens: &[Token]) -> Result<(Order, &[Token]), Stop>
             rest,
         )),
     }
-}
-
-#[tactic(auto, using(crate::proofs::ItemFacts::order_shrinks))]
-pub(crate) fn orders(alloc: Global, tokens: &[Token]) -> Result<(Items<Order>, &[Token]), Stop>
-    ensures { Gives seen result (list_at order_at tokens.now) }
-{
-    chain(
-        alloc,
-        Sign::Mark(Mark::Comma),
-        tokens,
-        |start: &[Token]| order(alloc, start),
-    )
 }

@@ -6,13 +6,10 @@ ghost use Rattle.ssb_sql.specs.Steps.{Gives, after, list_at, name_at};
 ghost use Rattle.ssb_sql.specs.ReadParts.{column_at, small_at, below_at, plain_literal_at, literal_at, operand_at};
 ghost use Rattle.ssb_sql.specs.declared.token.Sign.TheVariants as s;
 
-use crate::chain::chain;
 use crate::condition::{Literal, Operand};
 use crate::expr::ColumnName;
 use crate::steps::{Stop, after, is_name_next, is_text_next, name, number, text};
 use crate::token::{Mark, Sign, Token};
-use sqlite_items::Items;
-use ssb_cells::Name;
 use std::alloc::Global;
 
 #[tactic(auto, unfolding(crate::specs::ReadParts::column_at))]
@@ -106,31 +103,4 @@ pub(crate) fn operand(alloc: Global, tokens: &[Token]) -> Result<(Operand, &[Tok
         let (literal, rest) = literal(alloc, tokens)?;
         Ok((Operand::Literal(literal), rest))
     }
-}
-
-#[tactic(auto, using(crate::proofs::PartFacts::name_shrinks))]
-pub(crate) fn names(alloc: Global, tokens: &[Token]) -> Result<(Items<Name>, &[Token]), Stop>
-    ensures { Gives seen result (list_at name_at tokens.now) }
-{
-    chain(
-        alloc,
-        Sign::Mark(Mark::Comma),
-        tokens,
-        |start: &[Token]| name(alloc, start),
-    )
-}
-
-#[tactic(auto, using(crate::proofs::PartFacts::column_shrinks))]
-pub(crate) fn columns(
-    alloc: Global,
-    tokens: &[Token],
-) -> Result<(Items<ColumnName>, &[Token]), Stop>
-    ensures { Gives seen result (list_at column_at tokens.now) }
-{
-    chain(
-        alloc,
-        Sign::Mark(Mark::Comma),
-        tokens,
-        |start: &[Token]| column(alloc, start),
-    )
 }

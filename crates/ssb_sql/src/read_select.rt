@@ -2,18 +2,20 @@
 
 ghost use Rattle.std.specs.Prelude.{◌≡◌, [], ◌∷◌, ◌+◌, ◌<◌, ◌^◌};
 ghost use Rattle.ssb_sql.specs.Reading.{seen};
-ghost use Rattle.ssb_sql.specs.Steps.{Gives, after, more_at, list_at, name_at};
+ghost use Rattle.ssb_sql.specs.Steps.{Gives, Parser, Reads, Shrinks, after, more_at, list_at, name_at};
 ghost use Rattle.ssb_sql.specs.ReadParts.{column_at};
-ghost use Rattle.ssb_sql.specs.ReadSelects.{item_at, where_at, groups_at, order_at, orders_at, is_nil, ends, rest_at, query_at};
+ghost use Rattle.ssb_sql.specs.ReadSelects.{item_at, where_at, by_at, order_at, is_nil, ends, ordered_at, grouped_at, filtered_at, joined_at, query_at};
+ghost use Rattle.ssb_sql.specs.declared.token.Mark.TheVariants as marks;
 ghost use Rattle.ssb_sql.specs.declared.token.Sign.TheVariants as s;
 
+use crate::chain::list;
 use crate::condition::Condition;
 use crate::expr::ColumnName;
 use crate::read_condition::condition;
-use crate::read_item::{items, orders};
-use crate::read_parts::{columns, names};
-use crate::select::{Item, Order, Select};
-use crate::steps::{Stop, after, expect};
+use crate::read_item::{items, order};
+use crate::read_parts::column;
+use crate::select::{Order, Select};
+use crate::steps::{Stop, after, expect, name};
 use crate::token::{Mark, Sign, Token};
 use sqlite_items::Items;
 use ssb_cells::{Keyword, Name};
@@ -36,74 +38,27 @@ fn condition_if(
     }
 }
 
-#[tactic(auto, unfolding(crate::specs::ReadSelects::groups_at))]
-fn groups_if(alloc: Global, tokens: &[Token]) -> Result<(Items<ColumnName>, &[Token]), Stop>
-    ensures { Gives seen result (groups_at tokens.now) }
+// The word, BY and a list of pieces; or nothing.
+#[tactic(auto, unfolding(crate::specs::ReadSelects::by_at))]
+fn by<T: Drop, F>(
+    alloc: Global,
+    word: Keyword,
+    tokens: &[Token],
+    piece: F,
+) -> Result<(Items<T>, &[Token]), Stop>
+where
+    F: Fn(&[Token]) -> Result<(T, &[Token]), Stop>,
+    requires can { F.IsAlwaysCallable piece }
+    requires shrinks { (p : Parser T) × Shrinks (after (s.Mark marks.Comma)) p × Reads (F.post piece) p }
+    ensures { (p : Parser T) → Shrinks (after (s.Mark marks.Comma)) p → Reads (F.post piece) p → Gives seen result (by_at word p tokens.now) }
 {
-    match after(tokens, Sign::Word(Keyword::Group)) {
+    match after(tokens, Sign::Word(word)) {
         Some(rest) => {
             let start = expect(rest, Sign::Word(Keyword::By))?;
-            columns(alloc, start)
+            list(alloc, start, piece)
         }
         None => Ok((Items::new(alloc), tokens)),
     }
-}
-
-#[tactic(auto, unfolding(crate::specs::ReadSelects::orders_at))]
-fn orders_if(alloc: Global, tokens: &[Token]) -> Result<(Items<Order>, &[Token]), Stop>
-    ensures { Gives seen result (orders_at tokens.now) }
-{
-    match after(tokens, Sign::Word(Keyword::Order)) {
-        Some(rest) => {
-            let start = expect(rest, Sign::Word(Keyword::By))?;
-            orders(alloc, start)
-        }
-        None => Ok((Items::new(alloc), tokens)),
-    }
-}
-
-// What follows the names of FROM.
-#[tactic(auto, unfolding(crate::specs::ReadSelects::rest_at))]
-fn rest_of(
-    alloc: Global,
-    depth: usize,
-    items: Items<Item>,
-    from: Items<Name>,
-    tokens: &[Token],
-) -> Result<(Select, &[Token]), Stop>
-    requires { depth < 2 ^ 32 }
-    ensures { Gives seen result (rest_at depth items from tokens.now) }
-{
-    let (condition, rest) = condition_if(alloc, depth + 1, tokens)?;
-    let (groups, rest) = groups_if(alloc, rest)?;
-    let (orders, rest) = orders_if(alloc, rest)?;
-    Ok((
-        Select {
-            items,
-            from,
-            condition,
-            groups,
-            orders,
-        },
-        rest,
-    ))
-}
-
-/// Reads a query without its `;`, with at most `depth` open parentheses.
-#[tactic(auto, unfolding(crate::specs::ReadSelects::query_at))]
-pub(crate) fn query(
-    alloc: Global,
-    depth: usize,
-    tokens: &[Token],
-) -> Result<(Select, &[Token]), Stop>
-    requires { depth < 2 ^ 32 }
-    ensures { Gives seen result (query_at depth tokens.now) }
-{
-    let start = expect(tokens, Sign::Word(Keyword::Select))?;
-    let (items, rest) = items(alloc, depth, start)?;
-    let tables = expect(rest, Sign::Word(Keyword::From))?;
-    let (from, rest) = names(alloc, tables)?;
-    rest_of(alloc, depth, items, from, rest)
 }
 
 fn is_nil(tokens: &[Token]) -> bool
@@ -115,13 +70,103 @@ fn is_nil(tokens: &[Token]) -> bool
     }
 }
 
-/// Whether nothing follows, or a `;` and nothing more.
+// Whether nothing follows, or a `;` and nothing more.
 #[tactic(auto, unfolding(crate::specs::ReadSelects::ends))]
-pub(crate) fn ends(tokens: &[Token]) -> bool
+fn ends(tokens: &[Token]) -> bool
     ensures { result ≡ ends tokens.now }
 {
     match after(tokens, Sign::Mark(Mark::Semicolon)) {
         Some(rest) => is_nil(rest),
         None => is_nil(tokens),
     }
+}
+
+// ORDER BY, with nothing behind it but the end.
+#[tactic(auto, unfolding(crate::specs::ReadSelects::ordered_at), using(crate::proofs::ItemFacts::order_shrinks))]
+fn ordered(alloc: Global, tokens: &[Token]) -> Result<Items<Order>, Stop>
+    ensures { Gives (λ x. x) result (ordered_at tokens.now) }
+{
+    let (orders, rest) = by(
+        alloc,
+        Keyword::Order,
+        tokens,
+        |start: &[Token]| order(alloc, start),
+    )?;
+    if ends(rest) {
+        Ok(orders)
+    } else {
+        Err(Stop::Syntax)
+    }
+}
+
+// GROUP BY, and what follows.
+#[tactic(auto, unfolding(crate::specs::ReadSelects::grouped_at), using(crate::proofs::PartFacts::column_shrinks))]
+fn grouped(alloc: Global, tokens: &[Token]) -> Result<(Items<ColumnName>, Items<Order>), Stop>
+    ensures { Gives (λ x. x) result (grouped_at tokens.now) }
+{
+    let (groups, rest) = by(
+        alloc,
+        Keyword::Group,
+        tokens,
+        |start: &[Token]| column(alloc, start),
+    )?;
+    let orders = ordered(alloc, rest)?;
+    Ok((groups, orders))
+}
+
+// WHERE, and what follows.
+#[tactic(auto, unfolding(crate::specs::ReadSelects::filtered_at))]
+fn filtered(
+    alloc: Global,
+    depth: usize,
+    tokens: &[Token],
+) -> Result<(Option<Condition>, Items<ColumnName>, Items<Order>), Stop>
+    requires { depth < 2 ^ 32 }
+    ensures { Gives (λ x. x) result (filtered_at depth tokens.now) }
+{
+    let (condition, rest) = condition_if(alloc, depth + 1, tokens)?;
+    let (groups, orders) = grouped(alloc, rest)?;
+    Ok((condition, groups, orders))
+}
+
+// FROM, and what follows.
+#[tactic(auto, unfolding(crate::specs::ReadSelects::joined_at), using(crate::proofs::PartFacts::name_shrinks))]
+fn joined(
+    alloc: Global,
+    depth: usize,
+    tokens: &[Token],
+) -> Result<
+    (
+        Items<Name>,
+        Option<Condition>,
+        Items<ColumnName>,
+        Items<Order>,
+    ),
+    Stop,
+>
+    requires { depth < 2 ^ 32 }
+    ensures { Gives (λ x. x) result (joined_at depth tokens.now) }
+{
+    let tables = expect(tokens, Sign::Word(Keyword::From))?;
+    let (from, rest) = list(alloc, tables, |start: &[Token]| name(alloc, start))?;
+    let (condition, groups, orders) = filtered(alloc, depth, rest)?;
+    Ok((from, condition, groups, orders))
+}
+
+/// Reads a query up to its end, with at most `depth` open parentheses.
+#[tactic(auto, unfolding(crate::specs::ReadSelects::query_at))]
+pub(crate) fn query(alloc: Global, depth: usize, tokens: &[Token]) -> Result<Select, Stop>
+    requires { depth < 2 ^ 32 }
+    ensures { Gives (λ x. x) result (query_at depth tokens.now) }
+{
+    let start = expect(tokens, Sign::Word(Keyword::Select))?;
+    let (items, rest) = items(alloc, depth, start)?;
+    let (from, condition, groups, orders) = joined(alloc, depth, rest)?;
+    Ok(Select {
+        items,
+        from,
+        condition,
+        groups,
+        orders,
+    })
 }

@@ -7,7 +7,7 @@ ghost use Rattle.ssb_sql.specs.ReadParts.{literal_at, operand_at};
 ghost use Rattle.ssb_sql.specs.ReadConditions.{op_at, limits_at, members_at, between_of, in_of, range_at, null_at, compared_at, tail_at, bare_at};
 ghost use Rattle.ssb_sql.specs.declared.token.Sign.TheVariants as s;
 
-use crate::chain::chain;
+use crate::chain::list;
 use crate::condition::{Condition, Literal, Operand};
 use crate::read_parts::{literal, operand};
 use crate::steps::{Stop, after, expect};
@@ -52,24 +52,12 @@ fn limits(alloc: Global, tokens: &[Token]) -> Result<((Operand, Operand), &[Toke
     Ok(((low, high), rest))
 }
 
-#[tactic(auto, using(crate::proofs::PartFacts::literal_shrinks))]
-fn literals(alloc: Global, tokens: &[Token]) -> Result<(Items<Literal>, &[Token]), Stop>
-    ensures { Gives seen result (list_at literal_at tokens.now) }
-{
-    chain(
-        alloc,
-        Sign::Mark(Mark::Comma),
-        tokens,
-        |start: &[Token]| literal(alloc, start),
-    )
-}
-
-#[tactic(auto, unfolding(crate::specs::Steps::parens_at, crate::specs::Steps::closed_at))]
+#[tactic(auto, unfolding(crate::specs::Steps::parens_at, crate::specs::Steps::closed_at), using(crate::proofs::PartFacts::literal_shrinks))]
 fn members(alloc: Global, tokens: &[Token]) -> Result<(Items<Literal>, &[Token]), Stop>
     ensures { Gives seen result (members_at tokens.now) }
 {
     let rest = expect(tokens, Sign::Mark(Mark::Open))?;
-    let (found, rest) = literals(alloc, rest)?;
+    let (found, rest) = list(alloc, rest, |start: &[Token]| literal(alloc, start))?;
     let rest = expect(rest, Sign::Mark(Mark::Close))?;
     Ok((found, rest))
 }

@@ -6,7 +6,7 @@ use sqlite_items::Items;
 use ssb_cells::Name;
 
 /// What an item of the select list gives.
-#[derive(Debug, Drop)]
+#[derive(Drop)]
 pub enum Output {
     /// A column's value.
     Column(ColumnName),
@@ -19,7 +19,7 @@ pub enum Output {
 }
 
 /// An item of the select list.
-#[derive(Debug, Drop)]
+#[derive(Drop)]
 pub struct Item {
     /// What it gives.
     pub output: Output,
@@ -28,7 +28,7 @@ pub struct Item {
 }
 
 /// What the answer is ordered by.
-#[derive(Debug, Drop)]
+#[derive(Drop)]
 pub enum Key {
     /// The item of this name.
     Name(Name),
@@ -37,7 +37,7 @@ pub enum Key {
 }
 
 /// A key of ORDER BY.
-#[derive(Debug, Drop)]
+#[derive(Drop)]
 pub struct Order {
     /// What is compared.
     pub key: Key,
@@ -46,7 +46,7 @@ pub struct Order {
 }
 
 /// A query, as it is written. Names are in lower case.
-#[derive(Debug, Drop)]
+#[derive(Drop)]
 pub struct Select {
     /// The select list.
     pub items: Items<Item>,

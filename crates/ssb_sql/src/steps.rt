@@ -11,7 +11,7 @@ use ssb_cells::Name;
 use std::alloc::{AllocError, Global};
 
 /// Why nothing was read.
-#[derive(Clone, Copy, PartialEq, Eq, Debug)]
+#[derive(Clone, Copy)]
 pub(crate) enum Stop {
     Memory,
     Syntax,

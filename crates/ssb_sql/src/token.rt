@@ -4,7 +4,7 @@ use crate::text::Text;
 use ssb_cells::{Keyword, Name};
 
 /// A mark.
-#[derive(Clone, Copy, PartialEq, Eq, Debug)]
+#[derive(Clone, Copy, PartialEq, Eq)]
 pub enum Mark {
     /// `(`
     Open,
@@ -37,7 +37,7 @@ pub enum Mark {
 }
 
 /// A reserved word or a mark.
-#[derive(Clone, Copy, PartialEq, Eq, Debug)]
+#[derive(Clone, Copy, PartialEq, Eq)]
 pub enum Sign {
     /// A reserved word.
     Word(Keyword),
@@ -46,7 +46,7 @@ pub enum Sign {
 }
 
 /// A token of a query text.
-#[derive(Debug, Drop)]
+#[derive(Drop)]
 pub enum Token {
     /// A reserved word or a mark.
     Fixed(Sign),

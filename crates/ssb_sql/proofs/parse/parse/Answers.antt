@@ -1,15 +1,9 @@
-use Rattle.std.proofs.Common.{sym}
 use Rattle.ssb_sql.proofs.SelectSound.{query_sound}
-use Rattle.ssb_sql.proofs.SelectComplete.{spells_none, spells_less}
+use Rattle.ssb_sql.proofs.SelectComplete.{spells_none}
 use Rattle.ssb_sql.proofs.parse.parse.Goals as goal
 
-pub returns-then-ends : goal.returns-then-ends
-returns-then-ends c = (c.is_within.ensures.0 c.if-not-is_within.false, query_sound 64 c.args.tokens.now (c.in-Ok.found, c.in-Ok.rest.now) c.in-Ok.ensures (sym c.if-ends.ensures))
-
-pub returns-else-ends : goal.returns-else-ends
-returns-else-ends c =
-    let h = c.is_within.ensures.0 c.if-not-is_within.false in
-    (h, spells_less c.args.tokens.now c.in-Ok.rest.now c.in-Ok.found h c.in-Ok.ensures (sym c.if-ends.ensures))
+pub returns-in-Ok : goal.returns-in-Ok
+returns-in-Ok c = (c.is_within.ensures.0 c.if-not-is_within.false, query_sound 64 c.args.tokens.now c.in-Ok.found c.in-Ok.ensures)
 
 pub returns-in-Err-Syntax : goal.returns-in-Err-Syntax
 returns-in-Err-Syntax c =

@@ -1,5 +1,5 @@
 -- What is read as a condition is one.
-use Rattle.std.proofs.Common.{◌≡◌, ℕ, zero, suc, ◌<◌, ◌≤◌, List, ◌∷◌, length, Some, arith, inl, inr}
+use Rattle.std.proofs.Common.{◌≡◌, ℕ, zero, suc, ◌<◌, ◌≤◌, List, ◌∷◌, length, Some, refl, arith, inl, inr}
 use Rattle.ssb_sql.specs.declared.token.Token.{Token}
 use Rattle.ssb_cells.specs.declared.keyword.Keyword.TheVariants as words
 use Rattle.ssb_sql.specs.declared.token.Mark.TheVariants as marks
@@ -119,6 +119,11 @@ module _ (inner : Parser Condition) (h : Sound inner (IsCond IsTested)) where
 
   disj_sound : (ts : List Token) (x : Condition × List Token) → disj_at inner ts ≡ Some x → IsCond IsTested ts x.1 x.0
   disj_sound ts x e = made_sound (s.Word words.Or) (conj_at inner) (IsConj IsTested) (IsOrs IsTested) (IsCond IsTested) or_chain sound_conj ors (λ from mid to y ys a b. cond a b) ts x e
+
+-- a condition inside one more parenthesis
+pub cond_is : (d e : ℕ) (ts : List Token) → d ≡ suc e → cond_at d ts ≡ disj_at (cond_at e) ts
+unfolding cond_at
+cond_is d e ts is = rw is refl
 
 pub sound_cond : (d : ℕ) → Sound (cond_at d) (IsCond IsTested)
 unfolding cond_at

@@ -22,11 +22,11 @@ use Rattle.ssb_sql.specs.Expressions.IsFactor.{plain, positive, negative}
 use Rattle.ssb_sql.specs.Expressions.IsPrimary.{column, number, parens}
 use Rattle.ssb_sql.specs.Room.{HasRoom}
 use Rattle.ssb_sql.specs.Steps.{Parser, after, is_fixed, is_sign, is_name_next, chain_at, more_at, chained_at}
-use Rattle.ssb_sql.specs.ReadExpressions.{bare_primary_at, primary_at, factor_at, term_at, adding_at, step_at, expr_at}
+use Rattle.ssb_sql.specs.ReadExpressions.{bare_primary_at, primary_at, adding_at, signed, factor_at, term_at, step_at, expr_at}
 use Rattle.ssb_sql.proofs.StepFacts.{Stops, stops, differs, sees}
 use Rattle.ssb_sql.proofs.Shapes.{turn_done, turn_goes, more_goes, closed_read}
 use Rattle.ssb_sql.proofs.PartFacts.{column_next, column_read, number_read}
-use Rattle.ssb_sql.proofs.ExpressionSound.{term_shorter, factor_shorter, term_within, factor_within}
+use Rattle.ssb_sql.proofs.ExpressionSound.{adding_mark, term_shorter, factor_shorter, term_within, factor_within}
 
 -- what may follow an expression
 pub record EndsExpr (to : List Token) : Type 0 where
@@ -96,17 +96,22 @@ parens_goes : (p : Parser Expr) (ts to : List Token) (x : Expr) → p ts ≡ Som
 unfolding primary_at
 parens_goes p ts to x q = rw (sees (s.Mark marks.Open) ts) (closed_read p ts to x q)
 
+adding_stops : (to : List Token) → Stops (s.Mark marks.Plus) to → Stops (s.Mark marks.Minus) to → adding_at to ≡ None
+unfolding adding_at
+adding_stops to p m = rw (p, m) refl
+
+adding_goes : (y : Adding) (ts : List Token) → adding_at (Fixed (s.Mark (adding_mark y)) ∷ ts) ≡ Some (y, ts)
+unfolding adding_at
+adding_goes a.Plus ts = rw (sees (s.Mark marks.Plus) ts) refl
+adding_goes a.Minus ts = rw (stops (s.Mark marks.Minus) (s.Mark marks.Plus) ts (differs (s.Mark marks.Minus) (s.Mark marks.Plus) refl), sees (s.Mark marks.Minus) ts) refl
+
 plain_goes : (p : Parser Expr) (ts to : List Token) (x : Expr) → Stops (s.Mark marks.Plus) ts → Stops (s.Mark marks.Minus) ts → primary_at p ts ≡ Some (x, to) → factor_at p ts ≡ Some (x, to)
 unfolding factor_at
-plain_goes p ts to x h m q = rw (h, m) q
+plain_goes p ts to x h m q = rw (adding_stops ts h m) q
 
-positive_goes : (p : Parser Expr) (ts to : List Token) (x : Expr) → primary_at p ts ≡ Some (x, to) → factor_at p (Fixed (s.Mark marks.Plus) ∷ ts) ≡ Some (e.Positive x, to)
+signed_goes : (p : Parser Expr) (y : Adding) (ts to : List Token) (x : Expr) → primary_at p ts ≡ Some (x, to) → factor_at p (Fixed (s.Mark (adding_mark y)) ∷ ts) ≡ Some (signed y x, to)
 unfolding factor_at
-positive_goes p ts to x q = rw (sees (s.Mark marks.Plus) ts, q) refl
-
-negative_goes : (p : Parser Expr) (ts to : List Token) (x : Expr) → primary_at p ts ≡ Some (x, to) → factor_at p (Fixed (s.Mark marks.Minus) ∷ ts) ≡ Some (e.Negative x, to)
-unfolding factor_at
-negative_goes p ts to x q = rw (stops (s.Mark marks.Minus) (s.Mark marks.Plus) ts (differs (s.Mark marks.Minus) (s.Mark marks.Plus) refl), sees (s.Mark marks.Minus) ts, q) refl
+signed_goes p y ts to x q = rw (adding_goes y ts, q) refl
 
 term_goes : (p : Parser Expr) (ts mid to : List Token) (x : Expr) (xs : List Expr) → factor_at p ts ≡ Some (x, mid) → more_at (after (s.Mark marks.Times)) (factor_at p) (x ∷ []) mid ≡ Some (x ∷ xs, to) → term_at p ts ≡ Some (times_of (x ∷ xs), to)
 unfolding term_at chained_at
@@ -116,18 +121,6 @@ sum_goes : (d : ℕ) (ts mid to : List Token) (x : Expr) (xs : List Step) → te
 unfolding expr_at
 sum_goes d ts mid to x xs q r = rw (q, r) refl
 
-adding_stops : (to : List Token) → Stops (s.Mark marks.Plus) to → Stops (s.Mark marks.Minus) to → adding_at to ≡ None
-unfolding adding_at
-adding_stops to p m = rw (p, m) refl
-
-adding_plus : (ts : List Token) → adding_at (Fixed (s.Mark marks.Plus) ∷ ts) ≡ Some (a.Plus, ts)
-unfolding adding_at
-adding_plus ts = rw (sees (s.Mark marks.Plus) ts) refl
-
-adding_minus : (ts : List Token) → adding_at (Fixed (s.Mark marks.Minus) ∷ ts) ≡ Some (a.Minus, ts)
-unfolding adding_at
-adding_minus ts = rw (stops (s.Mark marks.Minus) (s.Mark marks.Plus) ts (differs (s.Mark marks.Minus) (s.Mark marks.Plus) refl), sees (s.Mark marks.Minus) ts) refl
-
 abbrev step_of : Adding → Expr → Step
 step_of y x = record { adding = y; term = x }
 
@@ -135,11 +128,22 @@ step_goes : (p : Parser Expr) (y : Adding) (ts to : List Token) (x : Expr) → t
 unfolding step_at
 step_goes p y ts to x q = rw q refl
 
+step_turn : (d k : ℕ) (y : Adding) (ts mid to : List Token) (x : Expr) (xs : List Step) → term_at (expr_at d) ts ≡ Some (x, mid) → chain_at adding_at (step_at (expr_at d)) k mid ≡ Some (xs, to)
+    → chain_at adding_at (step_at (expr_at d)) (suc k) (Fixed (s.Mark (adding_mark y)) ∷ ts) ≡ Some (step_of y x ∷ xs, to)
+step_turn d k y ts mid to x xs q r = turn_goes adding_at (step_at (expr_at d)) k (Fixed (s.Mark (adding_mark y)) ∷ ts) mid to (y, ts) (step_of y x) xs (adding_goes y ts) (step_goes (expr_at d) y ts mid x q) r
+
+-- what follows a term of a sum
+steps_dot : {from to : List Token} {xs : List Step} → IsSteps from to xs → EndsExpr to → Stops (s.Mark marks.Dot) from
+steps_dot b z = steps_end b (s.Mark marks.Dot) (differs (s.Mark marks.Plus) (s.Mark marks.Dot) refl) (differs (s.Mark marks.Minus) (s.Mark marks.Dot) refl) z.dot
+
+steps_times : {from to : List Token} {xs : List Step} → IsSteps from to xs → EndsExpr to → Stops (s.Mark marks.Times) from
+steps_times b z = steps_end b (s.Mark marks.Times) (differs (s.Mark marks.Plus) (s.Mark marks.Times) refl) (differs (s.Mark marks.Minus) (s.Mark marks.Times) refl) z.times
+
 mutual
   pub expr_read : {from to : List Token} {x : Expr} → IsExpr from to x → (d : ℕ) → HasRoom d from → EndsExpr to → expr_at (suc d) from ≡ Some (x, to)
   expr_read (expr {from = from} {mid = mid} {to = to} {x = x} {xs = xs} f b) d h z =
       sum_goes d from mid to x xs
-      (term_read f d h (steps_end b (s.Mark marks.Dot) (differs (s.Mark marks.Plus) (s.Mark marks.Dot) refl) (differs (s.Mark marks.Minus) (s.Mark marks.Dot) refl) z.dot) (steps_end b (s.Mark marks.Times) (differs (s.Mark marks.Plus) (s.Mark marks.Times) refl) (differs (s.Mark marks.Minus) (s.Mark marks.Times) refl) z.times))
+      (term_read f d h (steps_dot b z) (steps_times b z))
       (more_goes adding_at (step_at (expr_at d)) [] xs mid to (steps_read b d (length mid) (term_within f d h) (omega arith) z))
 
   pub steps_read : {from to : List Token} {xs : List Step} → IsSteps from to xs → (d k : ℕ) → HasRoom d from → length from ≤ k → EndsExpr to → chain_at adding_at (step_at (expr_at d)) k from ≡ Some (xs, to)
@@ -147,15 +151,11 @@ mutual
   steps_read (plus f b) d zero h l z = absurd (omega arith)
   steps_read (plus {from = from} {mid = mid} {to = to} {x = x} {xs = xs} f b) d (suc k) h l z =
       let lt = term_shorter f in
-      turn_goes adding_at (step_at (expr_at d)) k (Fixed (s.Mark marks.Plus) ∷ from) mid to (a.Plus, from) (step_of a.Plus x) xs (adding_plus from)
-      (step_goes (expr_at d) a.Plus from mid x (term_read f d h (steps_end b (s.Mark marks.Dot) (differs (s.Mark marks.Plus) (s.Mark marks.Dot) refl) (differs (s.Mark marks.Minus) (s.Mark marks.Dot) refl) z.dot) (steps_end b (s.Mark marks.Times) (differs (s.Mark marks.Plus) (s.Mark marks.Times) refl) (differs (s.Mark marks.Minus) (s.Mark marks.Times) refl) z.times)))
-      (steps_read b d k (term_within f d h) (omega arith) z)
+      step_turn d k a.Plus from mid to x xs (term_read f d h (steps_dot b z) (steps_times b z)) (steps_read b d k (term_within f d h) (omega arith) z)
   steps_read (minus f b) d zero h l z = absurd (omega arith)
   steps_read (minus {from = from} {mid = mid} {to = to} {x = x} {xs = xs} f b) d (suc k) h l z =
       let lt = term_shorter f in
-      turn_goes adding_at (step_at (expr_at d)) k (Fixed (s.Mark marks.Minus) ∷ from) mid to (a.Minus, from) (step_of a.Minus x) xs (adding_minus from)
-      (step_goes (expr_at d) a.Minus from mid x (term_read f d h (steps_end b (s.Mark marks.Dot) (differs (s.Mark marks.Plus) (s.Mark marks.Dot) refl) (differs (s.Mark marks.Minus) (s.Mark marks.Dot) refl) z.dot) (steps_end b (s.Mark marks.Times) (differs (s.Mark marks.Plus) (s.Mark marks.Times) refl) (differs (s.Mark marks.Minus) (s.Mark marks.Times) refl) z.times)))
-      (steps_read b d k (term_within f d h) (omega arith) z)
+      step_turn d k a.Minus from mid to x xs (term_read f d h (steps_dot b z) (steps_times b z)) (steps_read b d k (term_within f d h) (omega arith) z)
 
   pub term_read : {from to : List Token} {x : Expr} → IsTerm from to x → (d : ℕ) → HasRoom d from → Stops (s.Mark marks.Dot) to → Stops (s.Mark marks.Times) to → term_at (expr_at d) from ≡ Some (x, to)
   term_read (term {from = from} {mid = mid} {to = to} {x = x} {xs = xs} f b) d h n m =
@@ -173,8 +173,8 @@ mutual
   pub factor_read : {from to : List Token} {x : Expr} → IsFactor from to x → (d : ℕ) → HasRoom d from → Stops (s.Mark marks.Dot) to → factor_at (expr_at d) from ≡ Some (x, to)
   factor_read (plain {from = from} {to = to} {x = x} f) d h n =
       plain_goes (expr_at d) from to x (primary_begins f (s.Mark marks.Plus) (differs (s.Mark marks.Open) (s.Mark marks.Plus) refl)) (primary_begins f (s.Mark marks.Minus) (differs (s.Mark marks.Open) (s.Mark marks.Minus) refl)) (primary_read f d h n)
-  factor_read (positive {from = from} {to = to} {x = x} f) d h n = positive_goes (expr_at d) from to x (primary_read f d h n)
-  factor_read (negative {from = from} {to = to} {x = x} f) d h n = negative_goes (expr_at d) from to x (primary_read f d h n)
+  factor_read (positive {from = from} {to = to} {x = x} f) d h n = signed_goes (expr_at d) a.Plus from to x (primary_read f d h n)
+  factor_read (negative {from = from} {to = to} {x = x} f) d h n = signed_goes (expr_at d) a.Minus from to x (primary_read f d h n)
 
   pub primary_read : {from to : List Token} {x : Expr} → IsPrimary from to x → (d : ℕ) → HasRoom d from → Stops (s.Mark marks.Dot) to → primary_at (expr_at d) from ≡ Some (x, to)
   primary_read (column {from = from} {to = to} {x = x} f) d h n = bare_goes (expr_at d) from to (e.Column x) (column_begins f (s.Mark marks.Open)) (bare_column_goes f n)

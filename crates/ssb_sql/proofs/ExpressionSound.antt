@@ -1,7 +1,8 @@
 -- What is read as an expression is one.
-use Rattle.std.proofs.Common.{◌≡◌, ℕ, zero, suc, ◌<◌, ◌≤◌, List, [], ◌∷◌, length, Some, None, refl, ap, subst, arith, inl, inr}
+use Rattle.std.proofs.Common.{◌≡◌, ℕ, zero, suc, ◌<◌, ◌≤◌, List, [], ◌∷◌, length, Some, None, refl, ap, subst, ◌∙◌, arith, inl, inr}
 use Rattle.ssb_sql.specs.declared.token.Token.{Token}
-use Rattle.ssb_sql.specs.declared.token.Token.TheVariants.{Number}
+use Rattle.ssb_sql.specs.declared.token.Token.TheVariants.{Fixed, Number}
+use Rattle.ssb_sql.specs.declared.token.Mark.{Mark}
 use Rattle.ssb_sql.specs.declared.token.Mark.TheVariants as marks
 use Rattle.ssb_sql.specs.declared.token.Sign.TheVariants as s
 use Rattle.ssb_sql.specs.declared.expr.Adding.{Adding}
@@ -19,8 +20,8 @@ use Rattle.ssb_sql.specs.Expressions.IsPrimary.{column, number, parens}
 use Rattle.ssb_sql.specs.Room.{HasRoom}
 use Rattle.ssb_sql.specs.Steps.{Parser, after, number_at, is_name_next, more_at, Shrinks}
 use Rattle.ssb_sql.specs.ReadParts.{column_at}
-use Rattle.ssb_sql.specs.ReadExpressions.{bare_primary_at, primary_at, factor_at, term_at, adding_at, step_at, sum_at, expr_at}
-use Rattle.ssb_sql.proofs.StepFacts.{some_is, bind_some, choose_some, if_some, after_shorter}
+use Rattle.ssb_sql.specs.ReadExpressions.{bare_primary_at, primary_at, adding_at, signed, factor_at, term_at, step_at, sum_at, expr_at}
+use Rattle.ssb_sql.proofs.StepFacts.{some_is, bind_some, choose_some, if_some, after_is}
 use Rattle.ssb_sql.proofs.Shapes.{Sound, Tame, IsChain, spells, starts, begins, sound_closed, made_sound, sound_more, shrinks}
 use Rattle.ssb_sql.proofs.PartFacts.{number_is, sound_column, tame_column}
 
@@ -95,35 +96,37 @@ bare_primary_sound ts x q =
           spells IsPrimary ts f.0.1 (e.Number f.0.0) x (starts IsPrimary ts (Number f.0.0 ∷ f.0.1) f.0.1 (e.Number f.0.0) (number_is ts f.0 f.1) number) f.2
     ]
 
--- the sign that goes on, and what it is
-adding_is : (ts : List Token) (l : Adding × List Token) → adding_at ts ≡ Some l → (xs : List Step) (x : Expr) (mid to : List Token) → IsTerm l.1 mid x → IsSteps mid to xs → IsSteps ts to (record { adding = l.0; term = x } ∷ xs)
+-- the mark of a sign
+abbrev pub adding_mark : Adding → Mark
+adding_mark a.Plus = marks.Plus
+adding_mark a.Minus = marks.Minus
+
+adding_is : (ts : List Token) (l : Adding × List Token) → adding_at ts ≡ Some l → ts ≡ Fixed (s.Mark (adding_mark l.0)) ∷ l.1
 unfolding adding_at
-adding_is ts l q xs x mid to one rest =
-    elim (choose_some (after (s.Mark marks.Plus) ts) _ _ (Some l) q) as (λ _. IsSteps ts to (record { adding = l.0; term = x } ∷ xs)) [
-      | inl g ↦ goes a.Plus g.0 g.2 (λ one. begins IsSteps (s.Mark marks.Plus) ts g.0 to (record { adding = a.Plus; term = x } ∷ xs) g.1 (plus one rest))
+adding_is ts l q =
+    elim (choose_some (after (s.Mark marks.Plus) ts) _ _ (Some l) q) as (λ _. ts ≡ Fixed (s.Mark (adding_mark l.0)) ∷ l.1) [
+      | inl g ↦ goes a.Plus g.0 g.1 g.2
       | inr b ↦
-          elim (choose_some (after (s.Mark marks.Minus) ts) _ _ (Some l) b.1) as (λ _. IsSteps ts to (record { adding = l.0; term = x } ∷ xs)) [
-            | inl g ↦ goes a.Minus g.0 g.2 (λ one. begins IsSteps (s.Mark marks.Minus) ts g.0 to (record { adding = a.Minus; term = x } ∷ xs) g.1 (minus one rest))
+          elim (choose_some (after (s.Mark marks.Minus) ts) _ _ (Some l) b.1) as (λ _. ts ≡ Fixed (s.Mark (adding_mark l.0)) ∷ l.1) [
+            | inl g ↦ goes a.Minus g.0 g.1 g.2
             | inr g ↦ absurd cc
           ]
     ]
   where
-    goes : (y : Adding) (us : List Token) → Some (y, us) ≡ Some l → (IsTerm us mid x → IsSteps ts to (record { adding = y; term = x } ∷ xs)) → IsSteps ts to (record { adding = l.0; term = x } ∷ xs)
-    goes y us r f =
-        let same = some_is (y, us) l r in
-        subst (λ z. IsTerm z.1 mid x → IsSteps ts to (record { adding = z.0; term = x } ∷ xs)) same f one
+    goes : (y : Adding) (us : List Token) → after (s.Mark (adding_mark y)) ts ≡ Some us → Some (y, us) ≡ Some l → ts ≡ Fixed (s.Mark (adding_mark l.0)) ∷ l.1
+    goes y us h r = after_is (s.Mark (adding_mark y)) ts us h ∙ ap (λ z. Fixed (s.Mark (adding_mark z.0)) ∷ z.1) (some_is (y, us) l r)
 
 adding_shorter : (ts : List Token) (l : Adding × List Token) → adding_at ts ≡ Some l → length l.1 < length ts
-unfolding adding_at
-adding_shorter ts l q =
-    elim (choose_some (after (s.Mark marks.Plus) ts) _ _ (Some l) q) as (λ _. length l.1 < length ts) [
-      | inl g ↦ subst (λ z. length z.1 < length ts) (some_is (a.Plus, g.0) l g.2) (after_shorter (s.Mark marks.Plus) ts g.0 g.1)
-      | inr b ↦
-          elim (choose_some (after (s.Mark marks.Minus) ts) _ _ (Some l) b.1) as (λ _. length l.1 < length ts) [
-            | inl g ↦ subst (λ z. length z.1 < length ts) (some_is (a.Minus, g.0) l g.2) (after_shorter (s.Mark marks.Minus) ts g.0 g.1)
-            | inr g ↦ absurd cc
-          ]
-    ]
+adding_shorter ts l q = let n : length ts ≡ suc (length l.1) = ap length (adding_is ts l q) in omega arith
+
+-- what stands behind a sign
+signed_is : (y : Adding) (us to : List Token) (x : Expr) → IsPrimary us to x → IsFactor (Fixed (s.Mark (adding_mark y)) ∷ us) to (signed y x)
+signed_is a.Plus us to x h = positive h
+signed_is a.Minus us to x h = negative h
+
+step_is : (y : Adding) (us mid to : List Token) (x : Expr) (xs : List Step) → IsTerm us mid x → IsSteps mid to xs → IsSteps (Fixed (s.Mark (adding_mark y)) ∷ us) to (record { adding = y; term = x } ∷ xs)
+step_is a.Plus us mid to x xs one rest = plus one rest
+step_is a.Minus us mid to x xs one rest = minus one rest
 
 adding_nil : adding_at [] ≡ None
 unfolding adding_at after
@@ -141,17 +144,12 @@ module _ (inner : Parser Expr) (h : Sound inner IsExpr) where
   factor_sound : (ts : List Token) (x : Expr × List Token) → factor_at inner ts ≡ Some x → IsFactor ts x.1 x.0
   unfolding factor_at
   factor_sound ts x q =
-      elim (choose_some (after (s.Mark marks.Plus) ts) _ _ (Some x) q) as (λ _. IsFactor ts x.1 x.0) [
+      elim (choose_some (adding_at ts) _ _ (Some x) q) as (λ _. IsFactor ts x.1 x.0) [
         | inl g ↦
-            let f = bind_some (primary_at inner g.0) _ x g.2 in
-            spells IsFactor ts f.0.1 (e.Positive f.0.0) x (begins IsFactor (s.Mark marks.Plus) ts g.0 f.0.1 (e.Positive f.0.0) g.1 (positive (primary_sound g.0 f.0 f.1))) f.2
-        | inr b ↦
-            elim (choose_some (after (s.Mark marks.Minus) ts) _ _ (Some x) b.1) as (λ _. IsFactor ts x.1 x.0) [
-              | inl g ↦
-                  let f = bind_some (primary_at inner g.0) _ x g.2 in
-                  spells IsFactor ts f.0.1 (e.Negative f.0.0) x (begins IsFactor (s.Mark marks.Minus) ts g.0 f.0.1 (e.Negative f.0.0) g.1 (negative (primary_sound g.0 f.0 f.1))) f.2
-              | inr g ↦ plain (primary_sound ts x g.1)
-            ]
+            let f = bind_some (primary_at inner g.0.1) _ x g.2 in
+            let one = signed_is g.0.0 g.0.1 f.0.1 f.0.0 (primary_sound g.0.1 f.0 f.1) in
+            spells IsFactor ts f.0.1 (signed g.0.0 f.0.0) x (starts IsFactor ts (Fixed (s.Mark (adding_mark g.0.0)) ∷ g.0.1) f.0.1 (signed g.0.0 f.0.0) (adding_is ts g.0 g.1) one) f.2
+        | inr g ↦ plain (primary_sound ts x g.1)
       ]
 
   pub sound_factor : Sound (factor_at inner) IsFactor
@@ -179,7 +177,8 @@ module _ (inner : Parser Expr) (h : Sound inner IsExpr) where
     none = λ to. no_step;
     more = λ ts to l x xs a q m.
         let f = step_sound l x q in
-        subst (λ y. IsSteps ts to (y ∷ xs)) f.2 (adding_is ts l a xs f.0 x.1 to f.1 m);
+        let y : Step = record { adding = l.0; term = f.0 } in
+        subst (λ y. IsSteps ts to (y ∷ xs)) f.2 (starts IsSteps ts (Fixed (s.Mark (adding_mark l.0)) ∷ l.1) to (y ∷ xs) (adding_is ts l a) (step_is l.0 l.1 x.1 to f.0 xs f.1 m));
   }
 
   sum_sound : (ts : List Token) (x : Expr × List Token) → sum_at inner ts ≡ Some x → IsExpr ts x.1 x.0

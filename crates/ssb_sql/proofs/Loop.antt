@@ -25,10 +25,14 @@ pub first_goes : {A : Type 0} (sign : Sign) (p : Parser A) (ts end : List Token)
 unfolding chained_at
 first_goes sign p ts end x e = rw e refl
 
+-- nothing is made of what was not read
+pub bind_fails : {A B : Type 0} (e : Stop) (read : Option A) (f : A → Option B) → Fails e read → Fails e (read >>= f)
+bind_fails stop.Memory read f h = tt
+bind_fails stop.Syntax read f h = rw h refl
+
 pub first_fails : {A : Type 0} (sign : Sign) (p : Parser A) (e : Stop) (ts : List Token) → Fails e (p ts) → Fails e (chained_at sign p ts)
 unfolding chained_at
-first_fails sign p stop.Memory ts f = tt
-first_fails sign p stop.Syntax ts f = rw f refl
+first_fails sign p e ts f = bind_fails e (p ts) (λ x. more_at (after sign) p (x.0 ∷ []) x.1) f
 
 module _ {A L : Type 0} (link : List Token → Option L) (piece : L → Option (A × List Token)) (h : Shrinks link piece) where
   same_read : (o : Option (A × List Token)) (f g : Parser (List A)) → ((x : A × List Token) → o ≡ Some x → f x.1 ≡ g x.1) → joined o f ≡ joined o g

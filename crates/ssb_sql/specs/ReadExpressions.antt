@@ -22,20 +22,21 @@ bare_primary_at ts =
 unfoldable pub primary_at : Parser Expr → Parser Expr
 primary_at inner ts = choose (after (s.Mark marks.Open) ts) (closed_at inner) (bare_primary_at ts)
 
-unfoldable pub factor_at : Parser Expr → Parser Expr
-factor_at inner ts =
-    choose (after (s.Mark marks.Plus) ts) (λ rest. primary_at inner rest >>= λ x. Some (e.Positive x.0, x.1))
-    (choose (after (s.Mark marks.Minus) ts) (λ rest. primary_at inner rest >>= λ x. Some (e.Negative x.0, x.1))
-    (primary_at inner ts))
-
-unfoldable pub term_at : Parser Expr → Parser Expr
-term_at inner ts = chained_at (s.Mark marks.Times) (factor_at inner) ts >>= λ xs. Some (times_of xs.0, xs.1)
-
 -- `+` or `-`, and what follows
 unfoldable pub adding_at : List Token → Option (Adding × List Token)
 adding_at ts = choose (after (s.Mark marks.Plus) ts) (λ rest. Some (a.Plus, rest)) (choose (after (s.Mark marks.Minus) ts) (λ rest. Some (a.Minus, rest)) None)
 
 -- a term behind its sign
+abbrev pub signed : Adding → Expr → Expr
+signed a.Plus x = e.Positive x
+signed a.Minus x = e.Negative x
+
+unfoldable pub factor_at : Parser Expr → Parser Expr
+factor_at inner ts = choose (adding_at ts) (λ l. primary_at inner l.1 >>= λ x. Some (signed l.0 x.0, x.1)) (primary_at inner ts)
+
+unfoldable pub term_at : Parser Expr → Parser Expr
+term_at inner ts = chained_at (s.Mark marks.Times) (factor_at inner) ts >>= λ xs. Some (times_of xs.0, xs.1)
+
 unfoldable pub step_at : Parser Expr → Adding × List Token → Option (Step × List Token)
 step_at inner l = term_at inner l.1 >>= λ x. Some (record { adding = l.0; term = x.0 }, x.1)
 

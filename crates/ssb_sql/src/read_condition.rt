@@ -11,7 +11,7 @@ ghost use Rattle.ssb_sql.specs.declared.token.Sign.TheVariants as s;
 use crate::chain::chain;
 use crate::condition::Condition;
 use crate::read_test::bare;
-use crate::steps::{Stop, after, expect};
+use crate::steps::{Stop, after, closing};
 use crate::token::{Mark, Sign, Token};
 use sqlite_items::{Boxed, Items};
 use ssb_cells::Keyword;
@@ -40,22 +40,15 @@ fn and_chain(mut all: Items<Condition>) -> Condition
 }
 
 #[cycle(condition)]
-#[tactic(auto, unfolding(crate::specs::Steps::closed_at))]
-fn closed(alloc: Global, depth: usize, tokens: &[Token]) -> Result<(Condition, &[Token]), Stop>
-    ensures { Gives seen result (closed_at (cond_at depth) tokens.now) }
-{
-    let (found, rest) = condition(alloc, depth, tokens)?;
-    let rest = expect(rest, Sign::Mark(Mark::Close))?;
-    Ok((found, rest))
-}
-
-#[cycle(condition)]
-#[tactic(auto, unfolding(crate::specs::ReadConditions::test_at))]
+#[tactic(auto, unfolding(crate::specs::ReadConditions::test_at, crate::specs::Steps::closed_at))]
 fn test(alloc: Global, depth: usize, tokens: &[Token]) -> Result<(Condition, &[Token]), Stop>
     ensures { Gives seen result (test_at (cond_at depth) tokens.now) }
 {
     match after(tokens, Sign::Mark(Mark::Open)) {
-        Some(inside) => closed(alloc, depth, inside),
+        Some(inside) => {
+            let (found, rest) = condition(alloc, depth, inside)?;
+            closing(found, rest)
+        }
         None => bare(alloc, tokens),
     }
 }
@@ -75,48 +68,19 @@ fn negation(alloc: Global, depth: usize, tokens: &[Token]) -> Result<(Condition,
 }
 
 #[cycle(condition)]
-fn negations(
-    alloc: Global,
-    depth: usize,
-    tokens: &[Token],
-) -> Result<(Items<Condition>, &[Token]), Stop>
-    ensures { Gives seen result (chained_at (s.Word words.And) (neg_at (cond_at depth)) tokens.now) }
+#[tactic(auto, unfolding(crate::specs::ReadConditions::conj_at))]
+fn conjunction(alloc: Global, depth: usize, tokens: &[Token]) -> Result<(Condition, &[Token]), Stop>
+    ensures { Gives seen result (conj_at (cond_at depth) tokens.now) }
 {
-    chain(
+    let (all, rest) = chain(
         alloc,
         Sign::Word(Keyword::And),
         tokens,
         |start: &[Token]|
             ensures { Gives seen result (neg_at (cond_at depth) start.now) }
         { negation(alloc, depth, start) },
-    )
-}
-
-#[cycle(condition)]
-#[tactic(auto, unfolding(crate::specs::ReadConditions::conj_at))]
-fn conjunction(alloc: Global, depth: usize, tokens: &[Token]) -> Result<(Condition, &[Token]), Stop>
-    ensures { Gives seen result (conj_at (cond_at depth) tokens.now) }
-{
-    let (all, rest) = negations(alloc, depth, tokens)?;
+    )?;
     Ok((and_chain(all), rest))
-}
-
-#[cycle(condition)]
-fn conjunctions(
-    alloc: Global,
-    depth: usize,
-    tokens: &[Token],
-) -> Result<(Items<Condition>, &[Token]), Stop>
-    ensures { Gives seen result (chained_at (s.Word words.Or) (conj_at (cond_at depth)) tokens.now) }
-{
-    chain(
-        alloc,
-        Sign::Word(Keyword::Or),
-        tokens,
-        |start: &[Token]|
-            ensures { Gives seen result (conj_at (cond_at depth) start.now) }
-        { conjunction(alloc, depth, start) },
-    )
 }
 
 /// Reads a condition inside fewer than `depth` parentheses.
@@ -132,6 +96,14 @@ pub(crate) fn condition(
     if depth == 0 {
         return Err(Stop::Syntax);
     }
-    let (all, rest) = conjunctions(alloc, depth - 1, tokens)?;
+    let inside = depth - 1;
+    let (all, rest) = chain(
+        alloc,
+        Sign::Word(Keyword::Or),
+        tokens,
+        |start: &[Token]|
+            ensures { Gives seen result (conj_at (cond_at inside) start.now) }
+        { conjunction(alloc, inside, start) },
+    )?;
     Ok((or_chain(all), rest))
 }

@@ -4,14 +4,14 @@ ghost use Rattle.std.specs.Prelude.{◌≡◌, [], ◌∷◌, IfOk};
 ghost use Rattle.ssb_sql.specs.Expressions.{sum_of, times_of};
 ghost use Rattle.ssb_sql.specs.Reading.{seen, seen_if};
 ghost use Rattle.ssb_sql.specs.Steps.{Gives, after, chained_at, more_at, closed_at};
-ghost use Rattle.ssb_sql.specs.ReadExpressions.{bare_primary_at, primary_at, factor_at, term_at, adding_at, step_at, expr_at};
+ghost use Rattle.ssb_sql.specs.ReadExpressions.{bare_primary_at, primary_at, adding_at, signed, factor_at, term_at, step_at, expr_at};
 ghost use Rattle.ssb_sql.specs.declared.token.Mark.TheVariants as marks;
 ghost use Rattle.ssb_sql.specs.declared.token.Sign.TheVariants as s;
 
 use crate::chain::chain;
 use crate::expr::{Adding, Expr, Step};
 use crate::read_parts::column;
-use crate::steps::{Stop, after, expect, is_name_next, number};
+use crate::steps::{Stop, after, closing, is_name_next, number};
 use crate::token::{Mark, Sign, Token};
 use sqlite_items::{Boxed, Items};
 use std::alloc::{AllocError, Global};
@@ -65,28 +65,27 @@ fn adding(tokens: &[Token]) -> Option<(Adding, &[Token])>
     }
 }
 
-/// Reads an expression and the `)` behind it.
-#[cycle(expression)]
-#[tactic(auto, unfolding(crate::specs::Steps::closed_at))]
-pub(crate) fn closed(
-    alloc: Global,
-    depth: usize,
-    tokens: &[Token],
-) -> Result<(Expr, &[Token]), Stop>
-    ensures { Gives seen result (closed_at (expr_at depth) tokens.now) }
+// A factor with its sign.
+fn signed(alloc: Global, sign: Adding, found: Expr) -> Result<Expr, AllocError>
+    ensures { IfOk result (λ x. x ≡ signed sign found) }
 {
-    let (found, rest) = expression(alloc, depth, tokens)?;
-    let rest = expect(rest, Sign::Mark(Mark::Close))?;
-    Ok((found, rest))
+    let inner = Boxed::new(alloc, found)?;
+    match sign {
+        Adding::Plus => Ok(Expr::Positive(inner)),
+        Adding::Minus => Ok(Expr::Negative(inner)),
+    }
 }
 
 #[cycle(expression)]
-#[tactic(auto, unfolding(crate::specs::ReadExpressions::primary_at))]
+#[tactic(auto, unfolding(crate::specs::ReadExpressions::primary_at, crate::specs::Steps::closed_at))]
 fn primary(alloc: Global, depth: usize, tokens: &[Token]) -> Result<(Expr, &[Token]), Stop>
     ensures { Gives seen result (primary_at (expr_at depth) tokens.now) }
 {
     match after(tokens, Sign::Mark(Mark::Open)) {
-        Some(inside) => closed(alloc, depth, inside),
+        Some(inside) => {
+            let (found, rest) = expression(alloc, depth, inside)?;
+            closing(found, rest)
+        }
         None => bare_primary(alloc, tokens),
     }
 }
@@ -96,68 +95,43 @@ fn primary(alloc: Global, depth: usize, tokens: &[Token]) -> Result<(Expr, &[Tok
 fn factor(alloc: Global, depth: usize, tokens: &[Token]) -> Result<(Expr, &[Token]), Stop>
     ensures { Gives seen result (factor_at (expr_at depth) tokens.now) }
 {
-    if let Some(rest) = after(tokens, Sign::Mark(Mark::Plus)) {
-        let (found, rest) = primary(alloc, depth, rest)?;
-        return Ok((Expr::Positive(Boxed::new(alloc, found)?), rest));
+    match adding(tokens) {
+        Some((sign, rest)) => {
+            let (found, rest) = primary(alloc, depth, rest)?;
+            Ok((signed(alloc, sign, found)?, rest))
+        }
+        None => primary(alloc, depth, tokens),
     }
-    if let Some(rest) = after(tokens, Sign::Mark(Mark::Minus)) {
-        let (found, rest) = primary(alloc, depth, rest)?;
-        return Ok((Expr::Negative(Boxed::new(alloc, found)?), rest));
-    }
-    primary(alloc, depth, tokens)
 }
 
 #[cycle(expression)]
-fn factors(alloc: Global, depth: usize, tokens: &[Token]) -> Result<(Items<Expr>, &[Token]), Stop>
-    ensures { Gives seen result (chained_at (s.Mark marks.Times) (factor_at (expr_at depth)) tokens.now) }
+fn term(alloc: Global, depth: usize, tokens: &[Token]) -> Result<(Expr, &[Token]), Stop>
+    ensures { Gives seen result (term_at (expr_at depth) tokens.now) }
 {
-    chain(
+    let (all, rest) = chain(
         alloc,
         Sign::Mark(Mark::Times),
         tokens,
         |start: &[Token]|
             ensures { Gives seen result (factor_at (expr_at depth) start.now) }
         { factor(alloc, depth, start) },
-    )
-}
-
-#[cycle(expression)]
-#[tactic(auto, unfolding(crate::specs::ReadExpressions::term_at))]
-fn term(alloc: Global, depth: usize, tokens: &[Token]) -> Result<(Expr, &[Token]), Stop>
-    ensures { Gives seen result (term_at (expr_at depth) tokens.now) }
-{
-    let (all, rest) = factors(alloc, depth, tokens)?;
+    )?;
     Ok((times_of(all), rest))
-}
-
-#[cycle(expression)]
-#[tactic(auto, unfolding(crate::specs::ReadExpressions::step_at))]
-fn step(
-    alloc: Global,
-    depth: usize,
-    adding: Adding,
-    tokens: &[Token],
-) -> Result<(Step, &[Token]), Stop>
-    ensures { Gives seen result (step_at (expr_at depth) (adding, tokens.now)) }
-{
-    let (term, rest) = term(alloc, depth, tokens)?;
-    Ok((Step { adding, term }, rest))
 }
 
 #[cycle(expression)]
 fn more_terms(
     alloc: Global,
     depth: usize,
-    front: Items<Step>,
     tokens: &[Token],
 ) -> Result<(Items<Step>, &[Token]), Stop>
-    ensures { Gives seen result (more_at adding_at (step_at (expr_at depth)) front tokens.now) }
+    ensures { Gives seen result (more_at adding_at (step_at (expr_at depth)) [] tokens.now) }
 {
-    let mut all = front;
+    let mut all = Items::new(alloc);
     let mut rest = tokens;
     while let Some((adding, start)) = adding(rest) {
-        let (found, end) = step(alloc, depth, adding, start)?;
-        all.push(found)?;
+        let (term, end) = term(alloc, depth, start)?;
+        all.push(Step { adding, term })?;
         rest = end;
     }
     Ok((all, rest))
@@ -177,6 +151,6 @@ pub(crate) fn expression(
         return Err(Stop::Syntax);
     }
     let (first, rest) = term(alloc, depth - 1, tokens)?;
-    let (steps, rest) = more_terms(alloc, depth - 1, Items::new(alloc), rest)?;
+    let (steps, rest) = more_terms(alloc, depth - 1, rest)?;
     Ok((sum_of(alloc, first, steps)?, rest))
 }

@@ -9,14 +9,23 @@ ghost use Rattle.ssb_sql.specs.declared.token.Sign.TheVariants as s;
 
 use crate::chain::list;
 use crate::expr::Expr;
-use crate::read_expr::closed;
+use crate::read_expr::expression;
 use crate::read_parts::column;
 use crate::select::{Item, Key, Order, Output};
-use crate::steps::{Stop, after, expect, is_name_next, name, number};
+use crate::steps::{Stop, after, closing, expect, is_name_next, name, number};
 use crate::token::{Mark, Sign, Token};
 use sqlite_items::Items;
 use ssb_cells::Keyword;
 use std::alloc::Global;
+
+// An expression and the `)` behind it.
+#[tactic(auto, unfolding(crate::specs::Steps::closed_at))]
+fn closed(alloc: Global, depth: usize, tokens: &[Token]) -> Result<(Expr, &[Token]), Stop>
+    ensures { Gives seen result (closed_at (expr_at depth) tokens.now) }
+{
+    let (found, rest) = expression(alloc, depth, tokens)?;
+    closing(found, rest)
+}
 
 #[tactic(auto, unfolding(crate::specs::Steps::parens_at))]
 fn in_parens(alloc: Global, depth: usize, tokens: &[Token]) -> Result<(Expr, &[Token]), Stop>

@@ -3,10 +3,10 @@
 ghost use Rattle.std.specs.Prelude.{◌≡◌};
 ghost use Rattle.std.specs.Option.{option_copied};
 ghost use Rattle.ssb_sql.specs.Reading.{seen};
-ghost use Rattle.ssb_sql.specs.Steps.{Gives, is_sign, is_fixed, after, name_at, number_at, text_at, is_name_next, is_text_next};
+ghost use Rattle.ssb_sql.specs.Steps.{Gives, closing_at, is_sign, is_fixed, after, name_at, number_at, text_at, is_name_next, is_text_next};
 
 use crate::text::Text;
-use crate::token::{Sign, Token};
+use crate::token::{Mark, Sign, Token};
 use ssb_cells::Name;
 use std::alloc::{AllocError, Global};
 
@@ -69,6 +69,14 @@ pub(crate) fn expect(tokens: &[Token], sign: Sign) -> Result<&[Token], Stop>
         Some(rest) => Ok(rest),
         None => Err(Stop::Syntax),
     }
+}
+
+// What was read, where a `)` comes next.
+pub(crate) fn closing<T: Drop>(found: T, tokens: &[Token]) -> Result<(T, &[Token]), Stop>
+    ensures { Gives seen result (closing_at found tokens.now) }
+{
+    let rest = expect(tokens, Sign::Mark(Mark::Close))?;
+    Ok((found, rest))
 }
 
 #[tactic(auto, unfolding(crate::specs::Steps::is_name_next))]

@@ -1,40 +1,51 @@
-use Rattle.std.proofs.Common.{sym, arith, rules}
+use Rattle.std.proofs.Common.{[], refl, sym, arith, rules}
 use Rattle.std.proofs.lemmas.Result.{err_from_is_err_and}
 use Rattle.ssb_sql.specs.Steps.{more_at}
-use Rattle.ssb_sql.specs.ReadExpressions.{factor_at, adding_at, step_at, expr_at}
-use Rattle.ssb_sql.proofs.Loop.{goes_on, is_done, turn_fails, shorter_by}
+use Rattle.ssb_sql.specs.ReadExpressions.{factor_at, term_at, adding_at, step_at, expr_at}
+use Rattle.ssb_sql.proofs.Loop.{bind_fails, goes_on, is_done, turn_fails, shorter_by}
 use Rattle.ssb_sql.proofs.ExpressionSound.{factor_shrinks, step_shrinks}
-use Rattle.ssb_sql.proofs.SumFacts.{sum_reads, sum_stops}
+use Rattle.ssb_sql.proofs.SumFacts.{step_reads, step_stops, sum_reads, sum_stops}
 use Rattle.ssb_sql.proofs.read_expr.+expression.Goals as goal
 
-pub factors-chain-requires-clause-shrinks : goal.factors-chain-requires-clause-shrinks
-factors-chain-requires-clause-shrinks t c = (factor_at (expr_at c.args.depth), factor_shrinks c.args.depth, λ ts r h. search rules)
+pub term-chain-requires-clause-shrinks : goal.term-chain-requires-clause-shrinks
+term-chain-requires-clause-shrinks t c = (factor_at (expr_at c.args.depth), factor_shrinks c.args.depth, λ ts r h. search rules)
 
-pub factors-returns : goal.factors-returns
-factors-returns t c = c.chain.ensures (factor_at (expr_at c.args.depth)) (factor_shrinks c.args.depth) (λ ts r h. search rules)
-
-pub more_terms-returns-in_err-found : goal.more_terms-returns-in_err-found
-more_terms-returns-in_err-found t c =
+pub term-returns-in_err-all : goal.term-returns-in_err-all
+unfolding term_at
+term-returns-in_err-all t c =
     let q = err_from_is_err_and c.from_residual.result c.from_residual.ensures.1 in
-    rw (q.1, q.2) (turn_fails adding_at (step_at (expr_at c.args.depth)) (step_shrinks c.args.depth) c.in_err-found.field-0.0 c.loop-adding.all c.loop-adding.rest.now (c.in-Some.adding, c.in-Some.start.now) (more_at adding_at (step_at (expr_at c.args.depth)) c.args.front c.args.tokens.now) (sym c.in-Some.ensures) c.in_err-found.ensures c.loop-adding.invariant)
+    rw (q.1, q.2) (bind_fails c.in_err-all.field-0.0 _ _ (c.in_err-all.ensures (factor_at (expr_at c.args.depth)) (factor_shrinks c.args.depth) (λ ts r h. search rules)))
+
+pub term-returns : goal.term-returns
+unfolding term_at
+term-returns t c = rw (c.in_ok-all.ensures (factor_at (expr_at c.args.depth)) (factor_shrinks c.args.depth) (λ ts r h. search rules), c.times_of.ensures) refl
+
+pub more_terms-returns-in_err-term : goal.more_terms-returns-in_err-term
+more_terms-returns-in_err-term t c =
+    let q = err_from_is_err_and c.from_residual.result c.from_residual.ensures.1 in
+    let d = c.args.depth in
+    let e = c.in_err-term.field-0.0 in
+    rw (q.1, q.2) (turn_fails adding_at (step_at (expr_at d)) (step_shrinks d) e c.loop-adding.all c.loop-adding.rest.now (c.in-Some.adding, c.in-Some.start.now) (more_at adding_at (step_at (expr_at d)) [] c.args.tokens.now) (sym c.in-Some.ensures) (step_stops d e (c.in-Some.adding, c.in-Some.start.now) c.in_err-term.ensures) c.loop-adding.invariant)
 
 pub more_terms-loop-adding-smaller : goal.more_terms-loop-adding-smaller
-more_terms-loop-adding-smaller t c = shorter_by adding_at (step_at (expr_at c.args.depth)) (step_shrinks c.args.depth) c.loop-adding.rest.now c.in_ok-found.end.now (c.in-Some.adding, c.in-Some.start.now) c.in_ok-found.found (sym c.in-Some.ensures) c.in_ok-found.ensures
+more_terms-loop-adding-smaller t c =
+    let d = c.args.depth in
+    let one = c.in_ok-term in
+    shorter_by adding_at (step_at (expr_at d)) (step_shrinks d) c.loop-adding.rest.now one.end.now (c.in-Some.adding, c.in-Some.start.now) _ (sym c.in-Some.ensures) (step_reads d (c.in-Some.adding, c.in-Some.start.now) one.end.now one.term one.ensures)
 
 pub more_terms-loop-adding-preserved : goal.more_terms-loop-adding-preserved
 more_terms-loop-adding-preserved t c =
-    rw c.in_ok-push.ensures.ok (goes_on adding_at (step_at (expr_at c.args.depth)) (step_shrinks c.args.depth) c.loop-adding.all c.loop-adding.rest.now c.in_ok-found.end.now (c.in-Some.adding, c.in-Some.start.now) c.in_ok-found.found (more_at adding_at (step_at (expr_at c.args.depth)) c.args.front c.args.tokens.now) (sym c.in-Some.ensures) c.in_ok-found.ensures c.loop-adding.invariant)
+    let d = c.args.depth in
+    let one = c.in_ok-term in
+    rw c.in_ok-push.ensures.ok (goes_on adding_at (step_at (expr_at d)) (step_shrinks d) c.loop-adding.all c.loop-adding.rest.now one.end.now (c.in-Some.adding, c.in-Some.start.now) _ (more_at adding_at (step_at (expr_at d)) [] c.args.tokens.now) (sym c.in-Some.ensures) (step_reads d (c.in-Some.adding, c.in-Some.start.now) one.end.now one.term one.ensures) c.loop-adding.invariant)
 
 pub more_terms-returns : goal.more_terms-returns
-more_terms-returns t c = is_done adding_at (step_at (expr_at c.args.depth)) (step_shrinks c.args.depth) c.loop-adding.all c.loop-adding.rest.now (more_at adding_at (step_at (expr_at c.args.depth)) c.args.front c.args.tokens.now) (sym c.in_default.ensures) c.loop-adding.invariant
+more_terms-returns t c = is_done adding_at (step_at (expr_at c.args.depth)) (step_shrinks c.args.depth) c.loop-adding.all c.loop-adding.rest.now (more_at adding_at (step_at (expr_at c.args.depth)) [] c.args.tokens.now) (sym c.in_default.ensures) c.loop-adding.invariant
 
 pub expression-returns-in_err-steps : goal.expression-returns-in_err-steps
 expression-returns-in_err-steps t c =
     let q = err_from_is_err_and c.from_residual-in_err-steps.result c.from_residual-in_err-steps.ensures.1 in
-    let more = rw c.new.ensures at c.in_err-steps.ensures in
-    rw (q.1, q.2) (sum_stops c.args.depth _ c.args.tokens.now _ _ c.in_err-steps.field-0.0 (omega (arith, c.if-depth-eq0.false)) c.in_ok-first.ensures more)
+    rw (q.1, q.2) (sum_stops c.args.depth _ c.args.tokens.now _ _ c.in_err-steps.field-0.0 (omega (arith, c.if-depth-eq0.false)) c.in_ok-first.ensures c.in_err-steps.ensures)
 
 pub expression-returns : goal.expression-returns
-expression-returns t c =
-    let more = rw c.new.ensures at c.in_ok-steps.ensures in
-    rw c.in_ok-sum_of.ensures (sum_reads c.args.depth _ c.args.tokens.now _ _ _ _ (omega (arith, c.if-depth-eq0.false)) c.in_ok-first.ensures more)
+expression-returns t c = rw c.in_ok-sum_of.ensures (sum_reads c.args.depth _ c.args.tokens.now _ _ _ _ (omega (arith, c.if-depth-eq0.false)) c.in_ok-first.ensures c.in_ok-steps.ensures)

@@ -1,37 +1,28 @@
-use Rattle.std.proofs.Common.{◌≡◌, length, ◌+◌, ◌*◌}
+use Rattle.std.proofs.Common.{◌≡◌, [], length, ◌+◌, ◌*◌}
 use Rattle.ssb_sql.specs.Steps.{more_at}
 use Rattle.ssb_sql.specs.ReadExpressions.{adding_at, step_at, expr_at}
 use Rattle.ssb_sql.proofs.read_expr.+expression.Given as goal
 
 abbrev pub decreases-expression : goal.decreases-expression
-decreases-expression l = 9 * l.depth
-
-abbrev pub decreases-closed : goal.decreases-closed
-decreases-closed l = 9 * l.depth + 1
+decreases-expression l = 6 * l.depth
 
 abbrev pub decreases-primary : goal.decreases-primary
-decreases-primary l = 9 * l.depth + 2
+decreases-primary l = 6 * l.depth + 1
 
 abbrev pub decreases-factor : goal.decreases-factor
-decreases-factor l = 9 * l.depth + 3
+decreases-factor l = 6 * l.depth + 2
 
-abbrev pub decreases-factors-chain : goal.decreases-factors-chain
-decreases-factors-chain l = 9 * l.depth + 4
-
-abbrev pub decreases-factors : goal.decreases-factors
-decreases-factors l = 9 * l.depth + 5
+abbrev pub decreases-term-chain : goal.decreases-term-chain
+decreases-term-chain l = 6 * l.depth + 3
 
 abbrev pub decreases-term : goal.decreases-term
-decreases-term l = 9 * l.depth + 6
-
-abbrev pub decreases-step : goal.decreases-step
-decreases-step l = 9 * l.depth + 7
+decreases-term l = 6 * l.depth + 4
 
 abbrev pub decreases-more_terms : goal.decreases-more_terms
-decreases-more_terms l = 9 * l.depth + 8
+decreases-more_terms l = 6 * l.depth + 5
 
 abbrev pub invariant-more_terms-loop-adding : goal.invariant-more_terms-loop-adding
-invariant-more_terms-loop-adding l = more_at adding_at (step_at (expr_at l.depth)) l.all l.rest ≡ more_at adding_at (step_at (expr_at l.depth)) l.fn.front l.fn.tokens
+invariant-more_terms-loop-adding l = more_at adding_at (step_at (expr_at l.depth)) l.all l.rest ≡ more_at adding_at (step_at (expr_at l.depth)) [] l.fn.tokens
 
 abbrev pub decreases-more_terms-loop-adding : goal.decreases-more_terms-loop-adding
 decreases-more_terms-loop-adding l = length l.rest

@@ -5,6 +5,7 @@ use Rattle.ssb_cells.specs.declared.value.Op.TheVariants as op
 use Rattle.ssb_sql.specs.declared.token.Token.{Token}
 use Rattle.ssb_sql.specs.declared.token.Token.TheVariants.{Fixed, Number}
 use Rattle.ssb_sql.specs.declared.token.Sign.{Sign}
+use Rattle.ssb_cells.specs.declared.keyword.Keyword.{Keyword}
 use Rattle.ssb_cells.specs.declared.keyword.Keyword.TheVariants as words
 use Rattle.ssb_sql.specs.declared.token.Mark.TheVariants as marks
 use Rattle.ssb_sql.specs.declared.token.Sign.TheVariants as s
@@ -28,7 +29,7 @@ use Rattle.ssb_sql.specs.Conditions.IsTest.{parens, bare}
 use Rattle.ssb_sql.specs.Room.{HasRoom}
 use Rattle.ssb_sql.specs.Steps.{Parser, after, is_fixed, is_sign, chain_at, more_at, list_at, parens_at, chained_at}
 use Rattle.ssb_sql.specs.ReadParts.{literal_at, operand_at}
-use Rattle.ssb_sql.specs.ReadConditions.{op_at, limits_at, members_at, between_of, in_of, range_at, null_at, compared_at, tail_at, bare_at, test_at, neg_at, conj_at, cond_at}
+use Rattle.ssb_sql.specs.ReadConditions.{op_at, limits_at, members_at, among_at, between_of, in_of, range_at, nulled_at, null_at, compared_at, tail_at, bare_at, test_at, neg_at, conj_at, cond_at}
 use Rattle.ssb_sql.proofs.StepFacts.{Stops, stops, differs, sees}
 use Rattle.ssb_sql.proofs.Shapes.{Complete, GoesOn, turn_done, turn_goes, more_goes, closed_read, list_read}
 use Rattle.ssb_sql.proofs.PartFacts.{tame_literal, literal_read, operand_read}
@@ -80,7 +81,7 @@ no_dot : (sign : Sign) (ts : List Token) → is_sign sign (s.Mark marks.Dot) ≡
 no_dot sign ts h = stops sign (s.Mark marks.Dot) ts h
 
 op_read : (y : Op) (ts : List Token) → op_at (Fixed (s.Mark (mark_of y)) ∷ ts) ≡ Some (y, ts)
-unfolding op_at after is_fixed is_sign
+unfolding op_at
 op_read op.Eq ts = refl
 op_read op.Ne ts = refl
 op_read op.Lt ts = refl
@@ -128,7 +129,7 @@ unfolding range_at
 between_goes negated x low to l e = rw (sees (s.Word words.Between) low, e) refl
 
 in_goes : (negated : Bool) (x : Operand) (rest to : List Token) (ys : List Literal) → members_at rest ≡ Some (ys, to) → range_at negated x (Fixed (s.Word words.In) ∷ rest) ≡ Some (in_of negated x ys, to)
-unfolding range_at
+unfolding range_at among_at
 in_goes negated x rest to ys e = rw (stops (s.Word words.In) (s.Word words.Between) rest (differs (s.Word words.In) (s.Word words.Between) refl), sees (s.Word words.In) rest, e) refl
 
 -- NOT before BETWEEN or IN
@@ -136,11 +137,10 @@ negated_goes : (x : Operand) (rest : List Token) (r : Option (Condition × List 
 unfolding tail_at
 negated_goes x rest r e = rw (sees (s.Word words.Not) rest) e
 
-op_stops : (found : Sign) (ts : List Token) → is_sign found (s.Mark marks.Equal) ≡ false → is_sign found (s.Mark marks.NotEqual) ≡ false → is_sign found (s.Mark marks.Less) ≡ false → is_sign found (s.Mark marks.LessEqual) ≡ false
-    → is_sign found (s.Mark marks.Greater) ≡ false → is_sign found (s.Mark marks.GreaterEqual) ≡ false → op_at (Fixed found ∷ ts) ≡ None
+-- a word is no operator
+word_stops : (word : Keyword) (ts : List Token) → op_at (Fixed (s.Word word) ∷ ts) ≡ None
 unfolding op_at
-op_stops found ts a b d e f g =
-    rw (stops found (s.Mark marks.Equal) ts a, stops found (s.Mark marks.NotEqual) ts b, stops found (s.Mark marks.Less) ts d, stops found (s.Mark marks.LessEqual) ts e, stops found (s.Mark marks.Greater) ts f, stops found (s.Mark marks.GreaterEqual) ts g) refl
+word_stops word ts = refl
 
 -- BETWEEN or IN with no NOT
 range_goes : (found : Sign) (x : Operand) (ts : List Token) (r : Option (Condition × List Token)) → is_sign found (s.Word words.Not) ≡ false → is_sign found (s.Word words.Is) ≡ false → op_at (Fixed found ∷ ts) ≡ None
@@ -155,22 +155,14 @@ compared_goes y x z ts to e =
     rw (stops (s.Mark (mark_of y)) (s.Word words.Not) ts no.1, stops (s.Mark (mark_of y)) (s.Word words.Is) ts no.2, op_read y ts, e) refl
 
 null_goes : (x : ColumnName) (to : List Token) → tail_at (o.Column x) (Fixed (s.Word words.Is) ∷ Fixed (s.Word words.Null) ∷ to) ≡ Some (c.IsNull x, to)
-unfolding tail_at null_at
+unfolding tail_at null_at nulled_at
 null_goes x to =
     rw (stops (s.Word words.Is) (s.Word words.Not) (Fixed (s.Word words.Null) ∷ to) (differs (s.Word words.Is) (s.Word words.Not) refl), sees (s.Word words.Is) (Fixed (s.Word words.Null) ∷ to), stops (s.Word words.Null) (s.Word words.Not) to (differs (s.Word words.Null) (s.Word words.Not) refl), sees (s.Word words.Null) to) refl
 
 not_null_goes : (x : ColumnName) (to : List Token) → tail_at (o.Column x) (Fixed (s.Word words.Is) ∷ Fixed (s.Word words.Not) ∷ Fixed (s.Word words.Null) ∷ to) ≡ Some (c.IsNotNull x, to)
-unfolding tail_at null_at
+unfolding tail_at null_at nulled_at
 not_null_goes x to =
     rw (stops (s.Word words.Is) (s.Word words.Not) (Fixed (s.Word words.Not) ∷ Fixed (s.Word words.Null) ∷ to) (differs (s.Word words.Is) (s.Word words.Not) refl), sees (s.Word words.Is) (Fixed (s.Word words.Not) ∷ Fixed (s.Word words.Null) ∷ to), sees (s.Word words.Not) (Fixed (s.Word words.Null) ∷ to), sees (s.Word words.Null) to) refl
-
-between_stops : (ts : List Token) → op_at (Fixed (s.Word words.Between) ∷ ts) ≡ None
-unfolding is_sign
-between_stops ts = op_stops (s.Word words.Between) ts refl refl refl refl refl refl
-
-in_stops : (ts : List Token) → op_at (Fixed (s.Word words.In) ∷ ts) ≡ None
-unfolding is_sign
-in_stops ts = op_stops (s.Word words.In) ts refl refl refl refl refl refl
 
 pub bare_read : {from to : List Token} {x : Condition} → IsTested from to x → Stops (s.Mark marks.Dot) to → bare_at from ≡ Some (x, to)
 bare_read (compare {from = from} {mid = mid} {to = to} {op = y} {x = x} {y = z} a b) n =
@@ -178,13 +170,13 @@ bare_read (compare {from = from} {mid = mid} {to = to} {op = y} {x = x} {y = z} 
     bare_goes from (Fixed (s.Mark (mark_of y)) ∷ mid) x (Some (c.Compare y x z, to)) (operand_read a (no_dot (s.Mark (mark_of y)) mid no.0)) (compared_goes y x z mid to (operand_read b n))
 bare_read (between {from = from} {low = low} {to = to} {x = x} {y = y} {z = z} a b g) n =
     bare_goes from (Fixed (s.Word words.Between) ∷ low) x (Some (c.Between x y z, to)) (operand_read a (no_dot (s.Word words.Between) low (differs (s.Word words.Between) (s.Mark marks.Dot) refl)))
-    (range_goes (s.Word words.Between) x low (Some (c.Between x y z, to)) (differs (s.Word words.Between) (s.Word words.Not) refl) (differs (s.Word words.Between) (s.Word words.Is) refl) (between_stops low) (between_goes false x low to (y, z) (limits_goes b g n)))
+    (range_goes (s.Word words.Between) x low (Some (c.Between x y z, to)) (differs (s.Word words.Between) (s.Word words.Not) refl) (differs (s.Word words.Between) (s.Word words.Is) refl) (word_stops words.Between low) (between_goes false x low to (y, z) (limits_goes b g n)))
 bare_read (not_between {from = from} {low = low} {to = to} {x = x} {y = y} {z = z} a b g) n =
     bare_goes from (Fixed (s.Word words.Not) ∷ Fixed (s.Word words.Between) ∷ low) x (Some (c.NotBetween x y z, to)) (operand_read a (no_dot (s.Word words.Not) (Fixed (s.Word words.Between) ∷ low) (differs (s.Word words.Not) (s.Mark marks.Dot) refl)))
     (negated_goes x (Fixed (s.Word words.Between) ∷ low) (Some (c.NotBetween x y z, to)) (between_goes true x low to (y, z) (limits_goes b g n)))
 bare_read (among {from = from} {mid = mid} {to = to} {x = x} {ys = ys} a b) n =
     bare_goes from (Fixed (s.Word words.In) ∷ Fixed (s.Mark marks.Open) ∷ mid) x (Some (c.In x ys, to)) (operand_read a (no_dot (s.Word words.In) (Fixed (s.Mark marks.Open) ∷ mid) (differs (s.Word words.In) (s.Mark marks.Dot) refl)))
-    (range_goes (s.Word words.In) x (Fixed (s.Mark marks.Open) ∷ mid) (Some (c.In x ys, to)) (differs (s.Word words.In) (s.Word words.Not) refl) (differs (s.Word words.In) (s.Word words.Is) refl) (in_stops (Fixed (s.Mark marks.Open) ∷ mid)) (in_goes false x (Fixed (s.Mark marks.Open) ∷ mid) to ys (members_goes b)))
+    (range_goes (s.Word words.In) x (Fixed (s.Mark marks.Open) ∷ mid) (Some (c.In x ys, to)) (differs (s.Word words.In) (s.Word words.Not) refl) (differs (s.Word words.In) (s.Word words.Is) refl) (word_stops words.In (Fixed (s.Mark marks.Open) ∷ mid)) (in_goes false x (Fixed (s.Mark marks.Open) ∷ mid) to ys (members_goes b)))
 bare_read (not_among {from = from} {mid = mid} {to = to} {x = x} {ys = ys} a b) n =
     bare_goes from (Fixed (s.Word words.Not) ∷ Fixed (s.Word words.In) ∷ Fixed (s.Mark marks.Open) ∷ mid) x (Some (c.NotIn x ys, to)) (operand_read a (no_dot (s.Word words.Not) (Fixed (s.Word words.In) ∷ Fixed (s.Mark marks.Open) ∷ mid) (differs (s.Word words.Not) (s.Mark marks.Dot) refl)))
     (negated_goes x (Fixed (s.Word words.In) ∷ Fixed (s.Mark marks.Open) ∷ mid) (Some (c.NotIn x ys, to)) (in_goes true x (Fixed (s.Mark marks.Open) ∷ mid) to ys (members_goes b)))

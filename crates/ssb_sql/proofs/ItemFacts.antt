@@ -1,5 +1,5 @@
 -- Items of the select list and keys of ORDER BY are read exactly.
-use Rattle.std.proofs.Common.{◌≡◌, ℕ, zero, suc, ◌<◌, true, false, List, ◌∷◌, length, Some, None, sym, ap, subst, ◌∙◌, arith, inl, inr}
+use Rattle.std.proofs.Common.{◌≡◌, ℕ, zero, suc, ◌<◌, true, false, List, ◌∷◌, length, Option, Some, None, sym, ap, subst, ◌∙◌, arith, inl, inr}
 use Rattle.ssb_sql.specs.declared.token.Token.{Token}
 use Rattle.ssb_sql.specs.declared.token.Token.TheVariants.{Fixed, Name, Number}
 use Rattle.ssb_cells.specs.declared.keyword.Keyword.TheVariants as words
@@ -21,8 +21,8 @@ use Rattle.ssb_sql.specs.Grammar.IsOrder.{plain, asc, desc}
 use Rattle.ssb_sql.specs.Steps.{after, name_at, number_at, is_name_next, closed_at, parens_at, Shrinks}
 use Rattle.ssb_sql.specs.ReadParts.{column_at}
 use Rattle.ssb_sql.specs.ReadExpressions.{expr_at}
-use Rattle.ssb_sql.specs.ReadSelects.{count_at, output_at, item_of, item_at, key_at, order_of, order_at}
-use Rattle.ssb_sql.proofs.StepFacts.{bind_some, choose_some, if_some, after_is}
+use Rattle.ssb_sql.specs.ReadSelects.{count_at, output_at, item_of, alias_at, item_at, key_at, order_of, order_at}
+use Rattle.ssb_sql.proofs.StepFacts.{some_is, bind_some, choose_some, if_some, after_is, two_are}
 use Rattle.ssb_sql.proofs.Shapes.{Sound, Tame, spells, starts, followed, sound_closed, shrinks}
 use Rattle.ssb_sql.proofs.PartFacts.{name_is, number_is, sound_column, tame_column}
 use Rattle.ssb_sql.proofs.ExpressionSound.{sound_expr, tame_expr}
@@ -33,7 +33,7 @@ count_sound d ts x e =
     elim (choose_some (after (s.Mark marks.Times) ts) _ _ (Some x) e) as (λ _. IsOutput (Fixed (s.Word words.Count) ∷ Fixed (s.Mark marks.Open) ∷ ts) x.1 x.0) [
       | inl g ↦
           let f = bind_some (after (s.Mark marks.Close) g.0) _ x g.2 in
-          let m : ts ≡ Fixed (s.Mark marks.Times) ∷ Fixed (s.Mark marks.Close) ∷ f.0 = after_is (s.Mark marks.Times) ts g.0 g.1 ∙ ap (λ z. Fixed (s.Mark marks.Times) ∷ z) (after_is (s.Mark marks.Close) g.0 f.0 f.1) in
+          let m = two_are (s.Mark marks.Times) (s.Mark marks.Close) ts g.0 f.0 g.1 f.1 in
           spells IsOutput (Fixed (s.Word words.Count) ∷ Fixed (s.Mark marks.Open) ∷ ts) f.0 u.CountRows x (subst (λ z. IsOutput (Fixed (s.Word words.Count) ∷ Fixed (s.Mark marks.Open) ∷ z) f.0 u.CountRows) (sym m) count_rows) f.2
       | inr b ↦
           let f = bind_some (closed_at (expr_at d) ts) _ x b.1 in
@@ -47,13 +47,13 @@ output_sound d ts x e =
       | inl g ↦
           let f = bind_some (parens_at (expr_at d) g.0) _ x g.2 in
           let q = bind_some (after (s.Mark marks.Open) g.0) _ f.0 f.1 in
-          let m : ts ≡ Fixed (s.Word words.Sum) ∷ Fixed (s.Mark marks.Open) ∷ q.0 = after_is (s.Word words.Sum) ts g.0 g.1 ∙ ap (λ z. Fixed (s.Word words.Sum) ∷ z) (after_is (s.Mark marks.Open) g.0 q.0 q.1) in
+          let m = two_are (s.Word words.Sum) (s.Mark marks.Open) ts g.0 q.0 g.1 q.1 in
           spells IsOutput ts f.0.1 (u.Sum f.0.0) x (starts IsOutput ts (Fixed (s.Word words.Sum) ∷ Fixed (s.Mark marks.Open) ∷ q.0) f.0.1 (u.Sum f.0.0) m (sum (sound_closed (expr_at d) IsExpr (sound_expr d) q.0 f.0 q.2))) f.2
       | inr b ↦
           elim (choose_some (after (s.Word words.Count) ts) _ _ (Some x) b.1) as (λ _. IsOutput ts x.1 x.0) [
             | inl g ↦
                 let q = bind_some (after (s.Mark marks.Open) g.0) _ x g.2 in
-                let m : ts ≡ Fixed (s.Word words.Count) ∷ Fixed (s.Mark marks.Open) ∷ q.0 = after_is (s.Word words.Count) ts g.0 g.1 ∙ ap (λ z. Fixed (s.Word words.Count) ∷ z) (after_is (s.Mark marks.Open) g.0 q.0 q.1) in
+                let m = two_are (s.Word words.Count) (s.Mark marks.Open) ts g.0 q.0 g.1 q.1 in
                 starts IsOutput ts (Fixed (s.Word words.Count) ∷ Fixed (s.Mark marks.Open) ∷ q.0) x.1 x.0 m (count_sound d q.0 x q.2)
             | inr g ↦
                 let f = bind_some (column_at ts) _ x g.1 in
@@ -61,18 +61,24 @@ output_sound d ts x e =
           ]
     ]
 
+-- an item, from its output and what AS gives
+named_sound : (ts mid : List Token) (y : Output) (n : Option (List ℕ) × List Token) → IsOutput ts mid y → alias_at mid ≡ Some n → IsItem ts n.1 (item_of y n.0)
+unfolding alias_at
+named_sound ts mid y n one e =
+    elim (choose_some (after (s.Word words.As) mid) _ _ (Some n) e) as (λ _. IsItem ts n.1 (item_of y n.0)) [
+      | inl g ↦
+          let q = bind_some (name_at g.0) _ n g.2 in
+          let m : mid ≡ Fixed (s.Word words.As) ∷ Name q.0.0 ∷ q.0.1 = after_is (s.Word words.As) mid g.0 g.1 ∙ ap (λ z. Fixed (s.Word words.As) ∷ z) (name_is g.0 q.0 q.1) in
+          subst (λ z. IsItem ts z.1 (item_of y z.0)) (some_is (Some q.0.0, q.0.1) n q.2) (named (subst (λ z. IsOutput ts z y) m one))
+      | inr g ↦ subst (λ z. IsItem ts z.1 (item_of y z.0)) (some_is (None, mid) n g.1) (unnamed one)
+    ]
+
 item_sound : (d : ℕ) (ts : List Token) (x : Item × List Token) → item_at d ts ≡ Some x → IsItem ts x.1 x.0
 unfolding item_at
 item_sound d ts x e =
     let f = bind_some (output_at d ts) _ x e in
-    let one = output_sound d ts f.0 f.1 in
-    elim (choose_some (after (s.Word words.As) f.0.1) _ _ (Some x) f.2) as (λ _. IsItem ts x.1 x.0) [
-      | inl g ↦
-          let q = bind_some (name_at g.0) _ x g.2 in
-          let m : f.0.1 ≡ Fixed (s.Word words.As) ∷ Name q.0.0 ∷ q.0.1 = after_is (s.Word words.As) f.0.1 g.0 g.1 ∙ ap (λ z. Fixed (s.Word words.As) ∷ z) (name_is g.0 q.0 q.1) in
-          spells IsItem ts q.0.1 (item_of f.0.0 (Some q.0.0)) x (named (subst (λ z. IsOutput ts z f.0.0) m one)) q.2
-      | inr g ↦ spells IsItem ts f.0.1 (item_of f.0.0 None) x (unnamed one) g.1
-    ]
+    let n = bind_some (alias_at f.0.1) _ x f.2 in
+    spells IsItem ts n.0.1 (item_of f.0.0 n.0.0) x (named_sound ts f.0.1 f.0.0 n.0 (output_sound d ts f.0 f.1) n.1) n.2
 
 pub sound_item : (d : ℕ) → Sound (item_at d) IsItem
 sound_item d = record { by = item_sound d }

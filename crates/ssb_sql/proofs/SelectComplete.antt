@@ -31,7 +31,7 @@ use Rattle.ssb_sql.specs.Grammar.Parses.{query}
 use Rattle.ssb_sql.specs.Steps.{Parser, after, is_sign, name_at, is_name_next, list_at, parens_at}
 use Rattle.ssb_sql.specs.ReadParts.{column_at}
 use Rattle.ssb_sql.specs.ReadExpressions.{expr_at}
-use Rattle.ssb_sql.specs.ReadSelects.{count_at, output_at, item_at, where_at, by_at, key_at, order_at, ends, select_of, ordered_at, grouped_at, filtered_at, joined_at, query_at}
+use Rattle.ssb_sql.specs.ReadSelects.{count_at, output_at, alias_at, item_at, where_at, by_at, key_at, order_at, ends, select_of, ordered_at, grouped_at, filtered_at, joined_at, query_at}
 use Rattle.ssb_sql.proofs.StepFacts.{some_is, Stops, stops, differs, sees}
 use Rattle.ssb_sql.proofs.Shapes.{Complete, GoesOn, closed_read, list_read, tame_list}
 use Rattle.ssb_sql.proofs.PartFacts.{tame_name, tame_column, named_read, name_read, number_read, column_read}
@@ -77,7 +77,7 @@ pub record EndsItem (to : List Token) : Type 0 where
   pub alias : Stops (s.Word words.As) to
 
 item_read : {from to : List Token} {x : Item} → IsItem from to x → (d : ℕ) → HasRoom d from → EndsItem to → item_at d from ≡ Some (x, to)
-unfolding item_at
+unfolding item_at alias_at
 item_read (unnamed a) d h z = rw (output_read a d h z.dot, z.alias) refl
 item_read (named {to = to} {n = n} a) d h z =
     rw (output_read a d h (no (s.Word words.As) (s.Mark marks.Dot) (Name n ∷ to) (differs (s.Word words.As) (s.Mark marks.Dot) refl)), sees (s.Word words.As) (Name n ∷ to), name_read n to) refl

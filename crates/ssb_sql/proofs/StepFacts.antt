@@ -15,6 +15,9 @@ use Rattle.ssb_sql.specs.Steps.{choose, word_code, mark_code, is_same, is_sign, 
 pub some_is : {A : Type 0} (x y : A) → Some x ≡ Some y → x ≡ y
 some_is x y e = cc
 
+pub none_some : {A : Type 0} (x : A) → None ≡ Some x → ⊥
+none_some x e = cc
+
 pub bind_some : {A B : Type 0} (r : Option A) (f : A → Option B) (y : B) → (r >>= f) ≡ Some y → (x : A) × (r ≡ Some x) × (f x ≡ Some y)
 bind_some None f y e = absurd cc
 bind_some (Some x) f y e = (x, refl, e)

@@ -1,10 +1,11 @@
 -- What is read as a test with no parentheses is one.
-use Rattle.std.proofs.Common.{◌≡◌, ℕ, zero, suc, ◌<◌, true, false, List, ◌∷◌, length, Some, refl, ap, subst, ◌∙◌, arith, inl, inr}
+use Rattle.std.proofs.Common.{◌≡◌, ℕ, zero, suc, ◌<◌, Bool, true, false, List, ◌∷◌, length, Some, None, refl, ap, subst, ◌∙◌, arith, inl, inr}
 use Rattle.ssb_cells.specs.declared.value.Op.{Op}
 use Rattle.ssb_cells.specs.declared.value.Op.TheVariants as op
 use Rattle.ssb_sql.specs.declared.token.Token.{Token}
 use Rattle.ssb_sql.specs.declared.token.Token.TheVariants.{Fixed}
 use Rattle.ssb_cells.specs.declared.keyword.Keyword.TheVariants as words
+use Rattle.ssb_sql.specs.declared.token.Mark.{Mark}
 use Rattle.ssb_sql.specs.declared.token.Mark.TheVariants as marks
 use Rattle.ssb_sql.specs.declared.token.Sign.TheVariants as s
 use Rattle.ssb_sql.specs.declared.expr.ColumnName.{ColumnName}
@@ -20,8 +21,8 @@ use Rattle.ssb_sql.specs.Conditions.IsBare.{compare, between, not_between, among
 use Rattle.ssb_sql.specs.Room.{HasRoom}
 use Rattle.ssb_sql.specs.Steps.{after, list_at, parens_at}
 use Rattle.ssb_sql.specs.ReadParts.{literal_at, operand_at}
-use Rattle.ssb_sql.specs.ReadConditions.{op_at, limits_at, members_at, range_at, null_at, compared_at, tail_at, bare_at}
-use Rattle.ssb_sql.proofs.StepFacts.{some_is, bind_some, choose_some, after_is}
+use Rattle.ssb_sql.specs.ReadConditions.{op_of, op_at, limits_at, among_at, range_at, nulled_at, null_at, compared_at, tail_at, bare_at}
+use Rattle.ssb_sql.proofs.StepFacts.{some_is, none_some, bind_some, choose_some, after_is, two_are}
 use Rattle.ssb_sql.proofs.Shapes.{Sound, Tame, spells, followed, sound_closed, sound_list, tame_list}
 use Rattle.ssb_sql.proofs.PartFacts.{sound_operand, tame_operand, sound_literal, tame_literal, tame_column}
 
@@ -29,36 +30,21 @@ use Rattle.ssb_sql.proofs.PartFacts.{sound_operand, tame_operand, sound_literal,
 abbrev pub IsTested : List Token → List Token → Condition → Type 0
 IsTested = IsBare IsOperand
 
+op_mark : (m : Mark) (y : Op) → op_of m ≡ Some y → m ≡ mark_of y
+op_mark marks.Equal y e = ap mark_of (some_is op.Eq y e)
+op_mark marks.NotEqual y e = ap mark_of (some_is op.Ne y e)
+op_mark marks.Less y e = ap mark_of (some_is op.Lt y e)
+op_mark marks.LessEqual y e = ap mark_of (some_is op.Le y e)
+op_mark marks.Greater y e = ap mark_of (some_is op.Gt y e)
+op_mark marks.GreaterEqual y e = ap mark_of (some_is op.Ge y e)
+op_mark _ y e = absurd cc
+
 op_is : (ts : List Token) (l : Op × List Token) → op_at ts ≡ Some l → ts ≡ Fixed (s.Mark (mark_of l.0)) ∷ l.1
 unfolding op_at
-op_is ts l e =
-    elim (choose_some (after (s.Mark marks.Equal) ts) _ _ (Some l) e) as (λ _. ts ≡ Fixed (s.Mark (mark_of l.0)) ∷ l.1) [
-      | inl g ↦ goes op.Eq g.0 g.1 g.2
-      | inr e ↦
-          elim (choose_some (after (s.Mark marks.NotEqual) ts) _ _ (Some l) e.1) as (λ _. ts ≡ Fixed (s.Mark (mark_of l.0)) ∷ l.1) [
-            | inl g ↦ goes op.Ne g.0 g.1 g.2
-            | inr e ↦
-                elim (choose_some (after (s.Mark marks.Less) ts) _ _ (Some l) e.1) as (λ _. ts ≡ Fixed (s.Mark (mark_of l.0)) ∷ l.1) [
-                  | inl g ↦ goes op.Lt g.0 g.1 g.2
-                  | inr e ↦
-                      elim (choose_some (after (s.Mark marks.LessEqual) ts) _ _ (Some l) e.1) as (λ _. ts ≡ Fixed (s.Mark (mark_of l.0)) ∷ l.1) [
-                        | inl g ↦ goes op.Le g.0 g.1 g.2
-                        | inr e ↦
-                            elim (choose_some (after (s.Mark marks.Greater) ts) _ _ (Some l) e.1) as (λ _. ts ≡ Fixed (s.Mark (mark_of l.0)) ∷ l.1) [
-                              | inl g ↦ goes op.Gt g.0 g.1 g.2
-                              | inr e ↦
-                                  elim (choose_some (after (s.Mark marks.GreaterEqual) ts) _ _ (Some l) e.1) as (λ _. ts ≡ Fixed (s.Mark (mark_of l.0)) ∷ l.1) [
-                                    | inl g ↦ goes op.Ge g.0 g.1 g.2
-                                    | inr e ↦ absurd cc
-                                  ]
-                            ]
-                      ]
-                ]
-          ]
-    ]
-  where
-    goes : (y : Op) (us : List Token) → after (s.Mark (mark_of y)) ts ≡ Some us → Some (y, us) ≡ Some l → ts ≡ Fixed (s.Mark (mark_of l.0)) ∷ l.1
-    goes y us a r = after_is (s.Mark (mark_of y)) ts us a ∙ ap (λ z. Fixed (s.Mark (mark_of z.0)) ∷ z.1) (some_is (y, us) l r)
+op_is (Fixed (s.Mark m) ∷ ts) l e =
+    let f = bind_some (op_of m) (λ y. Some (y, ts)) l e in
+    ap (λ z. Fixed (s.Mark z) ∷ ts) (op_mark m f.0 f.1) ∙ ap (λ z. Fixed (s.Mark (mark_of z.0)) ∷ z.1) (some_is (f.0, ts) l f.2)
+op_is _ l e = absurd cc
 
 -- the limits, and the AND between them
 limits_is : (ts : List Token) (x : (Operand × Operand) × List Token) → limits_at ts ≡ Some x → (mid : List Token) × IsOperand ts (Fixed (s.Word words.And) ∷ mid) x.0.0 × IsOperand mid x.1 x.0.1
@@ -71,11 +57,13 @@ limits_is ts x e =
     subst (λ z. (mid : List Token) × IsOperand ts (Fixed (s.Word words.And) ∷ mid) z.0.0 × IsOperand mid z.1 z.0.1) same
     (g.0, followed IsOperand (s.Word words.And) ts f.0.1 g.0 f.0.0 g.1 (sound_operand.by ts f.0 f.1), sound_operand.by g.0 q.0 q.1)
 
-members_is : (ts : List Token) (x : List Literal × List Token) → members_at ts ≡ Some x → (mid : List Token) × (ts ≡ Fixed (s.Mark marks.Open) ∷ mid) × IsList IsLiteral mid (Fixed (s.Mark marks.Close) ∷ x.1) x.0
-unfolding parens_at
-members_is ts x e =
-    let f = bind_some (after (s.Mark marks.Open) ts) _ x e in
-    (f.0, after_is (s.Mark marks.Open) ts f.0 f.1, sound_closed (list_at literal_at) (IsList IsLiteral) (sound_list literal_at IsLiteral sound_literal) f.0 x f.2)
+-- the literals behind IN
+among_is : (ts : List Token) (x : List Literal × List Token) → among_at ts ≡ Some x → (mid : List Token) × (ts ≡ Fixed (s.Word words.In) ∷ Fixed (s.Mark marks.Open) ∷ mid) × IsList IsLiteral mid (Fixed (s.Mark marks.Close) ∷ x.1) x.0
+unfolding among_at parens_at
+among_is ts x e =
+    let g = bind_some (after (s.Word words.In) ts) _ x e in
+    let f = bind_some (after (s.Mark marks.Open) g.0) _ x g.2 in
+    (f.0, two_are (s.Word words.In) (s.Mark marks.Open) ts g.0 f.0 g.1 f.1, sound_closed (list_at literal_at) (IsList IsLiteral) (sound_list literal_at IsLiteral sound_literal) f.0 x f.2)
 
 -- the operand's own end, moved on
 ends_at : (ts mid us : List Token) (x : Operand) → mid ≡ us → IsOperand ts mid x → IsOperand ts us x
@@ -90,10 +78,9 @@ range_sound ts mid y x h e =
           let q = limits_is g.0 f.0 f.1 in
           spells IsTested ts f.0.1 (c.Between y f.0.0.0 f.0.0.1) x (between (ends_at ts mid (Fixed (s.Word words.Between) ∷ g.0) y (after_is (s.Word words.Between) mid g.0 g.1) h) q.1 q.2) f.2
       | inr b ↦
-          let g = bind_some (after (s.Word words.In) mid) _ x b.1 in
-          let f = bind_some (members_at g.0) _ x g.2 in
-          let q = members_is g.0 f.0 f.1 in
-          spells IsTested ts f.0.1 (c.In y f.0.0) x (among (ends_at ts mid (Fixed (s.Word words.In) ∷ Fixed (s.Mark marks.Open) ∷ q.0) y (after_is (s.Word words.In) mid g.0 g.1 ∙ ap (λ z. Fixed (s.Word words.In) ∷ z) q.1) h) q.2) f.2
+          let f = bind_some (among_at mid) _ x b.1 in
+          let q = among_is mid f.0 f.1 in
+          spells IsTested ts f.0.1 (c.In y f.0.0) x (among (ends_at ts mid (Fixed (s.Word words.In) ∷ Fixed (s.Mark marks.Open) ∷ q.0) y q.1 h) q.2) f.2
     ]
 
 not_range_sound : (ts mid rest : List Token) (y : Operand) (x : Condition × List Token) → mid ≡ Fixed (s.Word words.Not) ∷ rest → IsOperand ts mid y → range_at true y rest ≡ Some x → IsTested ts x.1 x.0
@@ -105,10 +92,9 @@ not_range_sound ts mid rest y x n h e =
           let q = limits_is g.0 f.0 f.1 in
           spells IsTested ts f.0.1 (c.NotBetween y f.0.0.0 f.0.0.1) x (not_between (ends_at ts mid (Fixed (s.Word words.Not) ∷ Fixed (s.Word words.Between) ∷ g.0) y (n ∙ ap (λ z. Fixed (s.Word words.Not) ∷ z) (after_is (s.Word words.Between) rest g.0 g.1)) h) q.1 q.2) f.2
       | inr b ↦
-          let g = bind_some (after (s.Word words.In) rest) _ x b.1 in
-          let f = bind_some (members_at g.0) _ x g.2 in
-          let q = members_is g.0 f.0 f.1 in
-          spells IsTested ts f.0.1 (c.NotIn y f.0.0) x (not_among (ends_at ts mid (Fixed (s.Word words.Not) ∷ Fixed (s.Word words.In) ∷ Fixed (s.Mark marks.Open) ∷ q.0) y (n ∙ ap (λ z. Fixed (s.Word words.Not) ∷ z) (after_is (s.Word words.In) rest g.0 g.1 ∙ ap (λ z. Fixed (s.Word words.In) ∷ z) q.1)) h) q.2) f.2
+          let f = bind_some (among_at rest) _ x b.1 in
+          let q = among_is rest f.0 f.1 in
+          spells IsTested ts f.0.1 (c.NotIn y f.0.0) x (not_among (ends_at ts mid (Fixed (s.Word words.Not) ∷ Fixed (s.Word words.In) ∷ Fixed (s.Mark marks.Open) ∷ q.0) y (n ∙ ap (λ z. Fixed (s.Word words.Not) ∷ z) q.1) h) q.2) f.2
     ]
 
 -- a column as an operand is a column
@@ -116,15 +102,25 @@ column_back : {from to : List Token} {y : Operand} → IsOperand from to y → (
 column_back (column {from = from} {to = to} {x = x} a) z e = let same : x ≡ z = cc in subst (λ w. IsColumn from to w) same a
 column_back (literal a) z e = absurd cc
 
+-- a literal is no column
+no_null : (negated : Bool) (l : Literal) (ts : List Token) (x : Condition × List Token) → nulled_at negated (o.Literal l) ts ≡ Some x → ⊥
+unfolding nulled_at
+no_null true l ts x e = let f = bind_some (after (s.Word words.Null) ts) (λ to. None) x e in absurd (none_some x f.2)
+no_null false l ts x e = let f = bind_some (after (s.Word words.Null) ts) (λ to. None) x e in absurd (none_some x f.2)
+
 null_sound : (ts mid rest : List Token) (y : Operand) (x : Condition × List Token) → mid ≡ Fixed (s.Word words.Is) ∷ rest → IsOperand ts mid y → null_at y rest ≡ Some x → IsTested ts x.1 x.0
-unfolding null_at
-null_sound ts mid rest (o.Literal l) x n h e = absurd cc
+unfolding null_at nulled_at
+null_sound ts mid rest (o.Literal l) x n h e =
+    elim (choose_some (after (s.Word words.Not) rest) _ _ (Some x) e) as (λ _. IsTested ts x.1 x.0) [
+      | inl g ↦ absurd (no_null true l g.0 x g.2)
+      | inr b ↦ absurd (no_null false l rest x b.1)
+    ]
 null_sound ts mid rest (o.Column z) x n h e =
     let k : IsColumn ts mid z = column_back h z refl in
     elim (choose_some (after (s.Word words.Not) rest) _ _ (Some x) e) as (λ _. IsTested ts x.1 x.0) [
       | inl g ↦
           let f = bind_some (after (s.Word words.Null) g.0) _ x g.2 in
-          let m : mid ≡ Fixed (s.Word words.Is) ∷ Fixed (s.Word words.Not) ∷ Fixed (s.Word words.Null) ∷ f.0 = n ∙ ap (λ w. Fixed (s.Word words.Is) ∷ w) (after_is (s.Word words.Not) rest g.0 g.1 ∙ ap (λ w. Fixed (s.Word words.Not) ∷ w) (after_is (s.Word words.Null) g.0 f.0 f.1)) in
+          let m : mid ≡ Fixed (s.Word words.Is) ∷ Fixed (s.Word words.Not) ∷ Fixed (s.Word words.Null) ∷ f.0 = n ∙ ap (λ w. Fixed (s.Word words.Is) ∷ w) (two_are (s.Word words.Not) (s.Word words.Null) rest g.0 f.0 g.1 f.1) in
           spells IsTested ts f.0 (c.IsNotNull z) x (not_null (subst (λ w. IsColumn ts w z) m k)) f.2
       | inr b ↦
           let f = bind_some (after (s.Word words.Null) rest) _ x b.1 in

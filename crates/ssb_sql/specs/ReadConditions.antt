@@ -1,9 +1,11 @@
 -- Reading conditions.
 -- For the contracts inside this crate.
-use Rattle.std.specs.Prelude.{ℕ, zero, suc, Bool, true, false, List, Option, Some, None}
+use Rattle.std.specs.Prelude.{ℕ, zero, suc, Bool, true, false, List, ◌∷◌, Option, Some, None}
 use Rattle.ssb_cells.specs.declared.value.Op.{Op}
 use Rattle.ssb_cells.specs.declared.value.Op.TheVariants as op
 use Rattle.ssb_sql.specs.declared.token.Token.{Token}
+use Rattle.ssb_sql.specs.declared.token.Token.TheVariants.{Fixed}
+use Rattle.ssb_sql.specs.declared.token.Mark.{Mark}
 use Rattle.ssb_cells.specs.declared.keyword.Keyword.TheVariants as words
 use Rattle.ssb_sql.specs.declared.token.Mark.TheVariants as marks
 use Rattle.ssb_sql.specs.declared.token.Sign.TheVariants as s
@@ -17,15 +19,19 @@ use Rattle.ssb_sql.specs.Steps.{Parser, choose, after, chained_at, list_at, clos
 use Rattle.ssb_sql.specs.ReadParts.{literal_at, operand_at}
 use Rattle.ssb_sql.specs.Conditions.{or_chain, and_chain}
 
+abbrev pub op_of : Mark → Option Op
+op_of marks.Equal = Some op.Eq
+op_of marks.NotEqual = Some op.Ne
+op_of marks.Less = Some op.Lt
+op_of marks.LessEqual = Some op.Le
+op_of marks.Greater = Some op.Gt
+op_of marks.GreaterEqual = Some op.Ge
+op_of _ = None
+
 -- an operator, and what follows
 unfoldable pub op_at : List Token → Option (Op × List Token)
-op_at ts =
-    choose (after (s.Mark marks.Equal) ts) (λ rest. Some (op.Eq, rest))
-    (choose (after (s.Mark marks.NotEqual) ts) (λ rest. Some (op.Ne, rest))
-    (choose (after (s.Mark marks.Less) ts) (λ rest. Some (op.Lt, rest))
-    (choose (after (s.Mark marks.LessEqual) ts) (λ rest. Some (op.Le, rest))
-    (choose (after (s.Mark marks.Greater) ts) (λ rest. Some (op.Gt, rest))
-    (choose (after (s.Mark marks.GreaterEqual) ts) (λ rest. Some (op.Ge, rest)) None)))))
+op_at (Fixed (s.Mark m) ∷ ts) = op_of m >>= λ y. Some (y, ts)
+op_at _ = None
 
 -- operand AND operand
 unfoldable pub limits_at : Parser (Operand × Operand)
@@ -43,18 +49,29 @@ abbrev pub in_of : Bool → Operand → List Literal → Condition
 in_of true x ys = c.NotIn x ys
 in_of false x ys = c.In x ys
 
+-- IN "(" literal {"," literal} ")"
+unfoldable pub among_at : Parser (List Literal)
+among_at ts = after (s.Word words.In) ts >>= λ rest. members_at rest
+
 -- BETWEEN or IN, after the operand and a NOT if there is one
 unfoldable pub range_at : Bool → Operand → Parser Condition
 range_at negated x ts =
     choose (after (s.Word words.Between) ts) (λ rest. limits_at rest >>= λ l. Some (between_of negated x l.0, l.1))
-    (after (s.Word words.In) ts >>= λ rest. members_at rest >>= λ ys. Some (in_of negated x ys.0, ys.1))
+    (among_at ts >>= λ ys. Some (in_of negated x ys.0, ys.1))
+
+-- whether a column has no value, or whether it has one
+abbrev pub null_of : Bool → Operand → Option Condition
+null_of true (o.Column x) = Some (c.IsNotNull x)
+null_of false (o.Column x) = Some (c.IsNull x)
+null_of negated (o.Literal l) = None
+
+-- NULL, after the operand, IS and a NOT if there is one
+unfoldable pub nulled_at : Bool → Operand → Parser Condition
+nulled_at negated x ts = after (s.Word words.Null) ts >>= λ to. null_of negated x >>= λ y. Some (y, to)
 
 -- [NOT] NULL, after the operand and IS
 unfoldable pub null_at : Operand → Parser Condition
-null_at (o.Literal x) ts = None
-null_at (o.Column x) ts =
-    choose (after (s.Word words.Not) ts) (λ rest. after (s.Word words.Null) rest >>= λ to. Some (c.IsNotNull x, to))
-    (after (s.Word words.Null) ts >>= λ to. Some (c.IsNull x, to))
+null_at x ts = choose (after (s.Word words.Not) ts) (nulled_at true x) (nulled_at false x ts)
 
 -- an operator and an operand, or BETWEEN or IN
 unfoldable pub compared_at : Operand → Parser Condition

@@ -36,9 +36,12 @@ output_at d ts =
 abbrev pub item_of : Output → Option (List ℕ) → Item
 item_of x n = record { output = x; alias = n }
 
+-- AS and a name, or nothing
+unfoldable pub alias_at : Parser (Option (List ℕ))
+alias_at ts = choose (after (s.Word words.As) ts) (λ rest. name_at rest >>= λ n. Some (Some n.0, n.1)) (Some (None, ts))
+
 unfoldable pub item_at : ℕ → Parser Item
-item_at d ts =
-    output_at d ts >>= λ x. choose (after (s.Word words.As) x.1) (λ rest. name_at rest >>= λ n. Some (item_of x.0 (Some n.0), n.1)) (Some (item_of x.0 None, x.1))
+item_at d ts = output_at d ts >>= λ x. alias_at x.1 >>= λ n. Some (item_of x.0 n.0, n.1)
 
 unfoldable pub where_at : ℕ → Parser (Option Condition)
 where_at d ts = choose (after (s.Word words.Where) ts) (λ rest. cond_at d rest >>= λ x. Some (Some x.0, x.1)) (Some (None, ts))

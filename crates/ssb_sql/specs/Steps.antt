@@ -147,13 +147,13 @@ pub record Shrinks {A L : Type 0} (link : List Token → Option L) (piece : L �
 abbrev pub Reads : {A : Type 0} → (Bor (List Token) → Result (A × Bor (List Token)) Stop → Type 0) → Parser A → Type 0
 Reads returns p = (ts : Bor (List Token)) (r : Result _ Stop) → returns ts r → Gives seen r (p ts.now)
 
--- what was read, and what follows the ")" behind it
-abbrev pub closing_at : {A : Type 0} → A → List Token → Option (A × List Token)
-closing_at x ts = after (s.Mark marks.Close) ts >>= λ to. Some (x, to)
+-- what was read, and what follows the sign behind it
+abbrev pub followed_at : {A : Type 0} → A → Sign → List Token → Option (A × List Token)
+followed_at x sign ts = after sign ts >>= λ to. Some (x, to)
 
 -- p ")"
 unfoldable pub closed_at : {A : Type 0} → Parser A → Parser A
-closed_at p ts = p ts >>= λ x. closing_at x.0 x.1
+closed_at p ts = p ts >>= λ x. followed_at x.0 (s.Mark marks.Close) x.1
 
 -- "(" p ")"
 unfoldable pub parens_at : {A : Type 0} → Parser A → Parser A

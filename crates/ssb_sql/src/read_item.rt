@@ -4,7 +4,7 @@ ghost use Rattle.std.specs.Prelude.{◌≡◌, [], ◌∷◌};
 ghost use Rattle.ssb_sql.specs.Reading.{seen};
 ghost use Rattle.ssb_sql.specs.Steps.{Gives, after, more_at, list_at, closed_at, parens_at};
 ghost use Rattle.ssb_sql.specs.ReadExpressions.{expr_at};
-ghost use Rattle.ssb_sql.specs.ReadSelects.{count_at, output_at, item_at, key_at, order_at};
+ghost use Rattle.ssb_sql.specs.ReadSelects.{count_at, output_at, alias_at, item_at, key_at, order_at};
 ghost use Rattle.ssb_sql.specs.declared.token.Sign.TheVariants as s;
 
 use crate::chain::list;
@@ -15,7 +15,7 @@ use crate::select::{Item, Key, Order, Output};
 use crate::steps::{Stop, after, closing, expect, is_name_next, name, number};
 use crate::token::{Mark, Sign, Token};
 use sqlite_items::Items;
-use ssb_cells::Keyword;
+use ssb_cells::{Keyword, Name};
 use std::alloc::Global;
 
 // An expression and the `)` behind it.
@@ -68,30 +68,22 @@ fn output(alloc: Global, depth: usize, tokens: &[Token]) -> Result<(Output, &[To
     Ok((Output::Column(found), rest))
 }
 
+#[tactic(auto, unfolding(crate::specs::ReadSelects::alias_at))]
+fn alias_if(alloc: Global, tokens: &[Token]) -> Result<(Option<Name>, &[Token]), Stop>
+    ensures { Gives seen result (alias_at tokens.now) }
+{
+    match after(tokens, Sign::Word(Keyword::As)) {
+        Some(rest) => name(alloc, rest).map(|(found, rest)| (Some(found), rest)),
+        None => Ok((None, tokens)),
+    }
+}
+
 #[tactic(auto, unfolding(crate::specs::ReadSelects::item_at))]
 fn item(alloc: Global, depth: usize, tokens: &[Token]) -> Result<(Item, &[Token]), Stop>
     ensures { Gives seen result (item_at depth tokens.now) }
 {
     let (output, rest) = output(alloc, depth, tokens)?;
-    match after(rest, Sign::Word(Keyword::As)) {
-        Some(rest) => {
-            let (alias, rest) = name(alloc, rest)?;
-            Ok((
-                Item {
-                    output,
-                    alias: Some(alias),
-                },
-                rest,
-            ))
-        }
-        None => Ok((
-            Item {
-                output,
-                alias: None,
-            },
-            rest,
-        )),
-    }
+    alias_if(alloc, rest).map(|(alias, rest)| (Item { output, alias }, rest))
 }
 
 pub(crate) fn items(

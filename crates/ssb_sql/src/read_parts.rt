@@ -18,23 +18,14 @@ pub(crate) fn column(alloc: Global, tokens: &[Token]) -> Result<(ColumnName, &[T
 {
     let (found, rest) = name(alloc, tokens)?;
     match after(rest, Sign::Mark(Mark::Dot)) {
-        Some(rest) => {
-            let (column, rest) = name(alloc, rest)?;
-            Ok((
-                ColumnName {
-                    table: Some(found),
-                    column,
-                },
-                rest,
-            ))
+        Some(rest) => name(alloc, rest).map(|(column, rest)| {
+            let table = Some(found);
+            (ColumnName { table, column }, rest)
+        }),
+        None => {
+            let (table, column) = (None, found);
+            Ok((ColumnName { table, column }, rest))
         }
-        None => Ok((
-            ColumnName {
-                table: None,
-                column: found,
-            },
-            rest,
-        )),
     }
 }
 

@@ -110,8 +110,7 @@ fn grouped(alloc: Global, tokens: &[Token]) -> Result<(Items<ColumnName>, Items<
         tokens,
         |start: &[Token]| column(alloc, start),
     )?;
-    let orders = ordered(alloc, rest)?;
-    Ok((groups, orders))
+    ordered(alloc, rest).map(|orders| (groups, orders))
 }
 
 // WHERE, and what follows.
@@ -125,8 +124,7 @@ fn filtered(
     ensures { Gives (λ x. x) result (filtered_at depth tokens.now) }
 {
     let (condition, rest) = condition_if(alloc, depth + 1, tokens)?;
-    let (groups, orders) = grouped(alloc, rest)?;
-    Ok((condition, groups, orders))
+    grouped(alloc, rest).map(|(groups, orders)| (condition, groups, orders))
 }
 
 // FROM, and what follows.

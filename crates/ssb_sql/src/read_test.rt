@@ -4,40 +4,39 @@ ghost use Rattle.std.specs.Prelude.{◌≡◌, [], ◌∷◌};
 ghost use Rattle.ssb_sql.specs.Reading.{seen, seen_if};
 ghost use Rattle.ssb_sql.specs.Steps.{Gives, after, more_at, list_at};
 ghost use Rattle.ssb_sql.specs.ReadParts.{literal_at, operand_at};
-ghost use Rattle.ssb_sql.specs.ReadConditions.{op_at, limits_at, members_at, between_of, in_of, range_at, null_at, compared_at, tail_at, bare_at};
+ghost use Rattle.ssb_sql.specs.ReadConditions.{op_of, op_at, limits_at, among_at, between_of, in_of, range_at, null_of, nulled_at, null_at, compared_at, tail_at, bare_at};
 ghost use Rattle.ssb_sql.specs.declared.token.Sign.TheVariants as s;
 
 use crate::chain::list;
 use crate::condition::{Condition, Literal, Operand};
 use crate::read_parts::{literal, operand};
-use crate::steps::{Stop, after, expect};
+use crate::steps::{Stop, after, closing, expect, followed};
 use crate::token::{Mark, Sign, Token};
 use sqlite_items::Items;
 use ssb_cells::{Keyword, Op};
 use std::alloc::Global;
 
+fn op_of(mark: Mark) -> Option<Op>
+    ensures { result ≡ op_of mark }
+{
+    match mark {
+        Mark::Equal => Some(Op::Eq),
+        Mark::NotEqual => Some(Op::Ne),
+        Mark::Less => Some(Op::Lt),
+        Mark::LessEqual => Some(Op::Le),
+        Mark::Greater => Some(Op::Gt),
+        Mark::GreaterEqual => Some(Op::Ge),
+        _ => None,
+    }
+}
+
 #[tactic(auto, unfolding(crate::specs::ReadConditions::op_at))]
 fn op(tokens: &[Token]) -> Option<(Op, &[Token])>
     ensures { seen_if result ≡ op_at tokens.now }
 {
-    if let Some(rest) = after(tokens, Sign::Mark(Mark::Equal)) {
-        return Some((Op::Eq, rest));
-    }
-    if let Some(rest) = after(tokens, Sign::Mark(Mark::NotEqual)) {
-        return Some((Op::Ne, rest));
-    }
-    if let Some(rest) = after(tokens, Sign::Mark(Mark::Less)) {
-        return Some((Op::Lt, rest));
-    }
-    if let Some(rest) = after(tokens, Sign::Mark(Mark::LessEqual)) {
-        return Some((Op::Le, rest));
-    }
-    if let Some(rest) = after(tokens, Sign::Mark(Mark::Greater)) {
-        return Some((Op::Gt, rest));
-    }
-    match after(tokens, Sign::Mark(Mark::GreaterEqual)) {
-        Some(rest) => Some((Op::Ge, rest)),
-        None => None,
+    match tokens {
+        [Token::Fixed(Sign::Mark(mark)), rest @ ..] => Some((op_of(*mark)?, rest)),
+        _ => None,
     }
 }
 
@@ -47,19 +46,19 @@ fn limits(alloc: Global, tokens: &[Token]) -> Result<((Operand, Operand), &[Toke
     ensures { Gives seen result (limits_at tokens.now) }
 {
     let (low, rest) = operand(alloc, tokens)?;
-    let rest = expect(rest, Sign::Word(Keyword::And))?;
-    let (high, rest) = operand(alloc, rest)?;
-    Ok(((low, high), rest))
+    let (low, rest) = followed(low, Sign::Word(Keyword::And), rest)?;
+    operand(alloc, rest).map(|(high, rest)| ((low, high), rest))
 }
 
-#[tactic(auto, unfolding(crate::specs::Steps::parens_at, crate::specs::Steps::closed_at), using(crate::proofs::PartFacts::literal_shrinks))]
-fn members(alloc: Global, tokens: &[Token]) -> Result<(Items<Literal>, &[Token]), Stop>
-    ensures { Gives seen result (members_at tokens.now) }
+// IN and the literals in its parentheses.
+#[tactic(auto, unfolding(crate::specs::ReadConditions::among_at, crate::specs::Steps::parens_at, crate::specs::Steps::closed_at), using(crate::proofs::PartFacts::literal_shrinks))]
+fn among(alloc: Global, tokens: &[Token]) -> Result<(Items<Literal>, &[Token]), Stop>
+    ensures { Gives seen result (among_at tokens.now) }
 {
-    let rest = expect(tokens, Sign::Mark(Mark::Open))?;
-    let (found, rest) = list(alloc, rest, |start: &[Token]| literal(alloc, start))?;
-    let rest = expect(rest, Sign::Mark(Mark::Close))?;
-    Ok((found, rest))
+    let rest = expect(tokens, Sign::Word(Keyword::In))?;
+    let inside = expect(rest, Sign::Mark(Mark::Open))?;
+    let (found, rest) = list(alloc, inside, |start: &[Token]| literal(alloc, start))?;
+    closing(found, rest)
 }
 
 fn between_of(negated: bool, operand: Operand, limits: (Operand, Operand)) -> Condition
@@ -95,14 +94,33 @@ fn range(
 {
     match after(tokens, Sign::Word(Keyword::Between)) {
         Some(rest) => {
-            let (limits, rest) = limits(alloc, rest)?;
-            Ok((between_of(negated, operand, limits), rest))
+            limits(alloc, rest).map(|(limits, rest)| (between_of(negated, operand, limits), rest))
         }
         None => {
-            let rest = expect(tokens, Sign::Word(Keyword::In))?;
-            let (members, rest) = members(alloc, rest)?;
-            Ok((in_of(negated, operand, members), rest))
+            among(alloc, tokens).map(|(members, rest)| (in_of(negated, operand, members), rest))
         }
+    }
+}
+
+fn null_of(negated: bool, operand: Operand) -> Option<Condition>
+    ensures { result ≡ null_of negated operand }
+{
+    match operand {
+        Operand::Column(column) if negated => Some(Condition::IsNotNull(column)),
+        Operand::Column(column) => Some(Condition::IsNull(column)),
+        Operand::Literal(_) => None,
+    }
+}
+
+// NULL, after the operand, IS and a NOT if there is one.
+#[tactic(auto, unfolding(crate::specs::ReadConditions::nulled_at))]
+fn nulled(negated: bool, operand: Operand, tokens: &[Token]) -> Result<(Condition, &[Token]), Stop>
+    ensures { Gives seen result (nulled_at negated operand tokens.now) }
+{
+    let (operand, rest) = followed(operand, Sign::Word(Keyword::Null), tokens)?;
+    match null_of(negated, operand) {
+        Some(found) => Ok((found, rest)),
+        None => Err(Stop::Syntax),
     }
 }
 
@@ -111,18 +129,9 @@ fn range(
 fn null(operand: Operand, tokens: &[Token]) -> Result<(Condition, &[Token]), Stop>
     ensures { Gives seen result (null_at operand tokens.now) }
 {
-    match operand {
-        Operand::Literal(_) => Err(Stop::Syntax),
-        Operand::Column(column) => match after(tokens, Sign::Word(Keyword::Not)) {
-            Some(rest) => {
-                let rest = expect(rest, Sign::Word(Keyword::Null))?;
-                Ok((Condition::IsNotNull(column), rest))
-            }
-            None => {
-                let rest = expect(tokens, Sign::Word(Keyword::Null))?;
-                Ok((Condition::IsNull(column), rest))
-            }
-        },
+    match after(tokens, Sign::Word(Keyword::Not)) {
+        Some(rest) => nulled(true, operand, rest),
+        None => nulled(false, operand, tokens),
     }
 }
 
@@ -133,8 +142,7 @@ fn compared(alloc: Global, left: Operand, tokens: &[Token]) -> Result<(Condition
 {
     match op(tokens) {
         Some((op, rest)) => {
-            let (right, rest) = operand(alloc, rest)?;
-            Ok((Condition::Compare(op, left, right), rest))
+            operand(alloc, rest).map(|(right, rest)| (Condition::Compare(op, left, right), rest))
         }
         None => range(alloc, false, left, tokens),
     }

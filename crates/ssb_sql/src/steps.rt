@@ -3,7 +3,9 @@
 ghost use Rattle.std.specs.Prelude.{◌≡◌};
 ghost use Rattle.std.specs.Option.{option_copied};
 ghost use Rattle.ssb_sql.specs.Reading.{seen};
-ghost use Rattle.ssb_sql.specs.Steps.{Gives, closing_at, is_sign, is_fixed, after, name_at, number_at, text_at, is_name_next, is_text_next};
+ghost use Rattle.ssb_sql.specs.Steps.{Gives, followed_at, is_sign, is_fixed, after, name_at, number_at, text_at, is_name_next, is_text_next};
+ghost use Rattle.ssb_sql.specs.declared.token.Mark.TheVariants as marks;
+ghost use Rattle.ssb_sql.specs.declared.token.Sign.TheVariants as s;
 
 use crate::text::Text;
 use crate::token::{Mark, Sign, Token};
@@ -71,12 +73,23 @@ pub(crate) fn expect(tokens: &[Token], sign: Sign) -> Result<&[Token], Stop>
     }
 }
 
+// What was read, where the sign comes next.
+pub(crate) fn followed<T: Drop>(
+    found: T,
+    sign: Sign,
+    tokens: &[Token],
+) -> Result<(T, &[Token]), Stop>
+    ensures { Gives seen result (followed_at found sign tokens.now) }
+{
+    let rest = expect(tokens, sign)?;
+    Ok((found, rest))
+}
+
 // What was read, where a `)` comes next.
 pub(crate) fn closing<T: Drop>(found: T, tokens: &[Token]) -> Result<(T, &[Token]), Stop>
-    ensures { Gives seen result (closing_at found tokens.now) }
+    ensures { Gives seen result (followed_at found (s.Mark marks.Close) tokens.now) }
 {
-    let rest = expect(tokens, Sign::Mark(Mark::Close))?;
-    Ok((found, rest))
+    followed(found, Sign::Mark(Mark::Close), tokens)
 }
 
 #[tactic(auto, unfolding(crate::specs::Steps::is_name_next))]

@@ -21,11 +21,11 @@ use Rattle.ssb_sql.specs.Expressions.IsFactors.{no_factor, times}
 use Rattle.ssb_sql.specs.Expressions.IsFactor.{plain, positive, negative}
 use Rattle.ssb_sql.specs.Expressions.IsPrimary.{column, number, parens}
 use Rattle.ssb_sql.specs.Room.{HasRoom}
-use Rattle.ssb_sql.specs.Steps.{Parser, after, is_fixed, is_sign, is_name_next, chain_at, more_at, chained_at}
+use Rattle.ssb_sql.specs.Steps.{Parser, after, is_fixed, is_sign, chain_at, more_at, chained_at}
 use Rattle.ssb_sql.specs.ReadExpressions.{bare_primary_at, primary_at, adding_at, signed, factor_at, term_at, step_at, expr_at}
 use Rattle.ssb_sql.proofs.StepFacts.{Stops, stops, differs, sees}
 use Rattle.ssb_sql.proofs.Shapes.{turn_done, turn_goes, more_goes, closed_read}
-use Rattle.ssb_sql.proofs.PartFacts.{column_next, column_read, number_read}
+use Rattle.ssb_sql.proofs.PartFacts.{column_read}
 use Rattle.ssb_sql.proofs.ExpressionSound.{adding_mark, term_shorter, factor_shorter, term_within, factor_within}
 
 -- what may follow an expression
@@ -82,11 +82,12 @@ factors_end (times {from = from} a b) sign p h = stops (s.Mark marks.Times) sign
 -- one reader from another
 bare_column_goes : {from to : List Token} {x : ColumnName} → IsColumn from to x → Stops (s.Mark marks.Dot) to → bare_primary_at from ≡ Some (e.Column x, to)
 unfolding bare_primary_at
-bare_column_goes h n = rw (column_next h, column_read h n) refl
+bare_column_goes (alone {to = to} {n = n}) h = rw (column_read (alone {to = to} {n = n}) h) refl
+bare_column_goes (dotted {to = to} {t = t} {n = n}) h = rw (column_read (dotted {to = to} {t = t} {n = n}) h) refl
 
 bare_number_goes : (n : ℕ) (to : List Token) → bare_primary_at (Number n ∷ to) ≡ Some (e.Number n, to)
-unfolding bare_primary_at is_name_next
-bare_number_goes n to = rw (number_read n to) refl
+unfolding bare_primary_at
+bare_number_goes n to = refl
 
 bare_goes : (p : Parser Expr) (ts to : List Token) (x : Expr) → Stops (s.Mark marks.Open) ts → bare_primary_at ts ≡ Some (x, to) → primary_at p ts ≡ Some (x, to)
 unfolding primary_at

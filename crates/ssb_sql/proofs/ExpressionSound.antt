@@ -18,12 +18,12 @@ use Rattle.ssb_sql.specs.Expressions.IsFactors.{no_factor, times}
 use Rattle.ssb_sql.specs.Expressions.IsFactor.{plain, positive, negative}
 use Rattle.ssb_sql.specs.Expressions.IsPrimary.{column, number, parens}
 use Rattle.ssb_sql.specs.Room.{HasRoom}
-use Rattle.ssb_sql.specs.Steps.{Parser, after, number_at, is_name_next, more_at, Shrinks}
+use Rattle.ssb_sql.specs.Steps.{Parser, after, more_at, Shrinks}
 use Rattle.ssb_sql.specs.ReadParts.{column_at}
 use Rattle.ssb_sql.specs.ReadExpressions.{bare_primary_at, primary_at, adding_at, signed, factor_at, term_at, step_at, sum_at, expr_at}
-use Rattle.ssb_sql.proofs.StepFacts.{some_is, bind_some, choose_some, if_some, after_is}
+use Rattle.ssb_sql.proofs.StepFacts.{some_is, bind_some, choose_some, after_is}
 use Rattle.ssb_sql.proofs.Shapes.{Sound, Tame, IsChain, spells, starts, begins, sound_closed, made_sound, sound_more, shrinks}
-use Rattle.ssb_sql.proofs.PartFacts.{number_is, sound_column, tame_column}
+use Rattle.ssb_sql.proofs.PartFacts.{sound_column, tame_column}
 
 mutual
   pub expr_shorter : {from to : List Token} {x : Expr} → IsExpr from to x → length to < length from
@@ -86,15 +86,10 @@ tame_factor = record { shorter = λ h. factor_shorter h; within = λ h d w. fact
 
 bare_primary_sound : (ts : List Token) (x : Expr × List Token) → bare_primary_at ts ≡ Some x → IsPrimary ts x.1 x.0
 unfolding bare_primary_at
+bare_primary_sound (Number n ∷ ts) x q = spells IsPrimary (Number n ∷ ts) ts (e.Number n) x number q
 bare_primary_sound ts x q =
-    elim (if_some (is_name_next ts) _ _ (Some x) q) as (λ _. IsPrimary ts x.1 x.0) [
-      | inl g ↦
-          let f = bind_some (column_at ts) _ x g.1 in
-          spells IsPrimary ts f.0.1 (e.Column f.0.0) x (column (sound_column.by ts f.0 f.1)) f.2
-      | inr g ↦
-          let f = bind_some (number_at ts) _ x g.1 in
-          spells IsPrimary ts f.0.1 (e.Number f.0.0) x (starts IsPrimary ts (Number f.0.0 ∷ f.0.1) f.0.1 (e.Number f.0.0) (number_is ts f.0 f.1) number) f.2
-    ]
+    let f = bind_some (column_at ts) _ x q in
+    spells IsPrimary ts f.0.1 (e.Column f.0.0) x (column (sound_column.by ts f.0 f.1)) f.2
 
 -- the mark of a sign
 abbrev pub adding_mark : Adding → Mark

@@ -18,13 +18,13 @@ use Rattle.ssb_sql.specs.Grammar.IsOutput.{column, sum, count_rows, count}
 use Rattle.ssb_sql.specs.Grammar.IsItem.{unnamed, named}
 use Rattle.ssb_sql.specs.Grammar.IsKey.{name, position}
 use Rattle.ssb_sql.specs.Grammar.IsOrder.{plain, asc, desc}
-use Rattle.ssb_sql.specs.Steps.{after, name_at, number_at, is_name_next, closed_at, parens_at, Shrinks}
+use Rattle.ssb_sql.specs.Steps.{after, name_at, closed_at, parens_at, Shrinks}
 use Rattle.ssb_sql.specs.ReadParts.{column_at}
 use Rattle.ssb_sql.specs.ReadExpressions.{expr_at}
 use Rattle.ssb_sql.specs.ReadSelects.{count_at, output_at, item_of, alias_at, item_at, key_at, order_of, order_at}
-use Rattle.ssb_sql.proofs.StepFacts.{some_is, bind_some, choose_some, if_some, after_is, two_are}
+use Rattle.ssb_sql.proofs.StepFacts.{some_is, bind_some, choose_some, after_is, two_are}
 use Rattle.ssb_sql.proofs.Shapes.{Sound, Tame, spells, starts, followed, sound_closed, shrinks}
-use Rattle.ssb_sql.proofs.PartFacts.{name_is, number_is, sound_column, tame_column}
+use Rattle.ssb_sql.proofs.PartFacts.{name_is, sound_column, tame_column}
 use Rattle.ssb_sql.proofs.ExpressionSound.{sound_expr, tame_expr}
 
 count_sound : (d : ℕ) (ts : List Token) (x : Output × List Token) → count_at d ts ≡ Some x → IsOutput (Fixed (s.Word words.Count) ∷ Fixed (s.Mark marks.Open) ∷ ts) x.1 x.0
@@ -85,15 +85,9 @@ sound_item d = record { by = item_sound d }
 
 key_sound : (ts : List Token) (x : Key × List Token) → key_at ts ≡ Some x → IsKey ts x.1 x.0
 unfolding key_at
-key_sound ts x e =
-    elim (if_some (is_name_next ts) _ _ (Some x) e) as (λ _. IsKey ts x.1 x.0) [
-      | inl g ↦
-          let f = bind_some (name_at ts) _ x g.1 in
-          spells IsKey ts f.0.1 (k.Name f.0.0) x (starts IsKey ts (Name f.0.0 ∷ f.0.1) f.0.1 (k.Name f.0.0) (name_is ts f.0 f.1) name) f.2
-      | inr g ↦
-          let f = bind_some (number_at ts) _ x g.1 in
-          spells IsKey ts f.0.1 (k.Position f.0.0) x (starts IsKey ts (Number f.0.0 ∷ f.0.1) f.0.1 (k.Position f.0.0) (number_is ts f.0 f.1) position) f.2
-    ]
+key_sound (Name n ∷ ts) x e = spells IsKey (Name n ∷ ts) ts (k.Name n) x name e
+key_sound (Number n ∷ ts) x e = spells IsKey (Number n ∷ ts) ts (k.Position n) x position e
+key_sound _ x e = absurd cc
 
 order_sound : (ts : List Token) (x : Order × List Token) → order_at ts ≡ Some x → IsOrder ts x.1 x.0
 unfolding order_at

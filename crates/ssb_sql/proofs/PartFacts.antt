@@ -17,7 +17,7 @@ use Rattle.ssb_sql.specs.Forms.IsColumn.{alone, dotted}
 use Rattle.ssb_sql.specs.Forms.IsLiteral.{number, positive, negative, text}
 use Rattle.ssb_sql.specs.Forms.IsOperand.{column, literal}
 use Rattle.ssb_sql.specs.Room.{HasRoom}
-use Rattle.ssb_sql.specs.Steps.{after, is_fixed, name_at, number_at, text_at, is_name_next, is_text_next, Shrinks}
+use Rattle.ssb_sql.specs.Steps.{after, is_fixed, name_at, number_at, is_name_next, Shrinks}
 use Rattle.ssb_sql.specs.ReadParts.{column_of, column_at, small_at, below_at, plain_literal_at, literal_at, operand_at}
 use Rattle.ssb_sql.proofs.StepFacts.{some_is, bind_some, choose_some, if_some, after_is, Stops, stops, differs, sees}
 use Rattle.ssb_sql.proofs.Shapes.{Sound, Tame, spells, starts, shrinks}
@@ -31,11 +31,6 @@ pub number_is : (ts : List Token) (x : ℕ × List Token) → number_at ts ≡ S
 unfolding number_at
 number_is (Number n ∷ ts) x e = ap (λ z. Number z.0 ∷ z.1) (some_is (n, ts) x e)
 number_is _ x e = absurd cc
-
-text_is : (ts : List Token) (x : List ℕ × List Token) → text_at ts ≡ Some x → ts ≡ Text x.0 ∷ x.1
-unfolding text_at
-text_is (Text t ∷ ts) x e = ap (λ z. Text z.0 ∷ z.1) (some_is (t, ts) x e)
-text_is _ x e = absurd cc
 
 pub sound_name : Sound name_at IsNamed
 sound_name = record { by = λ ts x e. subst (λ us. IsNamed us x.1 x.0) (sym (name_is ts x e)) name }
@@ -83,16 +78,11 @@ below_is ts x e =
 
 plain_literal_sound : (ts : List Token) (x : Literal × List Token) → plain_literal_at ts ≡ Some x → IsLiteral ts x.1 x.0
 unfolding plain_literal_at
+plain_literal_sound (Text t ∷ ts) x e = spells IsLiteral (Text t ∷ ts) ts (l.Text t) x text e
 plain_literal_sound ts x e =
-    elim (if_some (is_text_next ts) _ _ (Some x) e) as (λ _. IsLiteral ts x.1 x.0) [
-      | inl g ↦
-          let f = bind_some (text_at ts) _ x g.1 in
-          spells IsLiteral ts f.0.1 (l.Text f.0.0) x (starts IsLiteral ts (Text f.0.0 ∷ f.0.1) f.0.1 (l.Text f.0.0) (text_is ts f.0 f.1) text) f.2
-      | inr g ↦
-          let f = bind_some (small_at ts) _ x g.1 in
-          let q = small_is ts f.0 f.1 in
-          spells IsLiteral ts f.0.1 (l.Number f.0.0) x (subst (λ z. IsLiteral ts f.0.1 (l.Number z)) q.3 (starts IsLiteral ts (Number q.0 ∷ f.0.1) f.0.1 (l.Number (pos q.0)) q.1 (number q.2))) f.2
-    ]
+    let f = bind_some (small_at ts) _ x e in
+    let q = small_is ts f.0 f.1 in
+    spells IsLiteral ts f.0.1 (l.Number f.0.0) x (subst (λ z. IsLiteral ts f.0.1 (l.Number z)) q.3 (starts IsLiteral ts (Number q.0 ∷ f.0.1) f.0.1 (l.Number (pos q.0)) q.1 (number q.2))) f.2
 
 literal_sound : (ts : List Token) (x : Literal × List Token) → literal_at ts ≡ Some x → IsLiteral ts x.1 x.0
 unfolding literal_at
@@ -211,13 +201,13 @@ unfolding below_at
 below_read n to h = rw (number_read n to, le-leb n 9223372036854775807 h) refl
 
 pub literal_read : {from to : List Token} {x : Literal} → IsLiteral from to x → literal_at from ≡ Some (x, to)
-unfolding literal_at plain_literal_at after is_fixed is_text_next text_at
+unfolding literal_at plain_literal_at after is_fixed
 literal_read (number {to = to} {n = n} h) = rw (small_read n to h) refl
 literal_read (positive {to = to} {n = n} h) = rw (sees (s.Mark marks.Plus) (Number n ∷ to), small_read n to h) refl
 literal_read (negative {to = to} {n = n} h) = rw (stops (s.Mark marks.Minus) (s.Mark marks.Plus) (Number n ∷ to) (differs (s.Mark marks.Minus) (s.Mark marks.Plus) refl), sees (s.Mark marks.Minus) (Number n ∷ to), below_read n to h) refl
 literal_read text = refl
 
-pub column_next : {from to : List Token} {x : ColumnName} → IsColumn from to x → is_name_next from ≡ true
+column_next : {from to : List Token} {x : ColumnName} → IsColumn from to x → is_name_next from ≡ true
 unfolding is_name_next
 column_next alone = refl
 column_next dotted = refl

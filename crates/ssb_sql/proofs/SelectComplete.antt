@@ -28,13 +28,13 @@ use Rattle.ssb_sql.specs.Grammar.IsGroups.{no_groups, groups}
 use Rattle.ssb_sql.specs.Grammar.IsOrders.{no_orders, orders}
 use Rattle.ssb_sql.specs.Grammar.IsEnd.{end, semicolon}
 use Rattle.ssb_sql.specs.Grammar.Parses.{query}
-use Rattle.ssb_sql.specs.Steps.{Parser, after, is_sign, name_at, is_name_next, list_at, parens_at}
+use Rattle.ssb_sql.specs.Steps.{Parser, after, is_sign, name_at, list_at, parens_at}
 use Rattle.ssb_sql.specs.ReadParts.{column_at}
 use Rattle.ssb_sql.specs.ReadExpressions.{expr_at}
 use Rattle.ssb_sql.specs.ReadSelects.{count_at, output_at, alias_at, item_at, where_at, by_at, key_at, order_at, ends, select_of, ordered_at, grouped_at, filtered_at, joined_at, query_at}
 use Rattle.ssb_sql.proofs.StepFacts.{some_is, Stops, stops, differs, sees}
 use Rattle.ssb_sql.proofs.Shapes.{Complete, GoesOn, closed_read, list_read, tame_list}
-use Rattle.ssb_sql.proofs.PartFacts.{tame_name, tame_column, named_read, name_read, number_read, column_read}
+use Rattle.ssb_sql.proofs.PartFacts.{tame_name, tame_column, named_read, name_read, column_read}
 use Rattle.ssb_sql.proofs.Depth.{all_within}
 use Rattle.ssb_sql.proofs.ExpressionComplete.{column_begins, expr_begins, expr_read, close_ends}
 use Rattle.ssb_sql.proofs.ConditionComplete.{EndsCond, cond_read}
@@ -111,9 +111,9 @@ columns_read from to xs h m n =
     list_read column_at IsColumn tame_column d (Stops (s.Mark marks.Dot)) column_goes_on (record { by = λ a w f. column_read a f }) h (all_within from d (omega arith)) m n
 
 key_read : {from to : List Token} {x : Key} → IsKey from to x → key_at from ≡ Some (x, to)
-unfolding key_at is_name_next
-key_read (name {to = to} {n = n}) = rw (name_read n to) refl
-key_read (position {to = to} {n = n}) = rw (number_read n to) refl
+unfolding key_at
+key_read name = refl
+key_read position = refl
 
 -- what may follow a key
 pub record EndsKey (to : List Token) : Type 0 where

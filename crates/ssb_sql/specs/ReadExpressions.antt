@@ -1,7 +1,8 @@
 -- Reading expressions.
 -- For the contracts inside this crate.
-use Rattle.std.specs.Prelude.{ℕ, zero, suc, if◌then◌else◌, List, [], Option, Some, None}
+use Rattle.std.specs.Prelude.{ℕ, zero, suc, List, [], ◌∷◌, Option, Some, None}
 use Rattle.ssb_sql.specs.declared.token.Token.{Token}
+use Rattle.ssb_sql.specs.declared.token.Token.TheVariants.{Number}
 use Rattle.ssb_sql.specs.declared.token.Mark.TheVariants as marks
 use Rattle.ssb_sql.specs.declared.token.Sign.TheVariants as s
 use Rattle.ssb_sql.specs.declared.expr.Adding.{Adding}
@@ -10,14 +11,13 @@ use Rattle.ssb_sql.specs.declared.expr.Step.{Step}
 use Rattle.ssb_sql.specs.declared.expr.Expr.{Expr}
 use Rattle.ssb_sql.specs.declared.expr.Expr.TheVariants as e
 use Rattle.ssb_sql.specs.Reading.{◌>>=◌}
-use Rattle.ssb_sql.specs.Steps.{Parser, choose, after, number_at, is_name_next, more_at, chained_at, closed_at}
+use Rattle.ssb_sql.specs.Steps.{Parser, choose, after, more_at, chained_at, closed_at}
 use Rattle.ssb_sql.specs.ReadParts.{column_at}
 use Rattle.ssb_sql.specs.Expressions.{sum_of, times_of}
 
 unfoldable pub bare_primary_at : Parser Expr
-bare_primary_at ts =
-    if is_name_next ts then (column_at ts >>= λ x. Some (e.Column x.0, x.1))
-    else (number_at ts >>= λ x. Some (e.Number x.0, x.1))
+bare_primary_at (Number n ∷ ts) = Some (e.Number n, ts)
+bare_primary_at ts = column_at ts >>= λ x. Some (e.Column x.0, x.1)
 
 unfoldable pub primary_at : Parser Expr → Parser Expr
 primary_at inner ts = choose (after (s.Mark marks.Open) ts) (closed_at inner) (bare_primary_at ts)

@@ -1,6 +1,7 @@
 -- Reading columns, literals and operands.
 -- For the contracts inside this crate.
-use Rattle.std.specs.Prelude.{ℕ, nat_le, if◌then◌else◌, List, Option, Some, None, ℤ, pos, neg_ℤ}
+use Rattle.std.specs.Prelude.{ℕ, nat_le, if◌then◌else◌, List, ◌∷◌, Option, Some, None, ℤ, pos, neg_ℤ}
+use Rattle.ssb_sql.specs.declared.token.Token.TheVariants.{Text}
 use Rattle.ssb_sql.specs.declared.token.Mark.TheVariants as marks
 use Rattle.ssb_sql.specs.declared.token.Sign.TheVariants as s
 use Rattle.ssb_sql.specs.declared.expr.ColumnName.{ColumnName}
@@ -9,7 +10,7 @@ use Rattle.ssb_sql.specs.declared.condition.Literal.TheVariants as l
 use Rattle.ssb_sql.specs.declared.condition.Operand.{Operand}
 use Rattle.ssb_sql.specs.declared.condition.Operand.TheVariants as o
 use Rattle.ssb_sql.specs.Reading.{◌>>=◌}
-use Rattle.ssb_sql.specs.Steps.{Parser, choose, after, name_at, number_at, text_at, is_name_next, is_text_next}
+use Rattle.ssb_sql.specs.Steps.{Parser, choose, after, name_at, number_at, is_name_next}
 
 abbrev pub column_of : Option (List ℕ) → List ℕ → ColumnName
 column_of t n = record { table = t; column = n }
@@ -25,9 +26,8 @@ unfoldable pub below_at : Parser ℤ
 below_at ts = number_at ts >>= λ x. if nat_le x.0 9223372036854775807 then Some (neg_ℤ (pos x.0), x.1) else None
 
 unfoldable pub plain_literal_at : Parser Literal
-plain_literal_at ts =
-    if is_text_next ts then (text_at ts >>= λ x. Some (l.Text x.0, x.1))
-    else (small_at ts >>= λ x. Some (l.Number x.0, x.1))
+plain_literal_at (Text t ∷ ts) = Some (l.Text t, ts)
+plain_literal_at ts = small_at ts >>= λ x. Some (l.Number x.0, x.1)
 
 unfoldable pub literal_at : Parser Literal
 literal_at ts =

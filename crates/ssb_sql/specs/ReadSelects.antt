@@ -2,6 +2,7 @@
 -- For the contracts inside this crate.
 use Rattle.std.specs.Prelude.{ℕ, suc, Bool, true, false, if◌then◌else◌, List, [], ◌∷◌, Option, Some, None}
 use Rattle.ssb_sql.specs.declared.token.Token.{Token}
+use Rattle.ssb_sql.specs.declared.token.Token.TheVariants.{Name, Number}
 use Rattle.ssb_cells.specs.declared.keyword.Keyword.{Keyword}
 use Rattle.ssb_cells.specs.declared.keyword.Keyword.TheVariants as words
 use Rattle.ssb_sql.specs.declared.token.Mark.TheVariants as marks
@@ -16,7 +17,7 @@ use Rattle.ssb_sql.specs.declared.select.Key.TheVariants as k
 use Rattle.ssb_sql.specs.declared.select.Order.{Order}
 use Rattle.ssb_sql.specs.declared.select.Select.{Select}
 use Rattle.ssb_sql.specs.Reading.{◌>>=◌}
-use Rattle.ssb_sql.specs.Steps.{Parser, choose, after, name_at, number_at, is_name_next, list_at, closed_at, parens_at}
+use Rattle.ssb_sql.specs.Steps.{Parser, choose, after, name_at, list_at, closed_at, parens_at}
 use Rattle.ssb_sql.specs.ReadParts.{column_at}
 use Rattle.ssb_sql.specs.ReadExpressions.{expr_at}
 use Rattle.ssb_sql.specs.ReadConditions.{cond_at}
@@ -51,9 +52,9 @@ unfoldable pub by_at : {A : Type 0} → Keyword → Parser A → Parser (List A)
 by_at word p ts = choose (after (s.Word word) ts) (λ rest. after (s.Word words.By) rest >>= λ start. list_at p start) (Some ([], ts))
 
 unfoldable pub key_at : Parser Key
-key_at ts =
-    if is_name_next ts then (name_at ts >>= λ x. Some (k.Name x.0, x.1))
-    else (number_at ts >>= λ x. Some (k.Position x.0, x.1))
+key_at (Name n ∷ ts) = Some (k.Name n, ts)
+key_at (Number n ∷ ts) = Some (k.Position n, ts)
+key_at _ = None
 
 abbrev pub order_of : Key → Bool → Order
 order_of x descending = record { key = x; descending = descending }

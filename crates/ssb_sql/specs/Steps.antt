@@ -91,7 +91,7 @@ unfoldable pub after : Sign → List Token → Option (List Token)
 after sign [] = None
 after sign (t ∷ ts) = if is_fixed sign t then Some ts else None
 
--- a name, a number or a text, where it comes next
+-- a name or a number, where it comes next
 unfoldable pub name_at : Parser (List ℕ)
 name_at (Name n ∷ ts) = Some (n, ts)
 name_at _ = None
@@ -100,17 +100,9 @@ unfoldable pub number_at : Parser ℕ
 number_at (Number n ∷ ts) = Some (n, ts)
 number_at _ = None
 
-unfoldable pub text_at : Parser (List ℕ)
-text_at (Text t ∷ ts) = Some (t, ts)
-text_at _ = None
-
 unfoldable pub is_name_next : List Token → Bool
 is_name_next (Name n ∷ ts) = true
 is_name_next _ = false
-
-unfoldable pub is_text_next : List Token → Bool
-is_text_next (Text t ∷ ts) = true
-is_text_next _ = false
 
 -- what a chain does where it goes on, and where it does not
 abbrev pub turn_at : {A L : Type 0} → (L → Option (A × List Token)) → Parser (List A) → List Token → Option L → Option (List A × List Token)

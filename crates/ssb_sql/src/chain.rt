@@ -2,14 +2,15 @@
 
 ghost use Rattle.std.specs.Prelude.{◌≡◌, [], ◌∷◌};
 ghost use Rattle.ssb_sql.specs.Reading.{seen};
-ghost use Rattle.ssb_sql.specs.Steps.{Gives, Parser, Reads, Shrinks, after, chained_at, list_at};
-ghost use Rattle.ssb_sql.specs.declared.token.Mark.TheVariants as marks;
-ghost use Rattle.ssb_sql.specs.declared.token.Sign.TheVariants as s;
+ghost use Rattle.ssb_sql.specs.Steps.{Gives, Parser, Reads, Shrinks, after, chained_at};
 
 use crate::steps::{Stop, after};
 use crate::token::{Mark, Sign, Token};
 use sqlite_items::Items;
 use std::alloc::Global;
+
+/// What stands between the members of a list.
+pub(crate) const COMMA: Sign = Sign::Mark(Mark::Comma);
 
 /// Reads one piece, and one more behind each sign.
 pub(crate) fn chain<T: Drop, F>(
@@ -34,19 +35,4 @@ where
         rest = end;
     }
     Ok((all, rest))
-}
-
-/// Reads one piece, and one more behind each comma.
-pub(crate) fn list<T: Drop, F>(
-    alloc: Global,
-    tokens: &[Token],
-    piece: F,
-) -> Result<(Items<T>, &[Token]), Stop>
-where
-    F: Fn(&[Token]) -> Result<(T, &[Token]), Stop>,
-    requires can { F.IsAlwaysCallable piece }
-    requires shrinks { (p : Parser T) × Shrinks (after (s.Mark marks.Comma)) p × Reads (F.post piece) p }
-    ensures { (p : Parser T) → Shrinks (after (s.Mark marks.Comma)) p → Reads (F.post piece) p → Gives seen result (list_at p tokens.now) }
-{
-    chain(alloc, Sign::Mark(Mark::Comma), tokens, piece)
 }

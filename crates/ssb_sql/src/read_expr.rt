@@ -11,7 +11,7 @@ ghost use Rattle.ssb_sql.specs.declared.token.Sign.TheVariants as s;
 use crate::chain::chain;
 use crate::expr::{Adding, Expr, Step};
 use crate::read_parts::column;
-use crate::steps::{Stop, after, closing, is_name_next, number};
+use crate::steps::{Stop, after, closing};
 use crate::token::{Mark, Sign, Token};
 use sqlite_items::{Boxed, Items};
 use std::alloc::{AllocError, Global};
@@ -42,12 +42,9 @@ fn times_of(mut all: Items<Expr>) -> Expr
 fn bare_primary(alloc: Global, tokens: &[Token]) -> Result<(Expr, &[Token]), Stop>
     ensures { Gives seen result (bare_primary_at tokens.now) }
 {
-    if is_name_next(tokens) {
-        let (column, rest) = column(alloc, tokens)?;
-        Ok((Expr::Column(column), rest))
-    } else {
-        let (number, rest) = number(tokens)?;
-        Ok((Expr::Number(number), rest))
+    match tokens {
+        [Token::Number(number), rest @ ..] => Ok((Expr::Number(*number), rest)),
+        _ => column(alloc, tokens).map(|(column, rest)| (Expr::Column(column), rest)),
     }
 }
 

@@ -7,12 +7,12 @@ ghost use Rattle.ssb_sql.specs.ReadExpressions.{expr_at};
 ghost use Rattle.ssb_sql.specs.ReadSelects.{count_at, output_at, alias_at, item_at, key_at, order_at};
 ghost use Rattle.ssb_sql.specs.declared.token.Sign.TheVariants as s;
 
-use crate::chain::list;
+use crate::chain::{COMMA, chain};
 use crate::expr::Expr;
 use crate::read_expr::expression;
 use crate::read_parts::column;
 use crate::select::{Item, Key, Order, Output};
-use crate::steps::{Stop, after, closing, expect, is_name_next, name, number};
+use crate::steps::{Stop, after, closing, expect, name};
 use crate::token::{Mark, Sign, Token};
 use sqlite_items::Items;
 use ssb_cells::{Keyword, Name};
@@ -93,19 +93,22 @@ pub(crate) fn items(
 ) -> Result<(Items<Item>, &[Token]), Stop>
     ensures { Gives seen result (list_at (item_at depth) tokens.now) }
 {
-    list(alloc, tokens, |start: &[Token]| item(alloc, depth, start))
+    chain(
+        alloc,
+        COMMA,
+        tokens,
+        |start: &[Token]| item(alloc, depth, start),
+    )
 }
 
 #[tactic(auto, unfolding(crate::specs::ReadSelects::key_at))]
 fn key(alloc: Global, tokens: &[Token]) -> Result<(Key, &[Token]), Stop>
     ensures { Gives seen result (key_at tokens.now) }
 {
-    if is_name_next(tokens) {
-        let (name, rest) = name(alloc, tokens)?;
-        Ok((Key::Name(name), rest))
-    } else {
-        let (number, rest) = number(tokens)?;
-        Ok((Key::Position(number), rest))
+    match tokens {
+        [Token::Name(name), rest @ ..] => Ok((Key::Name(name.copy(alloc)?), rest)),
+        [Token::Number(number), rest @ ..] => Ok((Key::Position(*number), rest)),
+        _ => Err(Stop::Syntax),
     }
 }
 

@@ -8,7 +8,7 @@ ghost use Rattle.ssb_sql.specs.declared.token.Sign.TheVariants as s;
 
 use crate::condition::{Literal, Operand};
 use crate::expr::ColumnName;
-use crate::steps::{Stop, after, is_name_next, is_text_next, name, number, text};
+use crate::steps::{Stop, after, is_name_next, name, number};
 use crate::token::{Mark, Sign, Token};
 use std::alloc::Global;
 
@@ -59,12 +59,9 @@ fn below(tokens: &[Token]) -> Result<(i64, &[Token]), Stop>
 fn plain_literal(alloc: Global, tokens: &[Token]) -> Result<(Literal, &[Token]), Stop>
     ensures { Gives seen result (plain_literal_at tokens.now) }
 {
-    if is_text_next(tokens) {
-        let (text, rest) = text(alloc, tokens)?;
-        Ok((Literal::Text(text), rest))
-    } else {
-        let (number, rest) = small(tokens)?;
-        Ok((Literal::Number(number), rest))
+    match tokens {
+        [Token::Text(text), rest @ ..] => Ok((Literal::Text(text.copy(alloc)?), rest)),
+        _ => small(tokens).map(|(number, rest)| (Literal::Number(number), rest)),
     }
 }
 

@@ -8,7 +8,7 @@ ghost use Rattle.ssb_sql.specs.ReadSelects.{item_at, where_at, by_at, order_at, 
 ghost use Rattle.ssb_sql.specs.declared.token.Mark.TheVariants as marks;
 ghost use Rattle.ssb_sql.specs.declared.token.Sign.TheVariants as s;
 
-use crate::chain::list;
+use crate::chain::{COMMA, chain};
 use crate::condition::Condition;
 use crate::expr::ColumnName;
 use crate::read_condition::condition;
@@ -55,7 +55,7 @@ where
     match after(tokens, Sign::Word(word)) {
         Some(rest) => {
             let start = expect(rest, Sign::Word(Keyword::By))?;
-            list(alloc, start, piece)
+            chain(alloc, COMMA, start, piece)
         }
         None => Ok((Items::new(alloc), tokens)),
     }
@@ -146,7 +146,7 @@ fn joined(
     ensures { Gives (λ x. x) result (joined_at depth tokens.now) }
 {
     let tables = expect(tokens, Sign::Word(Keyword::From))?;
-    let (from, rest) = list(alloc, tables, |start: &[Token]| name(alloc, start))?;
+    let (from, rest) = chain(alloc, COMMA, tables, |start: &[Token]| name(alloc, start))?;
     let (condition, groups, orders) = filtered(alloc, depth, rest)?;
     Ok((from, condition, groups, orders))
 }

@@ -7,7 +7,7 @@ ghost use Rattle.ssb_sql.specs.ReadParts.{literal_at, operand_at};
 ghost use Rattle.ssb_sql.specs.ReadConditions.{op_of, op_at, limits_at, among_at, between_of, in_of, range_at, null_of, nulled_at, null_at, compared_at, tail_at, bare_at};
 ghost use Rattle.ssb_sql.specs.declared.token.Sign.TheVariants as s;
 
-use crate::chain::list;
+use crate::chain::{COMMA, chain};
 use crate::condition::{Condition, Literal, Operand};
 use crate::read_parts::{literal, operand};
 use crate::steps::{Stop, after, closing, expect, followed};
@@ -57,7 +57,12 @@ fn among(alloc: Global, tokens: &[Token]) -> Result<(Items<Literal>, &[Token]), 
 {
     let rest = expect(tokens, Sign::Word(Keyword::In))?;
     let inside = expect(rest, Sign::Mark(Mark::Open))?;
-    let (found, rest) = list(alloc, inside, |start: &[Token]| literal(alloc, start))?;
+    let (found, rest) = chain(
+        alloc,
+        COMMA,
+        inside,
+        |start: &[Token]| literal(alloc, start),
+    )?;
     closing(found, rest)
 }
 

@@ -3,11 +3,10 @@
 ghost use Rattle.std.specs.Prelude.{◌≡◌};
 ghost use Rattle.std.specs.Option.{option_copied};
 ghost use Rattle.ssb_sql.specs.Reading.{seen};
-ghost use Rattle.ssb_sql.specs.Steps.{Gives, followed_at, is_sign, is_fixed, after, name_at, number_at, text_at, is_name_next, is_text_next};
+ghost use Rattle.ssb_sql.specs.Steps.{Gives, followed_at, is_sign, is_fixed, after, name_at, number_at, is_name_next};
 ghost use Rattle.ssb_sql.specs.declared.token.Mark.TheVariants as marks;
 ghost use Rattle.ssb_sql.specs.declared.token.Sign.TheVariants as s;
 
-use crate::text::Text;
 use crate::token::{Mark, Sign, Token};
 use ssb_cells::Name;
 use std::alloc::{AllocError, Global};
@@ -102,16 +101,6 @@ pub(crate) fn is_name_next(tokens: &[Token]) -> bool
     }
 }
 
-#[tactic(auto, unfolding(crate::specs::Steps::is_text_next))]
-pub(crate) fn is_text_next(tokens: &[Token]) -> bool
-    ensures { result ≡ is_text_next tokens.now }
-{
-    match tokens {
-        [Token::Text(_), ..] => true,
-        _ => false,
-    }
-}
-
 #[tactic(auto, unfolding(crate::specs::Steps::name_at))]
 pub(crate) fn name(alloc: Global, tokens: &[Token]) -> Result<(Name, &[Token]), Stop>
     ensures { Gives seen result (name_at tokens.now) }
@@ -128,16 +117,6 @@ pub(crate) fn number(tokens: &[Token]) -> Result<(u64, &[Token]), Stop>
 {
     match tokens {
         [Token::Number(number), rest @ ..] => Ok((*number, rest)),
-        _ => Err(Stop::Syntax),
-    }
-}
-
-#[tactic(auto, unfolding(crate::specs::Steps::text_at))]
-pub(crate) fn text(alloc: Global, tokens: &[Token]) -> Result<(Text, &[Token]), Stop>
-    ensures { Gives seen result (text_at tokens.now) }
-{
-    match tokens {
-        [Token::Text(text), rest @ ..] => Ok((text.copy(alloc)?, rest)),
         _ => Err(Stop::Syntax),
     }
 }

@@ -1,16 +1,14 @@
 -- What reading steps say.
-use Rattle.std.proofs.Common.{◌≡◌, ℕ, suc, ◌<◌, Bool, true, false, cond, List, [], ◌∷◌, length, get_or, Option, Some, None, refl, sym, ap, ◌∙◌, arith, ◌⊎◌, inl, inr}
-use Rattle.std.proofs.lemmas.Bool.{eq-eqb, eqb-true}
+use Rattle.std.proofs.Common.{◌≡◌, suc, ◌<◌, Bool, true, false, cond, List, [], ◌∷◌, length, Option, Some, None, refl, ap, ◌∙◌, arith, ◌⊎◌, inl, inr}
+use denote.Enum.Bare.{same_true, true_same}
 use Rattle.ssb_sql.specs.declared.token.Token.{Token}
 use Rattle.ssb_sql.specs.declared.token.Token.TheVariants.{Fixed, Name, Number, Text}
-use Rattle.ssb_cells.specs.declared.keyword.Keyword.{Keyword}
-use Rattle.ssb_sql.specs.declared.token.Mark.{Mark}
 use Rattle.ssb_sql.specs.declared.token.Sign.{Sign}
-use Rattle.ssb_cells.specs.declared.keyword.Keyword.TheVariants as words
-use Rattle.ssb_sql.specs.declared.token.Mark.TheVariants as marks
+use Rattle.ssb_cells.specs.contracts.keyword.Keyword as words
+use Rattle.ssb_sql.specs.contracts.token.Mark as marks
 use Rattle.ssb_sql.specs.declared.token.Sign.TheVariants as s
 use Rattle.ssb_sql.specs.Reading.{◌>>=◌}
-use Rattle.ssb_sql.specs.Steps.{choose, word_code, mark_code, is_same, is_sign, is_fixed, after}
+use Rattle.ssb_sql.specs.Steps.{choose, is_same, is_sign, is_fixed, after}
 
 pub some_is : {A : Type 0} (x y : A) → Some x ≡ Some y → x ≡ y
 some_is x y e = cc
@@ -35,65 +33,10 @@ pub cases_of : {A : Type 0} (o : Option A) → (o ≡ None) ⊎ ((x : A) × (o �
 cases_of None = inl refl
 cases_of (Some x) = inr (x, refl)
 
-abbrev all_words : List Keyword
-all_words =
-    words.Select ∷ words.From ∷ words.Where ∷ words.Group ∷ words.By ∷ words.Order ∷ words.And ∷ words.Or ∷ words.Not ∷ words.Between ∷ words.In ∷ words.Is ∷ words.Null ∷ words.As ∷ words.Asc
-    ∷ words.Desc ∷ words.Sum ∷ words.Count ∷ words.Min ∷ words.Max ∷ words.Having ∷ []
-
-abbrev all_marks : List Mark
-all_marks = marks.Open ∷ marks.Close ∷ marks.Comma ∷ marks.Dot ∷ marks.Semicolon ∷ marks.Plus ∷ marks.Minus ∷ marks.Times ∷ marks.Equal ∷ marks.NotEqual ∷ marks.Less ∷ marks.LessEqual ∷ marks.Greater ∷ marks.GreaterEqual ∷ []
-
-word_at : ℕ → Keyword
-word_at n = get_or all_words n words.Select
-
-mark_at : ℕ → Mark
-mark_at n = get_or all_marks n marks.Open
-
-word_back : (a : Keyword) → word_at (word_code a) ≡ a
-unfolding word_at
-word_back words.Select = refl
-word_back words.From = refl
-word_back words.Where = refl
-word_back words.Group = refl
-word_back words.By = refl
-word_back words.Order = refl
-word_back words.And = refl
-word_back words.Or = refl
-word_back words.Not = refl
-word_back words.Between = refl
-word_back words.In = refl
-word_back words.Is = refl
-word_back words.Null = refl
-word_back words.As = refl
-word_back words.Asc = refl
-word_back words.Desc = refl
-word_back words.Sum = refl
-word_back words.Count = refl
-word_back words.Min = refl
-word_back words.Max = refl
-word_back words.Having = refl
-
-mark_back : (a : Mark) → mark_at (mark_code a) ≡ a
-unfolding mark_at
-mark_back marks.Open = refl
-mark_back marks.Close = refl
-mark_back marks.Comma = refl
-mark_back marks.Dot = refl
-mark_back marks.Semicolon = refl
-mark_back marks.Plus = refl
-mark_back marks.Minus = refl
-mark_back marks.Times = refl
-mark_back marks.Equal = refl
-mark_back marks.NotEqual = refl
-mark_back marks.Less = refl
-mark_back marks.LessEqual = refl
-mark_back marks.Greater = refl
-mark_back marks.GreaterEqual = refl
-
 same_sign : (a b : Sign) → is_sign a b ≡ true → a ≡ b
 unfolding is_sign
-same_sign (s.Word a) (s.Word b) e = ap (λ x. s.Word x) (sym (word_back a) ∙ ap word_at (eqb-true (word_code a) (word_code b) e) ∙ word_back b)
-same_sign (s.Mark a) (s.Mark b) e = ap (λ x. s.Mark x) (sym (mark_back a) ∙ ap mark_at (eqb-true (mark_code a) (mark_code b) e) ∙ mark_back b)
+same_sign (s.Word a) (s.Word b) e = ap (λ x. s.Word x) (same_true words.the_type tt a b e)
+same_sign (s.Mark a) (s.Mark b) e = ap (λ x. s.Mark x) (same_true marks.the_type tt a b e)
 same_sign (s.Word a) (s.Mark b) e = absurd cc
 same_sign (s.Mark a) (s.Word b) e = absurd cc
 
@@ -122,8 +65,8 @@ after_shorter sign ts rest e = let n : length ts ≡ suc (length rest) = ap leng
 
 same_is : (sign : Sign) → is_sign sign sign ≡ true
 unfolding is_sign
-same_is (s.Word a) = eq-eqb (word_code a) (word_code a) refl
-same_is (s.Mark a) = eq-eqb (mark_code a) (mark_code a) refl
+same_is (s.Word a) = true_same words.the_type a a refl
+same_is (s.Mark a) = true_same marks.the_type a a refl
 
 pub sees : (sign : Sign) (ts : List Token) → after sign (Fixed sign ∷ ts) ≡ Some ts
 unfolding after is_fixed

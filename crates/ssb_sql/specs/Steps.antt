@@ -1,16 +1,14 @@
 -- Reading from left to right: what every reader is made of.
 -- For the contracts inside this crate.
-use Rattle.std.specs.Prelude.{◌≡◌, ℕ, zero, suc, Bool, true, false, if◌then◌else◌, ◌==◌, List, [], ◌∷◌, ◌++◌, length, ◌<◌, Option, Some, None, Result, Ok, Err}
+use Rattle.std.specs.Prelude.{◌≡◌, ℕ, zero, suc, Bool, true, false, if◌then◌else◌, List, [], ◌∷◌, ◌++◌, length, ◌<◌, Option, Some, None, Result, Ok, Err}
 use Rattle.std.specs.Borrow.{Bor}
 use Rattle.ssb_sql.specs.Reading.{◌>>=◌, seen}
 use Rattle.ssb_sql.specs.declared.token.Token.{Token}
 use Rattle.ssb_sql.specs.declared.token.Token.TheVariants.{Fixed, Name, Number, Text}
-use Rattle.ssb_cells.specs.declared.keyword.Keyword.{Keyword}
-use Rattle.ssb_sql.specs.declared.token.Mark.{Mark}
 use Rattle.ssb_sql.specs.declared.token.Sign.{Sign}
-use Rattle.ssb_cells.specs.declared.keyword.Keyword.TheVariants as words
 use Rattle.ssb_sql.specs.declared.token.Mark.TheVariants as marks
 use Rattle.ssb_sql.specs.declared.token.Sign.TheVariants as s
+use Rattle.ssb_sql.specs.contracts.token.SignPartialEq.TheImpl as signs
 use Rattle.ssb_sql.specs.declared.steps.Stop.{Stop}
 use Rattle.ssb_sql.specs.declared.steps.Stop.TheVariants as stop
 
@@ -32,50 +30,9 @@ abbrev pub Gives : {X Y : Type 0} → (X → Y) → Result X Stop → Option Y �
 Gives view (Ok x) read = read ≡ Some (view x)
 Gives view (Err e) read = Fails e read
 
-abbrev pub word_code : Keyword → ℕ
-word_code words.Select = 0
-word_code words.From = 1
-word_code words.Where = 2
-word_code words.Group = 3
-word_code words.By = 4
-word_code words.Order = 5
-word_code words.And = 6
-word_code words.Or = 7
-word_code words.Not = 8
-word_code words.Between = 9
-word_code words.In = 10
-word_code words.Is = 11
-word_code words.Null = 12
-word_code words.As = 13
-word_code words.Asc = 14
-word_code words.Desc = 15
-word_code words.Sum = 16
-word_code words.Count = 17
-word_code words.Min = 18
-word_code words.Max = 19
-word_code words.Having = 20
-
-abbrev pub mark_code : Mark → ℕ
-mark_code marks.Open = 0
-mark_code marks.Close = 1
-mark_code marks.Comma = 2
-mark_code marks.Dot = 3
-mark_code marks.Semicolon = 4
-mark_code marks.Plus = 5
-mark_code marks.Minus = 6
-mark_code marks.Times = 7
-mark_code marks.Equal = 8
-mark_code marks.NotEqual = 9
-mark_code marks.Less = 10
-mark_code marks.LessEqual = 11
-mark_code marks.Greater = 12
-mark_code marks.GreaterEqual = 13
-
+-- whether two signs are one
 abbrev pub is_same : Sign → Sign → Bool
-is_same (s.Word a) (s.Word b) = word_code a == word_code b
-is_same (s.Mark a) (s.Mark b) = mark_code a == mark_code b
-is_same (s.Word a) (s.Mark b) = false
-is_same (s.Mark a) (s.Word b) = false
+is_same = signs.eq-value.it
 
 unfoldable pub is_sign : Sign → Sign → Bool
 is_sign a b = is_same a b

@@ -3,7 +3,7 @@
 ghost use Rattle.std.specs.Prelude.{◌≡◌};
 ghost use Rattle.std.specs.Option.{option_copied};
 ghost use Rattle.ssb_sql.specs.Reading.{seen};
-ghost use Rattle.ssb_sql.specs.Steps.{Gives, followed_at, is_sign, is_fixed, after, name_at, number_at, is_name_next};
+ghost use Rattle.ssb_sql.specs.Steps.{Gives, followed_at, is_fixed, after, name_at, number_at, is_name_next};
 ghost use Rattle.ssb_sql.specs.declared.token.Mark.TheVariants as marks;
 ghost use Rattle.ssb_sql.specs.declared.token.Sign.TheVariants as s;
 
@@ -28,23 +28,12 @@ impl From<AllocError> for Stop {
     }
 }
 
-#[tactic(auto, unfolding(crate::specs::Steps::is_sign))]
-fn is_sign(found: Sign, sign: Sign) -> bool
-    ensures { result ≡ is_sign found sign }
-{
-    match (found, sign) {
-        (Sign::Word(found), Sign::Word(word)) => found as u8 == word as u8,
-        (Sign::Mark(found), Sign::Mark(mark)) => found as u8 == mark as u8,
-        _ => false,
-    }
-}
-
-#[tactic(auto, unfolding(crate::specs::Steps::is_fixed))]
+#[tactic(auto, unfolding(crate::specs::Steps::is_fixed, crate::specs::Steps::is_sign))]
 pub(crate) fn is_fixed(token: &Token, sign: Sign) -> bool
     ensures { result ≡ is_fixed sign token.now }
 {
     match token {
-        Token::Fixed(found) => is_sign(*found, sign),
+        Token::Fixed(found) => *found == sign,
         _ => false,
     }
 }

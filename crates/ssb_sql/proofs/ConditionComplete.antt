@@ -31,7 +31,7 @@ use Rattle.ssb_sql.specs.Steps.{Parser, after, is_fixed, is_sign, chain_at, more
 use Rattle.ssb_sql.specs.ReadParts.{literal_at, operand_at}
 use Rattle.ssb_sql.specs.ReadConditions.{op_at, limits_at, members_at, among_at, between_of, in_of, range_at, nulled_at, null_at, compared_at, tail_at, bare_at, test_at, neg_at, conj_at, cond_at}
 use Rattle.ssb_sql.proofs.StepFacts.{Stops, stops, differs, sees}
-use Rattle.ssb_sql.proofs.Shapes.{Complete, GoesOn, turn_done, turn_goes, more_goes, closed_read, list_read}
+use Rattle.ssb_sql.proofs.Shapes.{Complete, GoesOn, turn_done, turn_goes, more_goes, closed_read, parens_read, open_read, list_read}
 use Rattle.ssb_sql.proofs.PartFacts.{tame_literal, literal_read, operand_read}
 use Rattle.ssb_sql.proofs.Depth.{all_within}
 use Rattle.ssb_sql.proofs.ExpressionComplete.{column_begins}
@@ -186,14 +186,6 @@ bare_read (not_null {from = from} {to = to} {x = x} a) n =
     bare_goes from (Fixed (s.Word words.Is) ∷ Fixed (s.Word words.Not) ∷ Fixed (s.Word words.Null) ∷ to) (o.Column x) (Some (c.IsNotNull x, to)) (operand_read (column a) (no_dot (s.Word words.Is) (Fixed (s.Word words.Not) ∷ Fixed (s.Word words.Null) ∷ to) (differs (s.Word words.Is) (s.Mark marks.Dot) refl))) (not_null_goes x to)
 
 -- one reader from another
-untested_goes : (p : Parser Condition) (ts to : List Token) (x : Condition) → Stops (s.Mark marks.Open) ts → bare_at ts ≡ Some (x, to) → test_at p ts ≡ Some (x, to)
-unfolding test_at
-untested_goes p ts to x h e = rw h e
-
-parens_goes : (p : Parser Condition) (ts to : List Token) (x : Condition) → p ts ≡ Some (x, Fixed (s.Mark marks.Close) ∷ to) → test_at p (Fixed (s.Mark marks.Open) ∷ ts) ≡ Some (x, to)
-unfolding test_at
-parens_goes p ts to x e = rw (sees (s.Mark marks.Open) ts) (closed_read p ts to x e)
-
 plain_goes : (p : Parser Condition) (ts to : List Token) (x : Condition) → Stops (s.Word words.Not) ts → test_at p ts ≡ Some (x, to) → neg_at p ts ≡ Some (x, to)
 unfolding neg_at
 plain_goes p ts to x h e = rw h e
@@ -251,5 +243,5 @@ mutual
 
   pub test_read : {from to : List Token} {x : Condition} → IsTest IsTested from to x → (d : ℕ) → HasRoom d from → Stops (s.Mark marks.Dot) to → test_at (cond_at d) from ≡ Some (x, to)
   test_read (parens a) zero h n = absurd h
-  test_read (parens {from = from} {to = to} {x = x} a) (suc d) h n = parens_goes (cond_at (suc d)) from to x (cond_read a d h (close_ends to))
-  test_read (bare {from = from} {to = to} {x = x} a) d h n = untested_goes (cond_at d) from to x (bare_begins a (s.Mark marks.Open) (differs (s.Mark marks.Plus) (s.Mark marks.Open) refl) (differs (s.Mark marks.Minus) (s.Mark marks.Open) refl)) (bare_read a n)
+  test_read (parens {from = from} {to = to} {x = x} a) (suc d) h n = parens_read (cond_at (suc d)) bare_at from to x (cond_read a d h (close_ends to))
+  test_read (bare {from = from} {to = to} {x = x} a) d h n = open_read (cond_at d) bare_at from (Some (x, to)) (bare_begins a (s.Mark marks.Open) (differs (s.Mark marks.Plus) (s.Mark marks.Open) refl) (differs (s.Mark marks.Minus) (s.Mark marks.Open) refl)) (bare_read a n)

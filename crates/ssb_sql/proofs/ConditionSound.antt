@@ -1,8 +1,7 @@
 -- What is read as a condition is one.
-use Rattle.std.proofs.Common.{◌≡◌, ℕ, zero, suc, ◌<◌, ◌≤◌, List, ◌∷◌, length, Some, refl, arith, inl, inr}
+use Rattle.std.proofs.Common.{◌≡◌, ℕ, zero, suc, ◌<◌, ◌≤◌, List, length, Some, refl, arith, inl, inr}
 use Rattle.ssb_sql.specs.declared.token.Token.{Token}
 use Rattle.ssb_cells.specs.declared.keyword.Keyword.TheVariants as words
-use Rattle.ssb_sql.specs.declared.token.Mark.TheVariants as marks
 use Rattle.ssb_sql.specs.declared.token.Sign.TheVariants as s
 use Rattle.ssb_sql.specs.declared.condition.Condition.{Condition}
 use Rattle.ssb_sql.specs.declared.condition.Condition.TheVariants as c
@@ -15,9 +14,9 @@ use Rattle.ssb_sql.specs.Conditions.IsNeg.{plain, not}
 use Rattle.ssb_sql.specs.Conditions.IsTest.{parens, bare}
 use Rattle.ssb_sql.specs.Room.{HasRoom}
 use Rattle.ssb_sql.specs.Steps.{Parser, after, Shrinks}
-use Rattle.ssb_sql.specs.ReadConditions.{test_at, neg_at, conj_at, disj_at, cond_at}
+use Rattle.ssb_sql.specs.ReadConditions.{bare_at, test_at, neg_at, conj_at, disj_at, cond_at}
 use Rattle.ssb_sql.proofs.StepFacts.{bind_some, choose_some}
-use Rattle.ssb_sql.proofs.Shapes.{Sound, Tame, IsChain, spells, begins, sound_closed, made_sound, shrinks}
+use Rattle.ssb_sql.proofs.Shapes.{Sound, Tame, IsChain, is_chain, spells, begins, sound_enclosed, made_sound, shrinks}
 use Rattle.ssb_sql.proofs.TestSound.{IsTested, sound_bare, tame_bare}
 
 mutual
@@ -78,12 +77,7 @@ tame_neg = record { shorter = λ h. neg_shorter h; within = λ h d w. neg_within
 
 module _ (inner : Parser Condition) (h : Sound inner (IsCond IsTested)) where
   test_sound : (ts : List Token) (x : Condition × List Token) → test_at inner ts ≡ Some x → IsTest IsTested ts x.1 x.0
-  unfolding test_at
-  test_sound ts x e =
-      elim (choose_some (after (s.Mark marks.Open) ts) _ _ (Some x) e) as (λ _. IsTest IsTested ts x.1 x.0) [
-        | inl g ↦ begins (IsTest IsTested) (s.Mark marks.Open) ts g.0 x.1 x.0 g.1 (parens (sound_closed inner (IsCond IsTested) h g.0 x g.2))
-        | inr g ↦ bare (sound_bare.by ts x g.1)
-      ]
+  test_sound ts x e = sound_enclosed inner bare_at (IsCond IsTested) (IsTest IsTested) h (λ us y q. bare (sound_bare.by us y q)) (λ from to y a. parens a) ts x e
 
   neg_sound : (ts : List Token) (x : Condition × List Token) → neg_at inner ts ≡ Some x → IsNeg IsTested ts x.1 x.0
   unfolding neg_at
@@ -99,10 +93,7 @@ module _ (inner : Parser Condition) (h : Sound inner (IsCond IsTested)) where
   sound_neg = record { by = neg_sound }
 
   ands : IsChain (after (s.Word words.And)) (neg_at inner) (IsAnds IsTested)
-  ands = record {
-    none = λ to. no_and;
-    more = λ ts to l x xs a e m. begins (IsAnds IsTested) (s.Word words.And) ts l to (x.0 ∷ xs) a (and (neg_sound l x e) m);
-  }
+  ands = is_chain (s.Word words.And) (neg_at inner) (IsNeg IsTested) (IsAnds IsTested) sound_neg (λ to. no_and) (λ from mid to x xs a m. and a m)
 
   conj_sound : (ts : List Token) (x : Condition × List Token) → conj_at inner ts ≡ Some x → IsConj IsTested ts x.1 x.0
   unfolding conj_at
@@ -112,10 +103,7 @@ module _ (inner : Parser Condition) (h : Sound inner (IsCond IsTested)) where
   sound_conj = record { by = conj_sound }
 
   ors : IsChain (after (s.Word words.Or)) (conj_at inner) (IsOrs IsTested)
-  ors = record {
-    none = λ to. no_or;
-    more = λ ts to l x xs a e m. begins (IsOrs IsTested) (s.Word words.Or) ts l to (x.0 ∷ xs) a (or (conj_sound l x e) m);
-  }
+  ors = is_chain (s.Word words.Or) (conj_at inner) (IsConj IsTested) (IsOrs IsTested) sound_conj (λ to. no_or) (λ from mid to x xs a m. or a m)
 
   disj_sound : (ts : List Token) (x : Condition × List Token) → disj_at inner ts ≡ Some x → IsCond IsTested ts x.1 x.0
   disj_sound ts x e = made_sound (s.Word words.Or) (conj_at inner) (IsConj IsTested) (IsOrs IsTested) (IsCond IsTested) or_chain sound_conj ors (λ from mid to y ys a b. cond a b) ts x e

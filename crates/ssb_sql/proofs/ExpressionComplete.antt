@@ -24,7 +24,7 @@ use Rattle.ssb_sql.specs.Room.{HasRoom}
 use Rattle.ssb_sql.specs.Steps.{Parser, after, is_fixed, is_sign, chain_at, more_at, chained_at}
 use Rattle.ssb_sql.specs.ReadExpressions.{bare_primary_at, primary_at, adding_at, signed, factor_at, term_at, step_at, expr_at}
 use Rattle.ssb_sql.proofs.StepFacts.{Stops, stops, differs, sees}
-use Rattle.ssb_sql.proofs.Shapes.{turn_done, turn_goes, more_goes, closed_read}
+use Rattle.ssb_sql.proofs.Shapes.{turn_done, turn_goes, more_goes, parens_read, open_read}
 use Rattle.ssb_sql.proofs.PartFacts.{column_read}
 use Rattle.ssb_sql.proofs.ExpressionSound.{adding_mark, term_shorter, factor_shorter, term_within, factor_within}
 
@@ -88,14 +88,6 @@ bare_column_goes (dotted {to = to} {t = t} {n = n}) h = rw (column_read (dotted 
 bare_number_goes : (n : ℕ) (to : List Token) → bare_primary_at (Number n ∷ to) ≡ Some (e.Number n, to)
 unfolding bare_primary_at
 bare_number_goes n to = refl
-
-bare_goes : (p : Parser Expr) (ts to : List Token) (x : Expr) → Stops (s.Mark marks.Open) ts → bare_primary_at ts ≡ Some (x, to) → primary_at p ts ≡ Some (x, to)
-unfolding primary_at
-bare_goes p ts to x h q = rw h q
-
-parens_goes : (p : Parser Expr) (ts to : List Token) (x : Expr) → p ts ≡ Some (x, Fixed (s.Mark marks.Close) ∷ to) → primary_at p (Fixed (s.Mark marks.Open) ∷ ts) ≡ Some (x, to)
-unfolding primary_at
-parens_goes p ts to x q = rw (sees (s.Mark marks.Open) ts) (closed_read p ts to x q)
 
 adding_stops : (to : List Token) → Stops (s.Mark marks.Plus) to → Stops (s.Mark marks.Minus) to → adding_at to ≡ None
 unfolding adding_at
@@ -178,7 +170,7 @@ mutual
   factor_read (negative {from = from} {to = to} {x = x} f) d h n = signed_goes (expr_at d) a.Minus from to x (primary_read f d h n)
 
   pub primary_read : {from to : List Token} {x : Expr} → IsPrimary from to x → (d : ℕ) → HasRoom d from → Stops (s.Mark marks.Dot) to → primary_at (expr_at d) from ≡ Some (x, to)
-  primary_read (column {from = from} {to = to} {x = x} f) d h n = bare_goes (expr_at d) from to (e.Column x) (column_begins f (s.Mark marks.Open)) (bare_column_goes f n)
-  primary_read (number {to = to} {n = k}) d h n = bare_goes (expr_at d) (Number k ∷ to) to (e.Number k) (number_begins k to (s.Mark marks.Open)) (bare_number_goes k to)
+  primary_read (column {from = from} {to = to} {x = x} f) d h n = open_read (expr_at d) bare_primary_at from (Some (e.Column x, to)) (column_begins f (s.Mark marks.Open)) (bare_column_goes f n)
+  primary_read (number {to = to} {n = k}) d h n = open_read (expr_at d) bare_primary_at (Number k ∷ to) (Some (e.Number k, to)) (number_begins k to (s.Mark marks.Open)) (bare_number_goes k to)
   primary_read (parens f) zero h n = absurd h
-  primary_read (parens {from = from} {to = to} {x = x} f) (suc d) h n = parens_goes (expr_at (suc d)) from to x (expr_read f d h (close_ends to))
+  primary_read (parens {from = from} {to = to} {x = x} f) (suc d) h n = parens_read (expr_at (suc d)) bare_primary_at from to x (expr_read f d h (close_ends to))

@@ -22,7 +22,7 @@ use Rattle.ssb_sql.specs.Steps.{Parser, after, more_at, Shrinks}
 use Rattle.ssb_sql.specs.ReadParts.{column_at}
 use Rattle.ssb_sql.specs.ReadExpressions.{bare_primary_at, primary_at, adding_at, signed, factor_at, term_at, step_at, sum_at, expr_at}
 use Rattle.ssb_sql.proofs.StepFacts.{some_is, bind_some, choose_some, after_is}
-use Rattle.ssb_sql.proofs.Shapes.{Sound, Tame, IsChain, spells, starts, begins, sound_closed, made_sound, sound_more, shrinks}
+use Rattle.ssb_sql.proofs.Shapes.{Sound, Tame, IsChain, is_chain, spells, starts, sound_enclosed, made_sound, sound_more, shrinks}
 use Rattle.ssb_sql.proofs.PartFacts.{sound_column, tame_column}
 
 mutual
@@ -129,12 +129,7 @@ adding_nil = refl
 
 module _ (inner : Parser Expr) (h : Sound inner IsExpr) where
   primary_sound : (ts : List Token) (x : Expr × List Token) → primary_at inner ts ≡ Some x → IsPrimary ts x.1 x.0
-  unfolding primary_at
-  primary_sound ts x q =
-      elim (choose_some (after (s.Mark marks.Open) ts) _ _ (Some x) q) as (λ _. IsPrimary ts x.1 x.0) [
-        | inl g ↦ begins IsPrimary (s.Mark marks.Open) ts g.0 x.1 x.0 g.1 (parens (sound_closed inner IsExpr h g.0 x g.2))
-        | inr g ↦ bare_primary_sound ts x g.1
-      ]
+  primary_sound ts x q = sound_enclosed inner bare_primary_at IsExpr IsPrimary h bare_primary_sound (λ from to y a. parens a) ts x q
 
   factor_sound : (ts : List Token) (x : Expr × List Token) → factor_at inner ts ≡ Some x → IsFactor ts x.1 x.0
   unfolding factor_at
@@ -151,10 +146,7 @@ module _ (inner : Parser Expr) (h : Sound inner IsExpr) where
   sound_factor = record { by = factor_sound }
 
   factors : IsChain (after (s.Mark marks.Times)) (factor_at inner) IsFactors
-  factors = record {
-    none = λ to. no_factor;
-    more = λ ts to l x xs a q m. begins IsFactors (s.Mark marks.Times) ts l to (x.0 ∷ xs) a (times (factor_sound l x q) m);
-  }
+  factors = is_chain (s.Mark marks.Times) (factor_at inner) IsFactor IsFactors sound_factor (λ to. no_factor) (λ from mid to x xs a m. times a m)
 
   term_sound : (ts : List Token) (x : Expr × List Token) → term_at inner ts ≡ Some x → IsTerm ts x.1 x.0
   unfolding term_at

@@ -1,7 +1,8 @@
 -- Items of the select list and keys of ORDER BY are read exactly.
-use Rattle.std.proofs.Common.{◌≡◌, ℕ, zero, suc, ◌<◌, true, false, List, ◌∷◌, length, Option, Some, None, sym, ap, subst, ◌∙◌, arith, inl, inr}
+use Rattle.std.proofs.Common.{◌≡◌, ℕ, zero, suc, true, false, List, ◌∷◌, Option, Some, None, sym, ap, subst, ◌∙◌, arith, inl, inr}
 use Rattle.ssb_sql.specs.declared.token.Token.{Token}
 use Rattle.ssb_sql.specs.declared.token.Token.TheVariants.{Fixed, Name, Number}
+use Rattle.ssb_cells.specs.declared.keyword.Keyword.{Keyword}
 use Rattle.ssb_cells.specs.declared.keyword.Keyword.TheVariants as words
 use Rattle.ssb_sql.specs.declared.token.Mark.TheVariants as marks
 use Rattle.ssb_sql.specs.declared.token.Sign.TheVariants as s
@@ -11,6 +12,7 @@ use Rattle.ssb_sql.specs.declared.select.Item.{Item}
 use Rattle.ssb_sql.specs.declared.select.Key.{Key}
 use Rattle.ssb_sql.specs.declared.select.Key.TheVariants as k
 use Rattle.ssb_sql.specs.declared.select.Order.{Order}
+use Rattle.ssb_sql.specs.Forms.{IsColumn}
 use Rattle.ssb_sql.specs.Expressions.{IsExpr}
 use Rattle.ssb_sql.specs.Grammar.{IsOutput, IsItem, IsKey, IsOrder}
 use Rattle.ssb_sql.specs.Room.{HasRoom}
@@ -23,7 +25,7 @@ use Rattle.ssb_sql.specs.ReadParts.{column_at}
 use Rattle.ssb_sql.specs.ReadExpressions.{expr_at}
 use Rattle.ssb_sql.specs.ReadSelects.{count_at, output_at, item_of, alias_at, item_at, key_at, order_of, order_at}
 use Rattle.ssb_sql.proofs.StepFacts.{some_is, bind_some, choose_some, after_is, two_are}
-use Rattle.ssb_sql.proofs.Shapes.{Sound, Tame, spells, starts, followed, sound_closed, shrinks}
+use Rattle.ssb_sql.proofs.Shapes.{Sound, Tame, Went, went, tame, spells, starts, followed, sound_closed, shrinks}
 use Rattle.ssb_sql.proofs.PartFacts.{name_is, sound_column, tame_column}
 use Rattle.ssb_sql.proofs.ExpressionSound.{sound_expr, tame_expr}
 
@@ -106,52 +108,44 @@ order_sound ts x e =
 pub sound_order : Sound order_at IsOrder
 sound_order = record { by = order_sound }
 
-output_shorter : {from to : List Token} {x : Output} → IsOutput from to x → length to < length from
-output_shorter (column a) = tame_column.shorter a
-output_shorter (sum a) = let p = tame_expr.shorter a in omega arith
-output_shorter count_rows = omega arith
-output_shorter (count a) = let p = tame_expr.shorter a in omega arith
+-- a word, and what stands in the parentheses behind it
+parens_went : (k : Keyword) (from to : List Token) → Went from (Fixed (s.Mark marks.Close) ∷ to) → Went (Fixed (s.Word k) ∷ Fixed (s.Mark marks.Open) ∷ from) to
+parens_went k from to p = record { shorter = let q = p.shorter in omega arith; within = λ d h. inside d h }
+  where
+    inside : (d : ℕ) → HasRoom d (Fixed (s.Word k) ∷ Fixed (s.Mark marks.Open) ∷ from) → HasRoom d to
+    inside zero h = absurd h
+    inside (suc d) h = p.within d h
 
-output_within : {from to : List Token} {x : Output} → IsOutput from to x → (d : ℕ) → HasRoom d from → HasRoom d to
-output_within (column a) d h = tame_column.within a d h
-output_within (sum a) zero h = absurd h
-output_within (sum a) (suc d) h = tame_expr.within a d h
-output_within count_rows zero h = absurd h
-output_within count_rows (suc d) h = h
-output_within (count a) zero h = absurd h
-output_within (count a) (suc d) h = tame_expr.within a d h
+output_went : {from to : List Token} {x : Output} → IsOutput from to x → Went from to
+output_went (column a) = went IsColumn tame_column a
+output_went (sum {from = from} {to = to} a) = parens_went words.Sum from to (went IsExpr tame_expr a)
+output_went (count_rows {to = to}) = parens_went words.Count (Fixed (s.Mark marks.Times) ∷ Fixed (s.Mark marks.Close) ∷ to) to (record { shorter = omega arith; within = λ d h. h })
+output_went (count {from = from} {to = to} a) = parens_went words.Count from to (went IsExpr tame_expr a)
 
-item_shorter : {from to : List Token} {x : Item} → IsItem from to x → length to < length from
-item_shorter (unnamed a) = output_shorter a
-item_shorter (named a) = let p = output_shorter a in omega arith
-
-item_within : {from to : List Token} {x : Item} → IsItem from to x → (d : ℕ) → HasRoom d from → HasRoom d to
-item_within (unnamed a) d h = output_within a d h
-item_within (named a) d h = output_within a d h
+item_went : {from to : List Token} {x : Item} → IsItem from to x → Went from to
+item_went (unnamed a) = output_went a
+item_went (named a) =
+    let p = output_went a in
+    record { shorter = let q = p.shorter in omega arith; within = λ d h. p.within d h }
 
 pub tame_item : Tame IsItem
-tame_item = record { shorter = λ h. item_shorter h; within = λ h d w. item_within h d w }
+tame_item = tame IsItem (λ from to x h. item_went h)
 
-key_shorter : {from to : List Token} {x : Key} → IsKey from to x → length to < length from
-key_shorter name = omega arith
-key_shorter position = omega arith
+key_went : {from to : List Token} {x : Key} → IsKey from to x → Went from to
+key_went name = record { shorter = omega arith; within = λ d h. h }
+key_went position = record { shorter = omega arith; within = λ d h. h }
 
-key_within : {from to : List Token} {x : Key} → IsKey from to x → (d : ℕ) → HasRoom d from → HasRoom d to
-key_within name d h = h
-key_within position d h = h
+-- one more word behind
+word_went : (k : Keyword) (from to : List Token) → Went from (Fixed (s.Word k) ∷ to) → Went from to
+word_went k from to p = record { shorter = let q = p.shorter in omega arith; within = λ d h. p.within d h }
 
-order_shorter : {from to : List Token} {x : Order} → IsOrder from to x → length to < length from
-order_shorter (plain a) = key_shorter a
-order_shorter (asc a) = let p = key_shorter a in omega arith
-order_shorter (desc a) = let p = key_shorter a in omega arith
-
-order_within : {from to : List Token} {x : Order} → IsOrder from to x → (d : ℕ) → HasRoom d from → HasRoom d to
-order_within (plain a) d h = key_within a d h
-order_within (asc a) d h = key_within a d h
-order_within (desc a) d h = key_within a d h
+order_went : {from to : List Token} {x : Order} → IsOrder from to x → Went from to
+order_went (plain a) = key_went a
+order_went (asc {from = from} {to = to} a) = word_went words.Asc from to (key_went a)
+order_went (desc {from = from} {to = to} a) = word_went words.Desc from to (key_went a)
 
 pub tame_order : Tame IsOrder
-tame_order = record { shorter = λ h. order_shorter h; within = λ h d w. order_within h d w }
+tame_order = tame IsOrder (λ from to x h. order_went h)
 
 pub item_shrinks : (d : ℕ) → Shrinks (after (s.Mark marks.Comma)) (item_at d)
 item_shrinks d = shrinks (s.Mark marks.Comma) (item_at d) IsItem (sound_item d) tame_item

@@ -1,5 +1,5 @@
 -- Columns, literals and operands are read exactly.
-use Rattle.std.proofs.Common.{◌≡◌, ℕ, ◌<◌, ◌≤◌, true, false, List, ◌∷◌, length, Some, None, refl, sym, ap, subst, ◌∙◌, arith, inl, inr, pos, ℤ}
+use Rattle.std.proofs.Common.{◌≡◌, ℕ, ◌≤◌, true, false, List, ◌∷◌, Some, None, refl, sym, ap, subst, ◌∙◌, arith, inl, inr, pos, ℤ}
 use Rattle.std.specs.Prelude.{nat_le, neg_ℤ}
 use Rattle.std.proofs.lemmas.Bool.{leb-true, le-leb}
 use Rattle.ssb_sql.specs.declared.token.Token.{Token}
@@ -16,11 +16,10 @@ use Rattle.ssb_sql.specs.Forms.IsNamed.{name}
 use Rattle.ssb_sql.specs.Forms.IsColumn.{alone, dotted}
 use Rattle.ssb_sql.specs.Forms.IsLiteral.{number, positive, negative, text}
 use Rattle.ssb_sql.specs.Forms.IsOperand.{column, literal}
-use Rattle.ssb_sql.specs.Room.{HasRoom}
 use Rattle.ssb_sql.specs.Steps.{after, is_fixed, name_at, number_at, is_name_next, Shrinks}
 use Rattle.ssb_sql.specs.ReadParts.{column_of, column_at, small_at, below_at, plain_literal_at, literal_at, operand_at}
 use Rattle.ssb_sql.proofs.StepFacts.{some_is, bind_some, choose_some, if_some, after_is, Stops, stops, differs, sees}
-use Rattle.ssb_sql.proofs.Shapes.{Sound, Tame, spells, starts, shrinks}
+use Rattle.ssb_sql.proofs.Shapes.{Sound, Tame, Went, tame, spells, starts, shrinks}
 
 pub name_is : (ts : List Token) (x : List ℕ × List Token) → name_at ts ≡ Some x → ts ≡ Name x.0 ∷ x.1
 unfolding name_at
@@ -120,51 +119,34 @@ operand_sound ts x e =
 pub sound_operand : Sound operand_at IsOperand
 sound_operand = record { by = operand_sound }
 
-name_shorter : {from to : List Token} {x : List ℕ} → IsNamed from to x → length to < length from
-name_shorter name = omega arith
-
-name_within : {from to : List Token} {x : List ℕ} → IsNamed from to x → (d : ℕ) → HasRoom d from → HasRoom d to
-name_within name d h = h
-
 pub tame_name : Tame IsNamed
-tame_name = record { shorter = λ h. name_shorter h; within = λ h d w. name_within h d w }
+tame_name = tame IsNamed (λ from to x h. name_went h)
+  where
+    name_went : {from to : List Token} {x : List ℕ} → IsNamed from to x → Went from to
+    name_went name = record { shorter = omega arith; within = λ d h. h }
 
-column_shorter : {from to : List Token} {x : ColumnName} → IsColumn from to x → length to < length from
-column_shorter alone = omega arith
-column_shorter dotted = omega arith
-
-column_within : {from to : List Token} {x : ColumnName} → IsColumn from to x → (d : ℕ) → HasRoom d from → HasRoom d to
-column_within alone d h = h
-column_within dotted d h = h
+column_went : {from to : List Token} {x : ColumnName} → IsColumn from to x → Went from to
+column_went alone = record { shorter = omega arith; within = λ d h. h }
+column_went dotted = record { shorter = omega arith; within = λ d h. h }
 
 pub tame_column : Tame IsColumn
-tame_column = record { shorter = λ h. column_shorter h; within = λ h d w. column_within h d w }
+tame_column = tame IsColumn (λ from to x h. column_went h)
 
-literal_shorter : {from to : List Token} {x : Literal} → IsLiteral from to x → length to < length from
-literal_shorter (number a) = omega arith
-literal_shorter (positive a) = omega arith
-literal_shorter (negative a) = omega arith
-literal_shorter text = omega arith
-
-literal_within : {from to : List Token} {x : Literal} → IsLiteral from to x → (d : ℕ) → HasRoom d from → HasRoom d to
-literal_within (number a) d h = h
-literal_within (positive a) d h = h
-literal_within (negative a) d h = h
-literal_within text d h = h
+literal_went : {from to : List Token} {x : Literal} → IsLiteral from to x → Went from to
+literal_went (number a) = record { shorter = omega arith; within = λ d h. h }
+literal_went (positive a) = record { shorter = omega arith; within = λ d h. h }
+literal_went (negative a) = record { shorter = omega arith; within = λ d h. h }
+literal_went text = record { shorter = omega arith; within = λ d h. h }
 
 pub tame_literal : Tame IsLiteral
-tame_literal = record { shorter = λ h. literal_shorter h; within = λ h d w. literal_within h d w }
+tame_literal = tame IsLiteral (λ from to x h. literal_went h)
 
-operand_shorter : {from to : List Token} {x : Operand} → IsOperand from to x → length to < length from
-operand_shorter (column a) = column_shorter a
-operand_shorter (literal a) = literal_shorter a
-
-operand_within : {from to : List Token} {x : Operand} → IsOperand from to x → (d : ℕ) → HasRoom d from → HasRoom d to
-operand_within (column a) d h = column_within a d h
-operand_within (literal a) d h = literal_within a d h
+operand_went : {from to : List Token} {x : Operand} → IsOperand from to x → Went from to
+operand_went (column a) = column_went a
+operand_went (literal a) = literal_went a
 
 pub tame_operand : Tame IsOperand
-tame_operand = record { shorter = λ h. operand_shorter h; within = λ h d w. operand_within h d w }
+tame_operand = tame IsOperand (λ from to x h. operand_went h)
 
 pub name_shrinks : Shrinks (after (s.Mark marks.Comma)) name_at
 name_shrinks = shrinks (s.Mark marks.Comma) name_at IsNamed sound_name tame_name

@@ -1,5 +1,5 @@
 -- What readers and relations share: sound, shorter, and chains.
-use Rattle.std.proofs.Common.{◌≡◌, ℕ, zero, suc, ◌<◌, ◌≤◌, List, [], ◌∷◌, ◌++◌, length, Option, Some, None, refl, sym, ap, subst, ◌∙◌, arith}
+use Rattle.std.proofs.Common.{◌≡◌, ℕ, zero, suc, ◌<◌, ◌≤◌, List, [], ◌∷◌, ◌++◌, length, Option, Some, None, refl, sym, ap, subst, ◌∙◌, arith, inl, inr}
 use Rattle.ssb_sql.specs.declared.token.Token.{Token}
 use Rattle.ssb_sql.specs.declared.token.Token.TheVariants.{Fixed}
 use Rattle.ssb_sql.specs.declared.token.Sign.{Sign}
@@ -10,8 +10,8 @@ use Rattle.ssb_sql.specs.Forms.IsMore.{no_more, comma}
 use Rattle.ssb_sql.specs.Forms.IsList.{list}
 use Rattle.ssb_sql.specs.Room.{HasRoom}
 use Rattle.ssb_sql.specs.Reading.{◌>>=◌}
-use Rattle.ssb_sql.specs.Steps.{Parser, after, turn_at, chain_at, with_front, more_at, chained_at, list_at, closed_at, Shrinks}
-use Rattle.ssb_sql.proofs.StepFacts.{some_is, bind_some, after_is, after_shorter, Stops, sees}
+use Rattle.ssb_sql.specs.Steps.{Parser, after, turn_at, chain_at, with_front, more_at, chained_at, list_at, closed_at, enclosed_at, Shrinks}
+use Rattle.ssb_sql.proofs.StepFacts.{some_is, bind_some, choose_some, after_is, after_shorter, Stops, sees}
 
 -- what p reads is in R
 pub record Sound {A : Type 0} (p : Parser A) (R : Spelling A) : Type 0 where
@@ -21,6 +21,17 @@ pub record Sound {A : Type 0} (p : Parser A) (R : Spelling A) : Type 0 where
 pub record Tame {A : Type 0} (R : Spelling A) : Type 0 where
   pub shorter : {from to : List Token} {x : A} → R from to x → length to < length from
   pub within : {from to : List Token} {x : A} → R from to x → (d : ℕ) → HasRoom d from → HasRoom d to
+
+-- some tokens went by, and the open parentheses are as they were
+pub record Went (from to : List Token) : Type 0 where
+  pub shorter : length to < length from
+  pub within : (d : ℕ) → HasRoom d from → HasRoom d to
+
+pub went : {A : Type 0} (R : Spelling A) → Tame R → {from to : List Token} {x : A} → R from to x → Went from to
+went R t h = record { shorter = t.shorter h; within = λ d w. t.within h d w }
+
+pub tame : {A : Type 0} (R : Spelling A) → ((from to : List Token) (x : A) → R from to x → Went from to) → Tame R
+tame R f = record { shorter = λ h. (f _ _ _ h).shorter; within = λ h d w. (f _ _ _ h).within d w }
 
 -- p reads what R spells, where F holds of what follows
 pub record Complete {A : Type 0} (p : Parser A) (R : Spelling A) (d : ℕ) (F : List Token → Type 0) : Type 0 where
@@ -61,10 +72,36 @@ pub closed_read : {A : Type 0} (p : Parser A) (ts to : List Token) (x : A) → p
 unfolding closed_at
 closed_read p ts to x e = rw (e, sees (s.Mark marks.Close) to) refl
 
+-- what is read in parentheses, and what is read without them
+pub sound_enclosed : {A : Type 0} (p bare : Parser A) (R Q : Spelling A) → Sound p R → ((ts : List Token) (x : A × List Token) → bare ts ≡ Some x → Q ts x.1 x.0)
+    → ((from to : List Token) (x : A) → R from (Fixed (s.Mark marks.Close) ∷ to) x → Q (Fixed (s.Mark marks.Open) ∷ from) to x)
+    → (ts : List Token) (x : A × List Token) → enclosed_at p bare ts ≡ Some x → Q ts x.1 x.0
+unfolding enclosed_at
+sound_enclosed p bare R Q h plain parens ts x e =
+    elim (choose_some (after (s.Mark marks.Open) ts) _ _ (Some x) e) as (λ _. Q ts x.1 x.0) [
+      | inl g ↦ begins Q (s.Mark marks.Open) ts g.0 x.1 x.0 g.1 (parens g.0 x.1 x.0 (sound_closed p R h g.0 x g.2))
+      | inr g ↦ plain ts x g.1
+    ]
+
+pub parens_read : {A : Type 0} (p bare : Parser A) (ts to : List Token) (x : A) → p ts ≡ Some (x, Fixed (s.Mark marks.Close) ∷ to) → enclosed_at p bare (Fixed (s.Mark marks.Open) ∷ ts) ≡ Some (x, to)
+unfolding enclosed_at
+parens_read p bare ts to x e = rw (sees (s.Mark marks.Open) ts) (closed_read p ts to x e)
+
+pub open_read : {A : Type 0} (p bare : Parser A) (ts : List Token) (r : Option (A × List Token)) → Stops (s.Mark marks.Open) ts → bare ts ≡ r → enclosed_at p bare ts ≡ r
+unfolding enclosed_at
+open_read p bare ts r h e = rw h e
+
 -- a chain is none or more pieces
 pub record IsChain {A L : Type 0} (link : List Token → Option L) (piece : L → Option (A × List Token)) (S : List Token → List Token → List A → Type 0) : Type 0 where
   pub none : (to : List Token) → S to to []
   pub more : (ts to : List Token) (l : L) (x : A × List Token) (xs : List A) → link ts ≡ Some l → piece l ≡ Some x → S x.1 to xs → S ts to (x.0 ∷ xs)
+
+pub is_chain : {A : Type 0} (sign : Sign) (p : Parser A) (R : Spelling A) (S : Spelling (List A)) → Sound p R → ((to : List Token) → S to to [])
+    → ((from mid to : List Token) (x : A) (xs : List A) → R from mid x → S mid to xs → S (Fixed sign ∷ from) to (x ∷ xs)) → IsChain (after sign) p S
+is_chain sign p R S h none more = record {
+  none = none;
+  more = λ ts to l x xs a e m. begins S sign ts l to (x.0 ∷ xs) a (more l x.1 to x.0 xs (h.by l x e) m);
+}
 
 module _ {A L : Type 0} (link : List Token → Option L) (piece : L → Option (A × List Token)) (S : List Token → List Token → List A → Type 0) (chain : IsChain link piece S) where
   sound_turn : (n : ℕ) (ts : List Token) (xs : List A × List Token) (o : Option L) → link ts ≡ o
@@ -116,10 +153,7 @@ made_sound sign p R S Q make h chain build ts y e =
 
 module _ {A : Type 0} (p : Parser A) (R : Spelling A) (h : Sound p R) where
   commas : IsChain (after (s.Mark marks.Comma)) p (IsMore R)
-  commas = record {
-    none = λ to. no_more;
-    more = λ ts to l x xs a e m. begins (IsMore R) (s.Mark marks.Comma) ts l to (x.0 ∷ xs) a (comma (h.by l x e) m);
-  }
+  commas = is_chain (s.Mark marks.Comma) p R (IsMore R) h (λ to. no_more) (λ from mid to x xs a m. comma a m)
 
   pub sound_list : Sound (list_at p) (IsList R)
   sound_list = record {

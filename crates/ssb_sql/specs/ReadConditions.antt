@@ -15,7 +15,7 @@ use Rattle.ssb_sql.specs.declared.condition.Operand.TheVariants as o
 use Rattle.ssb_sql.specs.declared.condition.Condition.{Condition}
 use Rattle.ssb_sql.specs.declared.condition.Condition.TheVariants as c
 use Rattle.ssb_sql.specs.Reading.{◌>>=◌}
-use Rattle.ssb_sql.specs.Steps.{Parser, choose, after, chained_at, list_at, closed_at, parens_at}
+use Rattle.ssb_sql.specs.Steps.{Parser, choose, after, chained_at, list_at, enclosed_at, parens_at}
 use Rattle.ssb_sql.specs.ReadParts.{literal_at, operand_at}
 use Rattle.ssb_sql.specs.Conditions.{or_chain, and_chain}
 
@@ -89,8 +89,8 @@ tail_at x ts =
 unfoldable pub bare_at : Parser Condition
 bare_at ts = operand_at ts >>= λ x. tail_at x.0 x.1
 
-unfoldable pub test_at : Parser Condition → Parser Condition
-test_at inner ts = choose (after (s.Mark marks.Open) ts) (closed_at inner) (bare_at ts)
+abbrev pub test_at : Parser Condition → Parser Condition
+test_at inner = enclosed_at inner bare_at
 
 unfoldable pub neg_at : Parser Condition → Parser Condition
 neg_at inner ts = choose (after (s.Word words.Not) ts) (λ rest. test_at inner rest >>= λ x. Some (c.Not x.0, x.1)) (test_at inner ts)

@@ -11,7 +11,7 @@ use Rattle.ssb_sql.specs.declared.expr.Step.{Step}
 use Rattle.ssb_sql.specs.declared.expr.Expr.{Expr}
 use Rattle.ssb_sql.specs.declared.expr.Expr.TheVariants as e
 use Rattle.ssb_sql.specs.Reading.{◌>>=◌}
-use Rattle.ssb_sql.specs.Steps.{Parser, choose, after, more_at, chained_at, closed_at}
+use Rattle.ssb_sql.specs.Steps.{Parser, choose, after, more_at, chained_at, enclosed_at}
 use Rattle.ssb_sql.specs.ReadParts.{column_at}
 use Rattle.ssb_sql.specs.Expressions.{sum_of, times_of}
 
@@ -19,8 +19,8 @@ unfoldable pub bare_primary_at : Parser Expr
 bare_primary_at (Number n ∷ ts) = Some (e.Number n, ts)
 bare_primary_at ts = column_at ts >>= λ x. Some (e.Column x.0, x.1)
 
-unfoldable pub primary_at : Parser Expr → Parser Expr
-primary_at inner ts = choose (after (s.Mark marks.Open) ts) (closed_at inner) (bare_primary_at ts)
+abbrev pub primary_at : Parser Expr → Parser Expr
+primary_at inner = enclosed_at inner bare_primary_at
 
 -- `+` or `-`, and what follows
 unfoldable pub adding_at : List Token → Option (Adding × List Token)

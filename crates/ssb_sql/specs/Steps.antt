@@ -104,6 +104,10 @@ followed_at x sign ts = after sign ts >>= λ to. Some (x, to)
 unfoldable pub closed_at : {A : Type 0} → Parser A → Parser A
 closed_at p ts = p ts >>= λ x. followed_at x.0 (s.Mark marks.Close) x.1
 
+-- "(" p ")", or what stands without parentheses
+unfoldable pub enclosed_at : {A : Type 0} → Parser A → Parser A → Parser A
+enclosed_at p bare ts = choose (after (s.Mark marks.Open) ts) (closed_at p) (bare ts)
+
 -- "(" p ")"
 unfoldable pub parens_at : {A : Type 0} → Parser A → Parser A
 parens_at p ts = after (s.Mark marks.Open) ts >>= λ inside. closed_at p inside

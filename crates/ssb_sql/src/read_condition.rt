@@ -40,7 +40,7 @@ fn and_chain(mut all: Items<Condition>) -> Condition
 }
 
 #[cycle(condition)]
-#[tactic(auto, unfolding(crate::specs::ReadConditions::test_at, crate::specs::Steps::closed_at))]
+#[tactic(auto, unfolding(crate::specs::Steps::enclosed_at, crate::specs::Steps::closed_at))]
 fn test(alloc: Global, depth: usize, tokens: &[Token]) -> Result<(Condition, &[Token]), Stop>
     ensures { Gives seen result (test_at (cond_at depth) tokens.now) }
 {

@@ -74,7 +74,7 @@ fn signed(alloc: Global, sign: Adding, found: Expr) -> Result<Expr, AllocError>
 }
 
 #[cycle(expression)]
-#[tactic(auto, unfolding(crate::specs::ReadExpressions::primary_at, crate::specs::Steps::closed_at))]
+#[tactic(auto, unfolding(crate::specs::Steps::enclosed_at, crate::specs::Steps::closed_at))]
 fn primary(alloc: Global, depth: usize, tokens: &[Token]) -> Result<(Expr, &[Token]), Stop>
     ensures { Gives seen result (primary_at (expr_at depth) tokens.now) }
 {

@@ -27,14 +27,6 @@ fn closed(alloc: Global, depth: usize, tokens: &[Token]) -> Result<(Expr, &[Toke
     closing(found, rest)
 }
 
-#[tactic(auto, unfolding(crate::specs::Steps::parens_at))]
-fn in_parens(alloc: Global, depth: usize, tokens: &[Token]) -> Result<(Expr, &[Token]), Stop>
-    ensures { Gives seen result (parens_at (expr_at depth) tokens.now) }
-{
-    let inside = expect(tokens, Sign::Mark(Mark::Open))?;
-    closed(alloc, depth, inside)
-}
-
 // What follows COUNT and its `(`.
 #[tactic(auto, unfolding(crate::specs::ReadSelects::count_at))]
 fn count(alloc: Global, depth: usize, tokens: &[Token]) -> Result<(Output, &[Token]), Stop>
@@ -45,27 +37,23 @@ fn count(alloc: Global, depth: usize, tokens: &[Token]) -> Result<(Output, &[Tok
             let rest = expect(rest, Sign::Mark(Mark::Close))?;
             Ok((Output::CountRows, rest))
         }
-        None => {
-            let (found, rest) = closed(alloc, depth, tokens)?;
-            Ok((Output::Count(found), rest))
-        }
+        None => { closed(alloc, depth, tokens).map(|(found, rest)| (Output::Count(found), rest)) }
     }
 }
 
-#[tactic(auto, unfolding(crate::specs::ReadSelects::output_at))]
+#[tactic(auto, unfolding(crate::specs::ReadSelects::output_at, crate::specs::Steps::parens_at))]
 fn output(alloc: Global, depth: usize, tokens: &[Token]) -> Result<(Output, &[Token]), Stop>
     ensures { Gives seen result (output_at depth tokens.now) }
 {
     if let Some(rest) = after(tokens, Sign::Word(Keyword::Sum)) {
-        let (found, rest) = in_parens(alloc, depth, rest)?;
-        return Ok((Output::Sum(found), rest));
+        let inside = expect(rest, Sign::Mark(Mark::Open))?;
+        return closed(alloc, depth, inside).map(|(found, rest)| (Output::Sum(found), rest));
     }
     if let Some(rest) = after(tokens, Sign::Word(Keyword::Count)) {
         let inside = expect(rest, Sign::Mark(Mark::Open))?;
         return count(alloc, depth, inside);
     }
-    let (found, rest) = column(alloc, tokens)?;
-    Ok((Output::Column(found), rest))
+    column(alloc, tokens).map(|(found, rest)| (Output::Column(found), rest))
 }
 
 #[tactic(auto, unfolding(crate::specs::ReadSelects::alias_at))]

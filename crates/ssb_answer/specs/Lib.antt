@@ -1,8 +1,10 @@
 pub mod Asking
 pub mod Entries
+pub mod FaultLine
 pub mod Order
 pub mod Reply
 pub mod Result
+pub mod Running
 pub mod Settled
 pub mod Taking
 pub mod Text

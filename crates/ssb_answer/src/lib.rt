@@ -5,6 +5,7 @@
 pub mod answer;
 mod bytes;
 pub mod fault;
+pub mod fault_line;
 mod grouping;
 mod law;
 mod order;
@@ -23,6 +24,7 @@ pub mod writer;
 pub use answer::{Answer, AnswerRow};
 pub use bytes::answer_bytes;
 pub use fault::AnswerFault;
+pub use fault_line::{MEMORY_LINE, load_line, run_line, words_line};
 pub use grouping::group_all;
 pub use law::one_reply;
 pub use order::one_order;

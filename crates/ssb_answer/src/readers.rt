@@ -1,9 +1,9 @@
 // The whole path over readers of std.
 
-ghost use Rattle.std.specs.Prelude.{◌≡◌, ◌<◌, [], IfErr, IfOk, List, OnOk, Some, length, map, vec_len};
+ghost use Rattle.std.specs.Prelude.{◌≡◌, [], IfOk, List, Some, length, map, vec_len};
 ghost use Rattle.ssb_load.specs.Files.{Bytes};
-ghost use Rattle.ssb_answer.specs.Reply.{IsSilentBut, Replies};
-ghost use Rattle.ssb_answer.specs.Taking.{GrewAlike};
+ghost use Rattle.ssb_answer.specs.Reply.{Replies};
+ghost use Rattle.ssb_answer.specs.Running.{LeavesSink};
 
 use crate::run_fault::RunFault;
 use crate::sink::Sink;
@@ -40,9 +40,7 @@ pub fn run_plain<R: Read + Drop, W: Sink>(
     requires { vec_len readers ≡ length catalog }
     ensures replies { (files : List Bytes) → map R.remaining readers.items ≡ map Some files → Replies catalog files text.now result (W.taken out.old) (W.taken out.new) }
     ensures right { (files : List Bytes) × Replies catalog files text.now result (W.taken out.old) (W.taken out.new) }
-    ensures silent { IfErr result (IsSilentBut (W.failures out.old < W.failures out.new) (W.taken out.new ≡ W.taken out.old)) }
-    ensures clean { OnOk result (W.failures out.new ≡ W.failures out.old) }
-    ensures holds { GrewAlike (W.taken out.old) (W.taken out.new) (W.contents out.old) (W.contents out.new) }
+    ensures sink { LeavesSink result (W.taken out.old) (W.taken out.new) (W.failures out.old) (W.failures out.new) (W.contents out.old) (W.contents out.new) }
 {
     let Ok(mut sources) = sources_of(alloc, readers) else {
         return Err(RunFault::Memory);

@@ -1,13 +1,14 @@
 // The whole path, from the bytes of files to the bytes of the answer.
 
-ghost use Rattle.std.specs.Prelude.{◌≡◌, ◌<◌, IfErr, List, OnOk, Some, length, map};
+ghost use Rattle.std.specs.Prelude.{◌≡◌, length};
 ghost use Rattle.ssb_load.specs.Catalog.{IsCatalog};
 ghost use Rattle.ssb_bind.specs.Star.{IsStar};
 ghost use Rattle.ssb_answer.specs.Asking.{Asked, AnswersText};
-ghost use Rattle.ssb_load.specs.Files.{AreLawful, Bytes, FailedAt, GrewEach, RoseEach, given_each};
-ghost use Rattle.ssb_answer.specs.Reply.{IfLoaded, IfReadOf, IsSilentBut, Replies, seen_rows};
+ghost use Rattle.ssb_job.specs.Loaded.{AreLoaded};
+ghost use Rattle.ssb_load.specs.Files.{AreLawful};
+ghost use Rattle.ssb_answer.specs.Reply.{seen_rows};
 ghost use Rattle.ssb_answer.specs.Result.{Answers};
-ghost use Rattle.ssb_answer.specs.Taking.{GrewAlike};
+ghost use Rattle.ssb_answer.specs.Running.{LeavesSink, RunsFrom};
 
 use crate::answer::Answer;
 use crate::fault::AnswerFault;
@@ -53,6 +54,20 @@ fn answer_job(alloc: Global, job: &Job) -> Result<Answer, AnswerFault>
     rows(alloc, groups, query)
 }
 
+// What a query answers over these tables.
+fn answer_query(alloc: Global, query: Query, tables: Vec<Table>) -> Result<Answer, AnswerFault>
+    requires { AreLoaded query.tables tables.items }
+    ensures { Answers query (seen_rows (record { query = query; tables = tables.items })) result }
+{
+    let Ok(job) = Job::build(alloc, query, tables) else {
+        return Err(AnswerFault::Memory);
+    };
+    let answer = answer_job(alloc, &job);
+    // By a call, since the prover writes out all that a job holds where a scope's end lets go of it.
+    drop(job);
+    answer
+}
+
 // What a text asks of these tables.
 #[tactic(auto, using(crate::proofs::Asking::unasked, crate::proofs::Asking::answered, crate::proofs::Asking::refused, crate::proofs::Asking::fits))]
 fn answer_text(
@@ -66,8 +81,7 @@ fn answer_text(
     ensures { AnswersText catalog.now tables.items text.now result }
 {
     let query = query_of(alloc, catalog, text)?;
-    let job = Job::build(alloc, query, tables)?;
-    let answer = answer_job(alloc, &job)?;
+    let answer = answer_query(alloc, query, tables)?;
     Ok(answer)
 }
 
@@ -89,14 +103,8 @@ pub fn run_from<S: Source, W: Sink>(
     out: &mut W,
 ) -> Result<(), RunFault>
     requires { length sources.old ≡ length catalog }
-    ensures grows { GrewEach (map S.given sources.old) (map S.given sources.new) }
-    ensures replies { Replies catalog (given_each (map S.given sources.old) (map S.given sources.new)) text.now result (W.taken out.old) (W.taken out.new) }
-    ensures ended { IfLoaded result (RoseEach (map S.ends sources.old) (map S.ends sources.new)) }
-    ensures failed { IfErr result (λ e. IfReadOf e (FailedAt catalog (given_each (map S.given sources.old) (map S.given sources.new)) (map S.failures sources.old) (map S.failures sources.new))) }
-    ensures told { (files : List Bytes) → map S.whole sources.old ≡ map Some files → Replies catalog (given_each (map S.given sources.old) files) text.now result (W.taken out.old) (W.taken out.new) }
-    ensures silent { IfErr result (IsSilentBut (W.failures out.old < W.failures out.new) (W.taken out.new ≡ W.taken out.old)) }
-    ensures clean { OnOk result (W.failures out.new ≡ W.failures out.old) }
-    ensures holds { GrewAlike (W.taken out.old) (W.taken out.new) (W.contents out.old) (W.contents out.new) }
+    ensures runs { RunsFrom S.given S.failures S.ends S.whole catalog text.now sources.old sources.new result (W.taken out.old) (W.taken out.new) }
+    ensures sink { LeavesSink result (W.taken out.old) (W.taken out.new) (W.failures out.old) (W.failures out.new) (W.contents out.old) (W.contents out.new) }
 {
     run_in_pieces(alloc, catalog, sources, text, out, PIECE_SIZE)
 }
@@ -116,14 +124,8 @@ pub fn run_in_pieces<S: Source, W: Sink>(
     piece_size: usize,
 ) -> Result<(), RunFault>
     requires { length sources.old ≡ length catalog }
-    ensures grows { GrewEach (map S.given sources.old) (map S.given sources.new) }
-    ensures replies { Replies catalog (given_each (map S.given sources.old) (map S.given sources.new)) text.now result (W.taken out.old) (W.taken out.new) }
-    ensures ended { IfLoaded result (RoseEach (map S.ends sources.old) (map S.ends sources.new)) }
-    ensures failed { IfErr result (λ e. IfReadOf e (FailedAt catalog (given_each (map S.given sources.old) (map S.given sources.new)) (map S.failures sources.old) (map S.failures sources.new))) }
-    ensures told { (files : List Bytes) → map S.whole sources.old ≡ map Some files → Replies catalog (given_each (map S.given sources.old) files) text.now result (W.taken out.old) (W.taken out.new) }
-    ensures silent { IfErr result (IsSilentBut (W.failures out.old < W.failures out.new) (W.taken out.new ≡ W.taken out.old)) }
-    ensures clean { OnOk result (W.failures out.new ≡ W.failures out.old) }
-    ensures holds { GrewAlike (W.taken out.old) (W.taken out.new) (W.contents out.old) (W.contents out.new) }
+    ensures runs { RunsFrom S.given S.failures S.ends S.whole catalog text.now sources.old sources.new result (W.taken out.old) (W.taken out.new) }
+    ensures sink { LeavesSink result (W.taken out.old) (W.taken out.new) (W.failures out.old) (W.failures out.new) (W.contents out.old) (W.contents out.new) }
 {
     let tables = load_all(alloc, &catalog, sources, piece_size)?;
     let answer = answer_text(alloc, &catalog, tables, text)?;

@@ -7,8 +7,6 @@ mod fault;
 mod files;
 mod program;
 mod report;
-#[cfg(test)]
-mod tests;
 mod words;
 
 use std::process::ExitCode;

@@ -4,10 +4,9 @@ ghost use Rattle.std.specs.Prelude.{◌≡◌};
 ghost use Rattle.ssb_cli.specs.Faults.{load_status, sql_status, bind_status, answer_status, status, program_status};
 
 use crate::fault::{AnswerFault, BindFault, ProgramFault, RunFault, SqlFault};
-use itoa::Buffer;
+use ssb_answer::{MEMORY_LINE, load_line, run_line, words_line};
 use ssb_load::LoadFault;
 use std::alloc::{AllocError, Global};
-use std::fmt::Display;
 
 // The files, the query or the data are at fault.
 const AT_FAULT: u8 = 1;
@@ -20,9 +19,6 @@ pub const OUT_OF_MEMORY: u8 = 3;
 
 // Reading or writing failed.
 const INPUT_OR_OUTPUT: u8 = 4;
-
-/// The line where memory ran out.
-pub const MEMORY_LINE: &str = "ssb: Memory\n";
 
 fn load_status(fault: LoadFault) -> u8
     ensures { result ≡ load_status fault }
@@ -88,88 +84,6 @@ pub fn program_status_of(fault: &ProgramFault) -> u8
     }
 }
 
-// `ssb:` and the words, joined by single spaces.
-fn line(alloc: Global, words: &[&str]) -> Result<String, AllocError> {
-    let mut line = String::from_str(alloc, "ssb:")?;
-    for word in words {
-        line.push_str(" ")?;
-        line.push_str(word)?;
-    }
-    line.push_str("\n")?;
-    Ok(line)
-}
-
-// The line of a fault whose message is all that is told.
-fn message_line<F: Display>(alloc: Global, fault: &F) -> Result<String, AllocError> {
-    let message = format!(in alloc; "{fault}")?;
-    line(alloc, &[message.as_str()])
-}
-
-fn memory_line(alloc: Global) -> Result<String, AllocError> {
-    String::from_str(alloc, MEMORY_LINE)
-}
-
-fn load_line(alloc: Global, name: &str, fault: LoadFault) -> Result<String, AllocError> {
-    let mut buffer = Buffer::new();
-    match fault {
-        LoadFault::Record(fault, record_number) => {
-            let title = format!(in alloc; "{fault}")?;
-            line(alloc, &[title.as_str(), name, buffer.format(record_number)])
-        }
-        LoadFault::BadCatalog(reason, record_number) => {
-            let reason = format!(in alloc; "{reason}")?;
-            line(
-                alloc,
-                &[
-                    "L8 BadCatalog",
-                    reason.as_str(),
-                    buffer.format(record_number),
-                ],
-            )
-        }
-        LoadFault::Read(record_number) => {
-            line(alloc, &["L9 Read", name, buffer.format(record_number)])
-        }
-        LoadFault::Memory => memory_line(alloc),
-    }
-}
-
-fn sql_line(alloc: Global, fault: SqlFault) -> Result<String, AllocError> {
-    match fault {
-        SqlFault::Memory => memory_line(alloc),
-        _ => message_line(alloc, &fault),
-    }
-}
-
-fn bind_line(alloc: Global, fault: &BindFault) -> Result<String, AllocError> {
-    let mut buffer = Buffer::new();
-    match fault {
-        BindFault::BadOrderItem(key) => line(alloc, &["B7 BadOrderItem", buffer.format(*key)]),
-        BindFault::Memory => memory_line(alloc),
-        _ => message_line(alloc, fault),
-    }
-}
-
-fn answer_line(alloc: Global, fault: AnswerFault) -> Result<String, AllocError> {
-    let mut buffer = Buffer::new();
-    match fault {
-        AnswerFault::RowOverflow(row) => line(alloc, &["A1 RowOverflow", buffer.format(row)]),
-        AnswerFault::Memory => memory_line(alloc),
-        _ => message_line(alloc, &fault),
-    }
-}
-
-/// The line of a run's fault. The name is that of the table that the fault tells of by its number.
-pub fn line_of(alloc: Global, name: &str, fault: &RunFault) -> Result<String, AllocError> {
-    match fault {
-        RunFault::Load(_, fault) => load_line(alloc, name, *fault),
-        RunFault::Sql(fault) => sql_line(alloc, *fault),
-        RunFault::Bind(fault) => bind_line(alloc, fault),
-        RunFault::Answer(fault) => answer_line(alloc, *fault),
-        RunFault::Memory => memory_line(alloc),
-    }
-}
-
 // The name of the table that a fault tells of.
 fn name_in<'a>(names: &'a [String], fault: &RunFault) -> &'a str {
     let RunFault::Load(table, _) = fault else {
@@ -184,12 +98,12 @@ fn name_in<'a>(names: &'a [String], fault: &RunFault) -> &'a str {
 /// The line of the program's fault.
 pub fn program_line(alloc: Global, fault: &ProgramFault) -> Result<String, AllocError> {
     match fault {
-        ProgramFault::BadWords => line(alloc, &["U1 BadWords"]),
-        ProgramFault::CannotOpen(path) => line(alloc, &["F1 CannotOpen", path.as_str()]),
+        ProgramFault::BadWords => words_line(alloc, &["U1 BadWords"]),
+        ProgramFault::CannotOpen(path) => words_line(alloc, &["F1 CannotOpen", path.as_str()]),
         ProgramFault::Catalog(fault) => load_line(alloc, "catalog", *fault),
         ProgramFault::Run { names, fault } => {
-            line_of(alloc, name_in(names.as_slice(), fault), fault)
+            run_line(alloc, name_in(names.as_slice(), fault), fault)
         }
-        ProgramFault::Memory => memory_line(alloc),
+        ProgramFault::Memory => String::from_str(alloc, MEMORY_LINE),
     }
 }

@@ -5,7 +5,7 @@ use Rattle.ssb_answer.proofs.bytes.answer_bytes.Goals as goal
 pub returns-in-Ok-clause-answer : goal.returns-in-Ok-clause-answer
 returns-in-Ok-clause-answer c =
     let told = c.in-Ok.ensures.replies (map (λ f. f.now) c.args.files.items) (slices-told c.args.files.items) in
-    let grew = c.in-Ok.ensures.holds in (
+    let grew = c.in-Ok.ensures.sink.holds in (
       told.0,
       told.1,
       ap (λ v. v.items) c.into_writer.ensures

@@ -1,16 +1,16 @@
 -- One put after another.
-use Rattle.std.proofs.Common.{◌≡◌, ◌∙◌, ◌++◌, ◌∷◌, [], ℕ, List, refl, sym, ap, map, subst, arith, append_assoc, Result, Ok, Err}
+use Rattle.std.proofs.Common.{◌≡◌, ◌∙◌, ◌++◌, ◌∷◌, ◌<◌, [], ℕ, List, Option, refl, sym, ap, map, subst, arith, append_assoc, Result, Ok, Err, OnOk, OnErr}
 use Rattle.std.proofs.lemmas.List.{append-nil}
 use Rattle.std.specs.List.{join_with_byte}
-use Rattle.ssb_answer.specs.Taking.{IsBeginning}
+use Rattle.ssb_answer.specs.Taking.{GrewAlike, IsBeginning}
 use Rattle.ssb_answer.specs.Writing.{IsPut}
-use Rattle.ssb_answer.proofs.Written.{grew-none, grew-both, puts-more, puts-began, begins-more, puts-end, puts-end_began}
+use Rattle.ssb_answer.proofs.Written.{begins-front, grew-none, grew-both, puts-more, puts-began, begins-more, puts-end, puts-end_began}
 use Rattle.ssb_answer.specs.Text.{cell_text, line, text_of}
 use Rattle.ssb_answer.specs.Writing.{barred}
 use Rattle.ssb_answer.specs.Order.{Row}
 use Rattle.ssb_cells.specs.Values.{owned_cell}
 use Rattle.ssb_cells.specs.declared.owned.OwnedValue.{OwnedValue}
-use Rattle.ssb_answer.specs.Writing.{Desk, Puts, Breaks, Writes}
+use Rattle.ssb_answer.specs.Writing.{Desk, Puts, Breaks, Writes, desk}
 
 -- the text so far is put, and this is left of it
 pub record Going (old now : Desk) (text left : List ℕ) : Type 0 where
@@ -29,6 +29,24 @@ puts-then-breaks a b c x y p q = record { began = puts-began a.taken b.taken c.t
 
 pub breaks-front : (a c : Desk) (x y : List ℕ) → Breaks a c x → Breaks a c (x ++ y)
 breaks-front a c x y q = record { began = begins-more a.taken c.taken a.waits x y q.began; failed = q.failed; grew = q.grew }
+
+-- bytes kept in the page
+pub puts-kept : (t w : List ℕ) (f : ℕ) (k : Option (List ℕ)) (x kept : List ℕ) → kept ≡ w ++ x → Puts (desk t w f k) (desk t kept f k) x
+puts-kept t w f k x kept e = record { put = record { gone = []; split = sym e; taken = sym (append-nil t) }; clean = refl; grew = grew-none t k }
+
+-- all that waited went out
+pub puts-flushed : (t w t2 empty : List ℕ) (f f2 : ℕ) (k k2 : Option (List ℕ)) → t2 ≡ t ++ w → empty ≡ [] → f2 ≡ f → GrewAlike t t2 k k2 → Puts (desk t w f k) (desk t2 empty f2 k2) []
+puts-flushed t w t2 empty f f2 k k2 wrote e clean grew = record { put = record { gone = w; split = ap (λ q. w ++ q) (sym e); taken = wrote }; clean = clean; grew = grew }
+
+-- what waited went out in part
+pub breaks-flushed : (t w t2 w2 x : List ℕ) (f f2 : ℕ) (k k2 : Option (List ℕ)) → IsBeginning t t2 w → f < f2 → GrewAlike t t2 k k2 → Breaks (desk t w f k) (desk t2 w2 f2 k2) x
+breaks-flushed t w t2 w2 x f f2 k k2 began failed grew = record { began = begins-front t t2 w x began; failed = failed; grew = grew }
+
+-- bytes written past an empty page
+pub writes-past : {E : Type 0} (r : Result (Unit {0}) E) (t t2 empty x : List ℕ) (f f2 : ℕ) (k k2 : Option (List ℕ)) → empty ≡ [] → OnOk r (t2 ≡ t ++ x) → OnOk r (f2 ≡ f) → OnErr r (f < f2) → OnErr r (IsBeginning t t2 x) → GrewAlike t t2 k k2
+    → Writes r (desk t empty f k) (desk t2 empty f2 k2) x
+writes-past (Ok u) t t2 empty x f f2 k k2 e wrote clean failed began grew = record { put = record { gone = x; split = ap (λ q. q ++ x) e ∙ sym (append-nil x) ∙ ap (λ q. x ++ q) (sym e); taken = wrote }; clean = clean; grew = grew }
+writes-past (Err s) t t2 empty x f f2 k k2 e wrote clean failed began grew = record { began = subst (λ q. IsBeginning t t2 (q ++ x)) (sym e) began; failed = failed; grew = grew }
 
 pub going-start : (d : Desk) (text : List ℕ) → Going d d text text
 going-start d text = record { done = []; split = refl; puts = nothing-put d }

@@ -5,7 +5,6 @@ pub mod Fresh
 pub mod Going
 pub mod InMemory
 pub mod KnownLemmas
-pub mod Refusing
 pub mod Members
 pub mod OneReply
 pub mod Orders

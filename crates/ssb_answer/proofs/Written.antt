@@ -1,6 +1,6 @@
 -- How far a write of a text has come.
-use Rattle.std.proofs.Common.{◌≡◌, ◌∙◌, ◌++◌, ◌<◌, ◌+◌, ◌≤◌, [], ℕ, List, Option, length, take, drop, refl, sym, ap, subst, arith, append_assoc, length-append, rules}
-use Rattle.std.proofs.lemmas.List.{append-nil, take-append-drop, take-append-le}
+use Rattle.std.proofs.Common.{◌≡◌, ◌∙◌, ◌++◌, ◌<◌, ◌+◌, [], ℕ, List, Option, take, drop, refl, sym, ap, subst, arith, append_assoc, rules}
+use Rattle.std.proofs.lemmas.List.{append-nil, take-append-drop}
 use Rattle.std.proofs.lemmas.Bool.Decides.{nat_tests}
 use Rattle.std.proofs.lemmas.Grind.{common_steps}
 use Rattle.std.proofs.KnownBytes.{Appends-nil, Appends-trans}
@@ -37,25 +37,6 @@ written-some old now next gone rest text f g w e = record { gone = gone; left = 
 -- a beginning of the front is one of the whole
 pub begins-front : (old new front back : List ℕ) → IsBeginning old new front → IsBeginning old new (front ++ back)
 begins-front old new front back b = record { gone = b.gone; left = b.left ++ back; split = ap (λ t. t ++ back) b.split ∙ append_assoc b.gone b.left back; taken = b.taken }
-
--- a beginning of the back, behind the whole front, is a beginning of both
-pub begins-back : (old mid new front back : List ℕ) → mid ≡ old ++ front → IsBeginning mid new back → IsBeginning old new (front ++ back)
-begins-back old mid new front back m b = record {
-  gone = front ++ b.gone;
-  left = b.left;
-  split = ap (λ t. front ++ t) b.split ∙ sym (append_assoc front b.gone b.left);
-  taken = b.taken ∙ ap (λ t. t ++ b.gone) m ∙ append_assoc old front b.gone;
-}
-
--- nothing written, or all that waited
-pub puts-none : (old new text left : List ℕ) → new ≡ old → left ≡ text → IsPut old new text left
-puts-none old new text left e l = record { gone = []; split = sym l; taken = e ∙ sym (append-nil old) }
-
-pub puts-front : (old new front back left : List ℕ) → new ≡ old ++ front → left ≡ back → IsPut old new (front ++ back) left
-puts-front old new front back left e l = record { gone = front; split = ap (λ t. front ++ t) (sym l); taken = e }
-
-pub puts-all : (old mid new front back left : List ℕ) → mid ≡ old ++ front → new ≡ mid ++ back → left ≡ [] → IsPut old new (front ++ back) left
-puts-all old mid new front back left m e l = record { gone = front ++ back; split = sym (append-nil (front ++ back)) ∙ ap (λ t. (front ++ back) ++ t) (sym l); taken = e ∙ ap (λ t. t ++ back) m ∙ append_assoc old front back }
 
 -- one put after another
 pub puts-more : (a b c p x q y r : List ℕ) → IsPut a b (p ++ x) q → IsPut b c (q ++ y) r → IsPut a c (p ++ (x ++ y)) r
@@ -105,5 +86,3 @@ grew-both t u v a b c g h = record {
 -- a growth, and then a write
 pub grew-more : (t u v x : List ℕ) (a b c : Option (List ℕ)) → GrewAlike t u a b → v ≡ u ++ x → Appends b c x → GrewAlike t v a c
 grew-more t u v x a b c g e h = grew-both t u v a b c g (record { gone = x; taken = e; contents = h })
-
-pub ruleset page_lemmas = (append_assoc, append-nil, begins-front, begins-back, puts-none, puts-front, puts-all, grew-none, grew-both)

@@ -1,7 +1,7 @@
 // Bytes kept together before they are written.
 ghost use Rattle.std.specs.Prelude.{◌≡◌, ◌≤◌, ◌+◌, ◌<◌, ◌++◌, [], length, OnOk, OnErr};
 ghost use Rattle.ssb_answer.specs.Taking.{GrewAlike, IsBeginning};
-ghost use Rattle.ssb_answer.specs.Writing.{IsPut};
+ghost use Rattle.ssb_answer.specs.Writing.{Writes, desk};
 
 use crate::sink::{Sink, SinkFault, write_all};
 use std::marker::Model;
@@ -77,19 +77,16 @@ impl Page {
     }
 
     /// Puts bytes behind those that wait, and writes where there is no room.
-    #[tactic(auto, using(crate::proofs::Written::page_lemmas))]
     pub fn put<W: Sink>(&mut self, out: &mut W, bytes: &[u8]) -> Result<(), SinkFault>
-        ensures wrote { OnOk result (IsPut (W.taken out.old) (W.taken out.new) (self.old ++ bytes.now) self.new) }
-        ensures clean { OnOk result (W.failures out.new ≡ W.failures out.old) }
-        ensures failed { OnErr result (W.failures out.old < W.failures out.new) }
-        ensures began { OnErr result (IsBeginning (W.taken out.old) (W.taken out.new) (self.old ++ bytes.now)) }
-        ensures holds { GrewAlike (W.taken out.old) (W.taken out.new) (W.contents out.old) (W.contents out.new) }
+        ensures { Writes result (desk (W.taken out.old) self.old (W.failures out.old) (W.contents out.old)) (desk (W.taken out.new) self.new (W.failures out.new) (W.contents out.new)) bytes.now }
     {
         if bytes.len() <= self.room() {
             self.keep(bytes);
             return Ok(());
         }
-        self.flush(out)?;
+        let Ok(()) = self.flush(out) else {
+            return Err(SinkFault);
+        };
         if bytes.len() <= self.room() {
             self.keep(bytes);
             return Ok(());

@@ -6,7 +6,6 @@ use crate::fault::AnswerFault;
 use ssb_bind::BindFault;
 use ssb_load::{FileFault, LoadFault};
 use ssb_sql::SqlFault;
-use std::alloc::AllocError;
 use thiserror::Error;
 
 /// The first fault of a run, in the order of its work.
@@ -80,15 +79,5 @@ impl From<AnswerFault> for RunFault {
             AnswerFault::Memory => RunFault::Memory,
             other => RunFault::Answer(other),
         }
-    }
-}
-
-impl From<AllocError> for RunFault {
-    ghost use Rattle.ssb_answer.specs.declared.run_fault.RunFault.TheVariants.{Memory};
-
-    ghost from_gives = { λ _ told. told ≡ Memory };
-
-    fn from(_error: AllocError) -> RunFault {
-        RunFault::Memory
     }
 }

@@ -14,20 +14,11 @@ use crate::sink::{Sink, SinkFault};
 use itoa::Buffer;
 use ssb_cells::OwnedValue;
 
-fn put<W: Sink>(page: &mut Page, out: &mut W, bytes: &[u8]) -> Result<(), SinkFault>
-    ensures { Writes result (desk (W.taken out.old) page.old (W.failures out.old) (W.contents out.old)) (desk (W.taken out.new) page.new (W.failures out.new) (W.contents out.new)) bytes.now }
-{
-    match page.put(out, bytes) {
-        Ok(()) => Ok(()),
-        Err(fault) => Err(fault),
-    }
-}
-
 fn put_field<W: Sink>(page: &mut Page, out: &mut W, field: &OwnedValue) -> Result<(), SinkFault>
     ensures { Writes result (desk (W.taken out.old) page.old (W.failures out.old) (W.contents out.old)) (desk (W.taken out.new) page.new (W.failures out.new) (W.contents out.new)) (cell_text (owned_cell field.now)) }
 {
     let mut buffer = Buffer::new();
-    put(page, out, shown(field, &mut buffer))
+    page.put(out, shown(field, &mut buffer))
 }
 
 // Writes each field behind a bar.
@@ -36,7 +27,7 @@ fn put_barred<W: Sink>(page: &mut Page, out: &mut W, fields: &[OwnedValue]) -> R
 {
     let mut rest = fields;
     while let Some((field, fields)) = rest.split_first() {
-        let Ok(()) = put(page, out, b"|") else {
+        let Ok(()) = page.put(out, b"|") else {
             return Err(SinkFault);
         };
         let Ok(()) = put_field(page, out, field) else {
@@ -66,7 +57,7 @@ fn put_row<W: Sink>(page: &mut Page, out: &mut W, fields: &[OwnedValue]) -> Resu
     let Ok(()) = put_fields(page, out, fields) else {
         return Err(SinkFault);
     };
-    put(page, out, b"\n")
+    page.put(out, b"\n")
 }
 
 fn put_line<W: Sink>(page: &mut Page, out: &mut W, row: &AnswerRow) -> Result<(), SinkFault>

@@ -1,6 +1,6 @@
 // The program: words, files, one run, and one line and a status for a fault.
 
-ghost use Rattle.std.specs.Prelude.{◌≡◌, ◌⊎◌};
+ghost use Rattle.std.specs.Prelude.{◌≡◌, ◌⊎◌, length, vec_len};
 ghost use Rattle.ssb_cli.specs.Faults.{out_of_memory, program_status};
 
 use crate::check::check_text;
@@ -9,6 +9,7 @@ use crate::files::{catalog_of, names_of, open_all, read_query};
 use crate::report::{OUT_OF_MEMORY, program_line, program_status_of};
 use crate::words::{QuerySource, Task, WordsFault, task_of};
 use ssb_answer::{MEMORY_LINE, Out, run_from};
+use ssb_load::{Catalog, In};
 use std::alloc::{AllocError, Global};
 use std::io::{BufWriter, Write};
 use std::rt::{Env, Files};
@@ -29,7 +30,49 @@ fn text_of<R: Files + AllocGlobal>(rt: &R, query: QuerySource<'_>) -> Result<Str
     }
 }
 
-// The answer goes through one buffer, which is flushed after it is complete.
+fn flush<W: Write + Drop>(writer: W) -> Result<(), RunFault> {
+    let mut writer = writer;
+    match writer.flush() {
+        Ok(()) => Ok(()),
+        Err(_) => Err(RunFault::Answer(AnswerFault::Write)),
+    }
+}
+
+// Prints the answer through one buffer, which is flushed after it is complete.
+fn print_answer<R: Files + Print + AllocGlobal>(
+    rt: &R,
+    catalog: Catalog,
+    sources: Vec<In<R::File>>,
+    text: &str,
+) -> Result<(), RunFault>
+    requires { vec_len sources ≡ length catalog }
+{
+    let mut sources = sources;
+    let Ok(writer) = BufWriter::new(rt.alloc(), io::writer(rt)) else {
+        return Err(RunFault::Memory);
+    };
+    let mut out = Out::new(writer);
+    match run_from(rt.alloc(), catalog, &mut sources, text, &mut out) {
+        Ok(()) => flush(out.into_writer()),
+        Err(fault) => Err(fault),
+    }
+}
+
+// Answers a text over the tables of a folder.
+fn answer<R: Files + Print + AllocGlobal>(
+    rt: &R,
+    data: &str,
+    catalog: Catalog,
+    text: &str,
+) -> Result<(), ProgramFault> {
+    let names = names_of(rt.alloc(), &catalog)?;
+    let sources = open_all(rt, data, &catalog)?;
+    match print_answer(rt, catalog, sources, text) {
+        Ok(()) => Ok(()),
+        Err(fault) => Err(ProgramFault::Run { names, fault }),
+    }
+}
+
 fn run<R: Files + Print + AllocGlobal>(
     rt: &R,
     data: &str,
@@ -38,16 +81,11 @@ fn run<R: Files + Print + AllocGlobal>(
 ) -> Result<(), ProgramFault> {
     let catalog = catalog_of(rt, catalog)?;
     let text = text_of(rt, query)?;
-    let names = names_of(rt.alloc(), &catalog)?;
-    let mut sources = open_all(rt, data, &catalog)?;
-    let Ok(writer) = BufWriter::new(rt.alloc(), io::writer(rt)) else {
-        return Err(ProgramFault::Memory);
-    };
-    let mut out = Out::new(writer);
-    if let Err(fault) = run_from(rt.alloc(), catalog, &mut sources, text.as_str(), &mut out) {
-        return Err(ProgramFault::Run { names, fault });
-    }
-    match out.into_writer().flush() {
+    answer(rt, data, catalog, text.as_str())
+}
+
+fn print_ok<R: Print + AllocGlobal>(rt: &R) -> Result<(), ProgramFault> {
+    match rt.print("ok\n") {
         Ok(()) => Ok(()),
         Err(_) => Err(write_fault(rt.alloc())),
     }
@@ -61,15 +99,12 @@ fn check<R: Files + Print + AllocGlobal>(
 ) -> Result<(), ProgramFault> {
     let catalog = catalog_of(rt, catalog)?;
     let text = read_query(rt, query)?;
-    if let Err(fault) = check_text(rt.alloc(), &catalog, text.as_str()) {
-        return Err(ProgramFault::Run {
+    match check_text(rt.alloc(), &catalog, text.as_str()) {
+        Ok(()) => print_ok(rt),
+        Err(fault) => Err(ProgramFault::Run {
             names: Vec::new(rt.alloc()),
             fault,
-        });
-    }
-    match rt.print("ok\n") {
-        Ok(()) => Ok(()),
-        Err(_) => Err(write_fault(rt.alloc())),
+        }),
     }
 }
 

@@ -46,40 +46,38 @@ pub enum WordsFault {
     Memory,
 }
 
-fn query_option<'a>(alloc: Global) -> Arg<'a> {
-    Arg::new(alloc, "query")
-        .long("query")
+// An option with a value.
+fn option<'a>(alloc: Global, name: &'a str, value: &'a str, help: &'a str) -> Arg<'a> {
+    Arg::new(alloc, name)
+        .long(name)
         .action(ArgAction::Set)
-        .value_name("FILE")
-        .help("The query")
+        .value_name(value)
+        .help(help)
+}
+
+fn query_option<'a>(alloc: Global) -> Arg<'a> {
+    option(alloc, "query", "FILE", "The query")
 }
 
 fn catalog_option<'a>(alloc: Global) -> Arg<'a> {
-    Arg::new(alloc, "catalog")
-        .long("catalog")
-        .action(ArgAction::Set)
-        .value_name("FILE")
-        .help("The tables and their columns, where they are not those of the benchmark")
+    let help = "The tables and their columns, where they are not those of the benchmark";
+    option(alloc, "catalog", "FILE", help)
 }
 
 fn name_option<'a>(alloc: Global) -> Arg<'a> {
-    Arg::new(alloc, "name")
-        .long("name")
-        .action(ArgAction::Set)
-        .value_name("NAME")
-        .help("The query of the benchmark, Q1.1 to Q4.3, in place of a file")
+    let help = "The query of the benchmark, Q1.1 to Q4.3, in place of a file";
+    option(alloc, "name", "NAME", help)
+}
+
+fn data_option<'a>(alloc: Global) -> Arg<'a> {
+    let help = "The folder with a file TABLE.tbl for each table";
+    option(alloc, "data", "DIR", help).required(true)
 }
 
 fn run_command<'a>(alloc: Global) -> Result<Command<'a>, Error> {
-    let data = Arg::new(alloc, "data")
-        .long("data")
-        .required(true)
-        .action(ArgAction::Set)
-        .value_name("DIR")
-        .help("The folder with a file TABLE.tbl for each table");
     let run = Command::new(alloc, "run")
         .about("Answers a query over tables")
-        .arg(data)?
+        .arg(data_option(alloc))?
         .arg(query_option(alloc))?
         .arg(name_option(alloc))?
         .arg(catalog_option(alloc))?;

@@ -21,7 +21,10 @@ pub fn check_text(alloc: Global, catalog: &Catalog, text: &str) -> Result<(), Ru
         Err(fault) => return Err(RunFault::Sql(fault)),
     };
     match bind(alloc, catalog, select) {
-        Ok(_) => Ok(()),
+        Ok(query) => {
+            drop(query);
+            Ok(())
+        }
         Err(fault) => Err(RunFault::Bind(fault)),
     }
 }

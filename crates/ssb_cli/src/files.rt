@@ -108,6 +108,19 @@ fn path_of(alloc: Global, data: &str, table: &str) -> Result<String, AllocError>
     format!(in alloc; "{data}/{table}.tbl")
 }
 
+fn open_table<R: Files + AllocGlobal>(
+    rt: &R,
+    data: &str,
+    table: &str,
+) -> Result<In<R::File>, ProgramFault>
+    ensures { IfErr result IsOpenFault }
+{
+    let path = path_of(rt.alloc(), data, table)?;
+    let file = open(rt, path.as_str());
+    drop(path);
+    Ok(In::new(file?))
+}
+
 /// The files of the tables as sources, in the catalog's order.
 pub fn open_all<R: Files + AllocGlobal>(
     rt: &R,
@@ -119,9 +132,8 @@ pub fn open_all<R: Files + AllocGlobal>(
 {
     let mut sources = Vec::new(rt.alloc());
     for table in catalog.tables() {
-        let path = path_of(rt.alloc(), data, table.name())?;
-        let file = open(rt, path.as_str())?;
-        let Ok(()) = sources.push(In::new(file)) else {
+        let source = open_table(rt, data, table.name())?;
+        let Ok(()) = sources.push(source) else {
             return Err(ProgramFault::Memory);
         };
     }

@@ -1,6 +1,8 @@
-// The program: words, files, one run, and one line and a status for a fault.
+// The program: words, files, one run, and one line and a status for a fault. What holds much is let go
+// by a call of `drop`, since the prover writes out all that it holds where the end of a scope lets go
+// of it.
 
-ghost use Rattle.std.specs.Prelude.{◌≡◌, ◌⊎◌, length, vec_len};
+ghost use Rattle.std.specs.Prelude.{◌≡◌, ◌⊎◌, length};
 ghost use Rattle.ssb_cli.specs.Faults.{out_of_memory, program_status};
 
 use crate::check::check_text;
@@ -8,6 +10,7 @@ use crate::fault::{AnswerFault, ProgramFault, RunFault};
 use crate::files::{catalog_of, names_of, open_all, read_query};
 use crate::report::{OUT_OF_MEMORY, program_line, program_status_of};
 use crate::words::{QuerySource, Task, WordsFault, task_of};
+use clap::Error;
 use ssb_answer::{MEMORY_LINE, Out, run_from};
 use ssb_load::{Catalog, In};
 use std::alloc::{AllocError, Global};
@@ -42,19 +45,23 @@ fn flush<W: Write + Drop>(writer: W) -> Result<(), RunFault> {
 fn print_answer<R: Files + Print + AllocGlobal>(
     rt: &R,
     catalog: Catalog,
-    sources: Vec<In<R::File>>,
+    sources: &mut [In<R::File>],
     text: &str,
 ) -> Result<(), RunFault>
-    requires { vec_len sources ≡ length catalog }
+    requires { length sources.old ≡ length catalog }
 {
-    let mut sources = sources;
     let Ok(writer) = BufWriter::new(rt.alloc(), io::writer(rt)) else {
         return Err(RunFault::Memory);
     };
     let mut out = Out::new(writer);
-    match run_from(rt.alloc(), catalog, &mut sources, text, &mut out) {
-        Ok(()) => flush(out.into_writer()),
-        Err(fault) => Err(fault),
+    let answered = run_from(rt.alloc(), catalog, sources, text, &mut out);
+    let writer = out.into_writer();
+    match answered {
+        Ok(()) => flush(writer),
+        Err(fault) => {
+            drop(writer);
+            Err(fault)
+        }
     }
 }
 
@@ -66,9 +73,14 @@ fn answer<R: Files + Print + AllocGlobal>(
     text: &str,
 ) -> Result<(), ProgramFault> {
     let names = names_of(rt.alloc(), &catalog)?;
-    let sources = open_all(rt, data, &catalog)?;
-    match print_answer(rt, catalog, sources, text) {
-        Ok(()) => Ok(()),
+    let mut sources = open_all(rt, data, &catalog)?;
+    let printed = print_answer(rt, catalog, &mut sources, text);
+    drop(sources);
+    match printed {
+        Ok(()) => {
+            drop(names);
+            Ok(())
+        }
         Err(fault) => Err(ProgramFault::Run { names, fault }),
     }
 }
@@ -92,20 +104,32 @@ fn print_ok<R: Print + AllocGlobal>(rt: &R) -> Result<(), ProgramFault> {
 }
 
 // Says `ok` of a file's text that means something over the catalog.
-fn check<R: Files + Print + AllocGlobal>(
+fn check_over<R: Files + Print + AllocGlobal>(
     rt: &R,
     query: &str,
-    catalog: Option<&str>,
+    catalog: &Catalog,
 ) -> Result<(), ProgramFault> {
-    let catalog = catalog_of(rt, catalog)?;
     let text = read_query(rt, query)?;
-    match check_text(rt.alloc(), &catalog, text.as_str()) {
+    let checked = check_text(rt.alloc(), catalog, text.as_str());
+    drop(text);
+    match checked {
         Ok(()) => print_ok(rt),
         Err(fault) => Err(ProgramFault::Run {
             names: Vec::new(rt.alloc()),
             fault,
         }),
     }
+}
+
+fn check<R: Files + Print + AllocGlobal>(
+    rt: &R,
+    query: &str,
+    catalog: Option<&str>,
+) -> Result<(), ProgramFault> {
+    let catalog = catalog_of(rt, catalog)?;
+    let checked = check_over(rt, query, &catalog);
+    drop(catalog);
+    checked
 }
 
 fn words<R: Env + AllocGlobal>(rt: &R) -> Result<Vec<String>, ProgramFault> {
@@ -123,9 +147,21 @@ fn words<R: Env + AllocGlobal>(rt: &R) -> Result<Vec<String>, ProgramFault> {
     }
 }
 
-fn act<R: Files + Print + Eprint + Env + AllocGlobal>(rt: &R) -> Result<(), ProgramFault> {
-    let given = words(rt)?;
-    match task_of(rt.alloc(), given.as_slice()) {
+fn print_help<R: Print + Eprint + AllocGlobal>(rt: &R, help: Error) -> Result<(), ProgramFault> {
+    let printed = help.print(rt);
+    drop(help);
+    match printed {
+        Ok(()) => Ok(()),
+        Err(_) => Err(write_fault(rt.alloc())),
+    }
+}
+
+// Does what these words ask.
+fn act_on<R: Files + Print + Eprint + AllocGlobal>(
+    rt: &R,
+    given: &[String],
+) -> Result<(), ProgramFault> {
+    match task_of(rt.alloc(), given) {
         Ok(
             Task::Run {
                 data,
@@ -134,13 +170,17 @@ fn act<R: Files + Print + Eprint + Env + AllocGlobal>(rt: &R) -> Result<(), Prog
             },
         ) => run(rt, data, query, catalog),
         Ok(Task::Check { query, catalog }) => check(rt, query, catalog),
-        Err(WordsFault::Help(text)) => match text.print(rt) {
-            Ok(()) => Ok(()),
-            Err(_) => Err(write_fault(rt.alloc())),
-        },
+        Err(WordsFault::Help(help)) => print_help(rt, help),
         Err(WordsFault::Bad) => Err(ProgramFault::BadWords),
         Err(WordsFault::Memory) => Err(ProgramFault::Memory),
     }
+}
+
+fn act<R: Files + Print + Eprint + Env + AllocGlobal>(rt: &R) -> Result<(), ProgramFault> {
+    let given = words(rt)?;
+    let acted = act_on(rt, given.as_slice());
+    drop(given);
+    acted
 }
 
 // The line of a fault on the error output, and the status, which is that of memory where the line

@@ -3,7 +3,7 @@
 use crate::benchmark::text_named;
 use clap::error::ErrorKind;
 use clap::{Arg, ArgAction, ArgMatches, Command, Error};
-use std::alloc::Global;
+use std::alloc::{AllocError, Global};
 
 /// Where a query's text comes from.
 #[derive(Clone, Copy)]
@@ -74,7 +74,7 @@ fn data_option<'a>(alloc: Global) -> Arg<'a> {
     option(alloc, "data", "DIR", help).required(true)
 }
 
-fn run_command<'a>(alloc: Global) -> Result<Command<'a>, Error> {
+fn run_command<'a>(alloc: Global) -> Result<Command<'a>, AllocError> {
     let run = Command::new(alloc, "run")
         .about("Answers a query over tables")
         .arg(data_option(alloc))?
@@ -84,7 +84,7 @@ fn run_command<'a>(alloc: Global) -> Result<Command<'a>, Error> {
     Ok(run)
 }
 
-fn check_command<'a>(alloc: Global) -> Result<Command<'a>, Error> {
+fn check_command<'a>(alloc: Global) -> Result<Command<'a>, AllocError> {
     let check = Command::new(alloc, "check")
         .about("Says `ok` of a query that means something over the tables, or why it doesn't")
         .arg(query_option(alloc).required(true))?
@@ -92,15 +92,27 @@ fn check_command<'a>(alloc: Global) -> Result<Command<'a>, Error> {
     Ok(check)
 }
 
-fn command<'a>(alloc: Global) -> Result<Command<'a>, Error> {
+fn with_command<'a>(
+    program: Command<'a>,
+    made: Result<Command<'a>, AllocError>,
+) -> Result<Command<'a>, AllocError> {
+    match made {
+        Ok(made) => program.subcommand(made),
+        Err(error) => {
+            drop(program);
+            Err(error)
+        }
+    }
+}
+
+fn command<'a>(alloc: Global) -> Result<Command<'a>, AllocError> {
     let program = Command::new(alloc, "ssb")
         .bin_name("ssb")?
         .about("Answers queries of the Star Schema Benchmark")
         .disable_help_subcommand(true)
-        .subcommand_required(true)
-        .subcommand(run_command(alloc)?)?
-        .subcommand(check_command(alloc)?)?;
-    Ok(program)
+        .subcommand_required(true);
+    let program = with_command(program, run_command(alloc))?;
+    with_command(program, check_command(alloc))
 }
 
 fn parse<'a>(alloc: Global, given: &'a [String]) -> Result<ArgMatches<'a>, Error> {

@@ -44,7 +44,10 @@ fn bare_primary(alloc: Global, tokens: &[Token]) -> Result<(Expr, &[Token]), Sto
 {
     match tokens {
         [Token::Number(number), rest @ ..] => Ok((Expr::Number(*number), rest)),
-        _ => column(alloc, tokens).map(|(column, rest)| (Expr::Column(column), rest)),
+        _ => {
+            let (column, rest) = column(alloc, tokens)?;
+            Ok((Expr::Column(column), rest))
+        }
     }
 }
 

@@ -47,13 +47,15 @@ fn output(alloc: Global, depth: usize, tokens: &[Token]) -> Result<(Output, &[To
 {
     if let Some(rest) = after(tokens, Sign::Word(Keyword::Sum)) {
         let inside = expect(rest, Sign::Mark(Mark::Open))?;
-        return closed(alloc, depth, inside).map(|(found, rest)| (Output::Sum(found), rest));
+        let (found, rest) = closed(alloc, depth, inside)?;
+        return Ok((Output::Sum(found), rest));
     }
     if let Some(rest) = after(tokens, Sign::Word(Keyword::Count)) {
         let inside = expect(rest, Sign::Mark(Mark::Open))?;
         return count(alloc, depth, inside);
     }
-    column(alloc, tokens).map(|(found, rest)| (Output::Column(found), rest))
+    let (found, rest) = column(alloc, tokens)?;
+    Ok((Output::Column(found), rest))
 }
 
 #[tactic(auto, unfolding(crate::specs::ReadSelects::alias_at))]
@@ -61,7 +63,10 @@ fn alias_if(alloc: Global, tokens: &[Token]) -> Result<(Option<Name>, &[Token]),
     ensures { Gives seen result (alias_at tokens.now) }
 {
     match after(tokens, Sign::Word(Keyword::As)) {
-        Some(rest) => name(alloc, rest).map(|(found, rest)| (Some(found), rest)),
+        Some(rest) => {
+            let (found, rest) = name(alloc, rest)?;
+            Ok((Some(found), rest))
+        }
         None => Ok((None, tokens)),
     }
 }

@@ -61,7 +61,10 @@ fn plain_literal(alloc: Global, tokens: &[Token]) -> Result<(Literal, &[Token]),
 {
     match tokens {
         [Token::Text(text), rest @ ..] => Ok((Literal::Text(text.copy(alloc)?), rest)),
-        _ => small(tokens).map(|(number, rest)| (Literal::Number(number), rest)),
+        _ => {
+            let (number, rest) = small(tokens)?;
+            Ok((Literal::Number(number), rest))
+        }
     }
 }
 

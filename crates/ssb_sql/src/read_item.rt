@@ -37,7 +37,10 @@ fn count(alloc: Global, depth: usize, tokens: &[Token]) -> Result<(Output, &[Tok
             let rest = expect(rest, Sign::Mark(Mark::Close))?;
             Ok((Output::CountRows, rest))
         }
-        None => { closed(alloc, depth, tokens).map(|(found, rest)| (Output::Count(found), rest)) }
+        None => {
+            let (found, rest) = closed(alloc, depth, tokens)?;
+            Ok((Output::Count(found), rest))
+        }
     }
 }
 

@@ -6,6 +6,8 @@ use Rattle.std.specs.Map.{lookup}
 use Rattle.std.proofs.lemmas.Bool.{cases_Bool}
 use Rattle.std.proofs.lemmas.List.Sorted.{IsPermutation-map, IsPermutation-refl, IsPermutation-trans}
 use Rattle.std.specs.Prelude.{pos, replicate, Ok, Err}
+use Rattle.std.proofs.lemmas.Option.{slice_get_within}
+use Rattle.ssb_groups.proofs.Bounds.{summary_is}
 use Rattle.ssb_bind.specs.declared.condition.BoundColumn.{BoundColumn}
 use Rattle.ssb_bind.specs.declared.query.Aggregate.{Aggregate}
 use Rattle.ssb_bind.specs.declared.query.Aggregate.TheVariants as aggregate
@@ -36,15 +38,10 @@ get_map f a zero i j below is = absurd (omega arith)
 get_map f a (suc n) zero j below is = let h : a ≡ j = omega arith in ap (λ x. Some (f x)) h
 get_map f a (suc n) (suc i) j below is = get_map f (a + 1) n i j (omega arith) (omega arith)
 
-get_below : {X : Type 0} (xs : List X) (i : ℕ) (x : X) → slice_get xs i ≡ Some x → i < length xs
-get_below [] i x e = cc
-get_below (y ∷ xs) zero x e = omega arith
-get_below (y ∷ xs) (suc i) x e = let h = get_below xs i x e in omega arith
-
 at_by : (q : QueryParts) (G : List SeenRow) (i : ℕ) (o : Option Aggregate) → slice_get q.aggregates i ≡ o → total_at q (totals (length q.aggregates) G) i ≡ agg_at q G i
 at_by q G i None e = ap (λ a. total_if a (slice_get (totals (length q.aggregates) G) i)) e ∙ sym (ap (λ a. agg_if a (arguments_at i G)) e)
 at_by q G i (Some a) e =
-    let t = get_map (λ j. accumulated (arguments_at j G)) 0 (length q.aggregates) i i (get_below q.aggregates i a e) (omega arith) in
+    let t = get_map (λ j. accumulated (arguments_at j G)) 0 (length q.aggregates) i i (slice_get_within q.aggregates i a e) (omega arith) in
     ap₂ total_if e t ∙ agg_is a (arguments_at i G) ∙ sym (ap (λ a. agg_if a (arguments_at i G)) e)
 
 total_is : (q : QueryParts) (G : List SeenRow) (i : ℕ) → total_at q (totals (length q.aggregates) G) i ≡ agg_at q G i
@@ -92,10 +89,6 @@ later e all (f ∷ es) n h =
 finds : (es : List Entry) → Apart (map (λ e. e.0) es) → Finds es es
 finds [] h = tt
 finds (e ∷ es) h = (ap (λ b. cond b (Some e.1) (lookup (key_eq e.0) es)) (key_eq_laws.refl e.0), later e es es h.0 (finds es h.1))
-
-summary_is : (w : ℕ) (rs : List SeenRow) (xs : List Accumulator) → summary w rs ≡ Some xs → xs ≡ totals w rs
-summary_is w [] xs e = cc
-summary_is w (r ∷ rs) xs e = cc
 
 right : (q : QueryParts) (g : GroupMap) (R : List SeenRow) (es : List Entry) → g.width ≡ length q.aggregates → ((k : Key) → lookup (key_eq k) g.entries ≡ summary g.width (group k R)) → Finds g.entries es → AreRight q R es
 right q g R [] w h f = tt

@@ -1,6 +1,7 @@
 -- Rows of entries, one after another.
-use Rattle.std.proofs.Common.{◌≡◌, ◌∙◌, ◌++◌, ◌∷◌, [], ◌||◌, ◌+◌, ◌<◌, ◌≤◌, ℕ, zero, suc, Bool, true, false, List, length, map, drop, None, Some, Ok, Err, slice_get, refl, sym, ap, subst, arith, append_assoc}
+use Rattle.std.proofs.Common.{◌≡◌, ◌∙◌, ◌++◌, ◌∷◌, [], ◌||◌, ◌+◌, ◌<◌, ◌≤◌, ℕ, zero, suc, Bool, false, List, length, map, drop, None, Some, Ok, Err, slice_get, refl, sym, ap, subst, arith, append_assoc}
 use Rattle.std.specs.List.{list_any, range_with_len}
+use Rattle.std.proofs.lemmas.Bool.{or_parts}
 use Rattle.ssb_bind.specs.declared.query.Aggregate.{Aggregate}
 use Rattle.ssb_bind.specs.declared.query.QueryParts.{QueryParts}
 use Rattle.ssb_groups.specs.declared.accumulator.Accumulator.{Accumulator}
@@ -10,14 +11,10 @@ use Rattle.ssb_answer.specs.Result.{is_beyond}
 use Rattle.ssb_answer.specs.declared.fault.AnswerFault.{AnswerFault}
 use Rattle.ssb_answer.specs.declared.fault.AnswerFault.TheVariants as fault
 
-or_none : (a b : Bool) → (a || b) ≡ false → (a ≡ false) × (b ≡ false)
-or_none true b e = cc e
-or_none false b e = (refl, e)
-
 none_in_range : (p : ℕ → Bool) (a n : ℕ) → list_any p (range_with_len a n) ≡ false → (i j : ℕ) → i < n → j ≡ a + i → p j ≡ false
 none_in_range p a zero e i j below is = absurd (omega arith)
-none_in_range p a (suc n) e zero j below is = let h : j ≡ a = omega arith in rw h (or_none (p a) (list_any p (range_with_len (a + 1) n)) e).0
-none_in_range p a (suc n) e (suc i) j below is = none_in_range p (a + 1) n (or_none (p a) (list_any p (range_with_len (a + 1) n)) e).1 i j (omega arith) (omega arith)
+none_in_range p a (suc n) e zero j below is = let h : j ≡ a = omega arith in rw h (or_parts (p a) (list_any p (range_with_len (a + 1) n)) e).0
+none_in_range p a (suc n) e (suc i) j below is = none_in_range p (a + 1) n (or_parts (p a) (list_any p (range_with_len (a + 1) n)) e).1 i j (omega arith) (omega arith)
 
 past : (xs : List Aggregate) (i : ℕ) → length xs ≤ i → slice_get xs i ≡ None
 past [] i h = refl

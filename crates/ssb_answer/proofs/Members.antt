@@ -2,7 +2,7 @@
 use Rattle.std.proofs.Common.{◌≡◌, ◌∙◌, ◌++◌, ◌∷◌, [], ◌||◌, ◌&&◌, Bool, true, false, not, cond, List, refl, sym, ap, subst, true≢false, inl, inr}
 use Rattle.std.specs.List.{list_any, filter, AllByRecursion, IsDistinct}
 use Rattle.std.specs.List.Sorted.{IsPermutation}
-use Rattle.std.proofs.lemmas.Bool.{cases_Bool}
+use Rattle.std.proofs.lemmas.Bool.{and_parts, cases_Bool, or_parts}
 use Rattle.std.proofs.lemmas.Bool.Decides.{Decides-int_eq}
 use Rattle.std.proofs.lemmas.List.Folds.{list_any-append}
 use Rattle.std.proofs.lemmas.List.Sorted.{IsPermutation-refl, IsPermutation-cons, IsPermutation-middle, IsPermutation-sym, IsPermutation-trans}
@@ -25,16 +25,12 @@ cell-same (text a) null e = cc
 cell-same (text a) (number b) e = cc
 cell-same (text a) (text b) e = ap text ((bytes_eq-Decides a b).0 e)
 
-and_both : (a b : Bool) → (a && b) ≡ true → (a ≡ true) × (b ≡ true)
-and_both true b e = (refl, e)
-and_both false b e = cc e
-
 pub key-same : (j k : Key) → key_eq j k ≡ true → j ≡ k
 key-same [] [] e = refl
 key-same [] (y ∷ k) e = cc
 key-same (x ∷ j) [] e = cc
 key-same (x ∷ j) (y ∷ k) e =
-    let h = and_both (cell_eq x y) (key_eq j k) e in
+    let h = and_parts (cell_eq x y) (key_eq j k) e in
     let a : x ≡ y = cell-same x y h.0 in
     let b : j ≡ k = key-same j k h.1 in
     cc
@@ -75,16 +71,12 @@ member-middle : (j k : Key) (front back : List Key) → member j (front ++ k ∷
 member-middle j k front back =
     list_any-append (key_eq j) front (k ∷ back) ∙ or_swap (member j front) (key_eq j k) (member j back) ∙ ap (λ b. key_eq j k || b) (sym (list_any-append (key_eq j) front back))
 
-or_both : (a b : Bool) → (a || b) ≡ false → (a ≡ false) × (b ≡ false)
-or_both true b e = cc e
-or_both false b e = (refl, e)
-
 -- keys that are all different, without one of them
 apart-middle : (front back : List Key) (k : Key) → Apart (front ++ k ∷ back) → (member k (front ++ back) ≡ false) × Apart (front ++ back)
 apart-middle [] back k h = h
 apart-middle (a ∷ front) back k h =
     let r = apart-middle front back k h.1 in
-    let o = or_both (key_eq a k) (member a (front ++ back)) (sym (member-middle a k front back) ∙ h.0) in
+    let o = or_parts (key_eq a k) (member a (front ++ back)) (sym (member-middle a k front back) ∙ h.0) in
     (ap (λ b. b || member k (front ++ back)) (key_eq_laws.symm k a ∙ o.0) ∙ r.0, (o.1, r.1))
 
 -- ---- the same members

@@ -1,5 +1,5 @@
 -- Laws of the order of rows.
-use Rattle.std.proofs.Common.{◌≡◌, ◌∙◌, ◌∷◌, [], List, ℕ, Bool, true, false, ◌+◌, ◌<◌, length, map, refl, sym, ap, subst, arith, zero, suc, get_or, if◌then◌else◌}
+use Rattle.std.proofs.Common.{◌≡◌, ◌∙◌, ◌∷◌, [], List, ℕ, Bool, true, false, ◌+◌, ◌<◌, length, map, refl, sym, ap, subst, arith, suc, get_or, if◌then◌else◌}
 use Rattle.std.specs.Bool.{⊤}
 use Rattle.std.proofs.lemmas.List.Sums.{sum_by-cons}
 use Rattle.std.proofs.lemmas.List.Sorted.{ranks_by, sum_by-IsPermutation}
@@ -9,11 +9,12 @@ use Rattle.std.specs.Cmp.Derive.{point_total}
 use Rattle.std.specs.Cmp.Lexicographic.{slice_cmp, lists_total}
 use Rattle.std.specs.List.{sum_by, AllByRecursion}
 use Rattle.std.specs.List.Sorted.{IsPermutation, IsSorted, IsSortedBy}
-use Rattle.std.specs.Ordering.{is_lt, is_eq, ordering_then, ordering_reverse, MatchOrdering}
+use Rattle.std.specs.Ordering.{is_lt, is_eq, ordering_then, ordering_reverse}
 use Rattle.std.specs.declared.cmp.Ordering.{Ordering}
 use Rattle.std.specs.declared.cmp.Ordering.TheVariants.{Less, Equal, Greater}
+use Rattle.std.proofs.lemmas.List.{get_or-map, length-map}
 use Rattle.ssb_cells.specs.Order.{cell_cmp}
-use Rattle.ssb_cells.proofs.OrderLaws.{cell_total, cell-same}
+use Rattle.ssb_cells.proofs.OrderLaws.{cell-same, cell_total}
 use Rattle.ssb_answer.specs.Order.{Row, at, by_keys, row_cmp, IsOrdered}
 use Rattle.ssb_bind.specs.declared.query.BoundOrder.{BoundOrder}
 
@@ -31,9 +32,6 @@ pub row_total : (keys : List BoundOrder) → IsTotalOrder (row_cmp keys)
 row_total keys = then_total (by_keys_total keys) (lists_total cell_total)
 
 -- ---- what does not differ is the same
-
-at-equal : (P Q R : Type 0) (o : Ordering) → o ≡ Equal → MatchOrdering o P Q R → Q
-at-equal P Q R o e m = subst (λ w. MatchOrdering w P Q R) e m
 
 first-equal : (o p : Ordering) → ordering_then o p ≡ Equal → o ≡ Equal
 first-equal Less p e = e
@@ -165,20 +163,11 @@ one-order keys bag xs ys a b = one-sorted (row_cmp keys) (row_total keys) (row-s
 
 -- ---- a sort by what rows show
 
-map-length : {X Y : Type 0} (f : X → Y) (xs : List X) → length (map f xs) ≡ length xs
-map-length f [] = refl
-map-length f (x ∷ xs) = ap (λ n. suc n) (map-length f xs)
-
-get-map : {X Y : Type 0} (f : X → Y) (xs : List X) (k : ℕ) (d : X) (e : Y) → k < length xs → get_or (map f xs) k e ≡ f (get_or xs k d)
-get-map f [] k d e h = absurd (omega arith)
-get-map f (x ∷ xs) zero d e h = refl
-get-map f (x ∷ xs) (suc k) d e h = get-map f xs k d e (omega arith)
-
 pub sorted-map : {X Y : Type 0} (less : Y → Y → Bool) (f : X → Y) (xs : List X) → IsSortedBy (λ a b. less (f a) (f b)) xs → IsSortedBy less (map f xs)
 sorted-map less f [] up = λ k d low high. absurd (omega arith)
 sorted-map less f (x ∷ xs) up = λ k d low high.
-    let n : length (map f (x ∷ xs)) ≡ length (x ∷ xs) = map-length f (x ∷ xs) in
+    let n : length (map f (x ∷ xs)) ≡ length (x ∷ xs) = length-map (x ∷ xs) f in
     let low' : k + 1 < length (x ∷ xs) = omega (arith, n, high) in
-    let a : get_or (map f (x ∷ xs)) (k + 1) d ≡ f (get_or (x ∷ xs) (k + 1) x) = get-map f (x ∷ xs) (k + 1) x d low' in
-    let b : get_or (map f (x ∷ xs)) k d ≡ f (get_or (x ∷ xs) k x) = get-map f (x ∷ xs) k x d (omega (arith, low')) in
+    let a : get_or (map f (x ∷ xs)) (k + 1) d ≡ f (get_or (x ∷ xs) (k + 1) x) = get_or-map f (x ∷ xs) (k + 1) x d low' in
+    let b : get_or (map f (x ∷ xs)) k d ≡ f (get_or (x ∷ xs) k x) = get_or-map f (x ∷ xs) k x d (omega (arith, low')) in
     rw (a, b) (up k x low low')

@@ -2,7 +2,6 @@
 
 ghost use Rattle.std.specs.Prelude.{◌≡◌, length};
 ghost use Rattle.ssb_load.specs.Catalog.{IsCatalog};
-ghost use Rattle.ssb_bind.specs.Star.{IsStar};
 ghost use Rattle.ssb_answer.specs.Asking.{Asked, AnswersText};
 ghost use Rattle.ssb_job.specs.Loaded.{AreLoaded};
 ghost use Rattle.ssb_load.specs.Files.{AreLawful};
@@ -33,25 +32,14 @@ fn query_of(alloc: Global, catalog: &Catalog, text: &str) -> Result<Query, RunFa
     Ok(query)
 }
 
-// The query of a job; a reminder to the prover that it is a star.
-fn star_query(job: &Job) -> &Query
-    ensures same { result.now ≡ job.now.query }
-    ensures star { IsStar job.now.query }
-{
-    let query = job.query();
-    let _parts = query.parts();
-    query
-}
-
 // What a job's query answers.
 fn answer_job(alloc: Global, job: &Job) -> Result<Answer, AnswerFault>
     ensures { Answers job.now.query (seen_rows job.now) result }
 {
-    let query = star_query(job);
     let Ok(groups) = group_all(alloc, job) else {
         return Err(AnswerFault::Memory);
     };
-    rows(alloc, groups, query)
+    rows(alloc, groups, job.query())
 }
 
 // What a query answers over these tables.

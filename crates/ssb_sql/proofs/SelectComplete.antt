@@ -40,9 +40,6 @@ use Rattle.ssb_sql.proofs.ExpressionComplete.{column_begins, expr_begins, expr_r
 use Rattle.ssb_sql.proofs.ConditionComplete.{EndsCond, cond_read}
 use Rattle.ssb_sql.proofs.ItemFacts.{tame_item, tame_order}
 
-no : (found sign : Sign) (ts : List Token) → is_sign found sign ≡ false → Stops sign (Fixed found ∷ ts)
-no found sign ts h = stops found sign ts h
-
 -- aggregates
 column_goes : {from to : List Token} {x : ColumnName} → IsColumn from to x → (d : ℕ) → Stops (s.Mark marks.Dot) to → output_at d from ≡ Some (u.Column x, to)
 unfolding output_at
@@ -56,12 +53,12 @@ rows_goes : (d : ℕ) (to : List Token) → output_at d (Fixed (s.Word words.Cou
 unfolding output_at count_at
 rows_goes d to =
     let ts = Fixed (s.Mark marks.Times) ∷ Fixed (s.Mark marks.Close) ∷ to in
-    rw (no (s.Word words.Count) (s.Word words.Sum) (Fixed (s.Mark marks.Open) ∷ ts) (differs (s.Word words.Count) (s.Word words.Sum) refl), sees (s.Word words.Count) (Fixed (s.Mark marks.Open) ∷ ts), sees (s.Mark marks.Open) ts, sees (s.Mark marks.Times) (Fixed (s.Mark marks.Close) ∷ to), sees (s.Mark marks.Close) to) refl
+    rw (stops (s.Word words.Count) (s.Word words.Sum) (Fixed (s.Mark marks.Open) ∷ ts) (differs (s.Word words.Count) (s.Word words.Sum) refl), sees (s.Word words.Count) (Fixed (s.Mark marks.Open) ∷ ts), sees (s.Mark marks.Open) ts, sees (s.Mark marks.Times) (Fixed (s.Mark marks.Close) ∷ to), sees (s.Mark marks.Close) to) refl
 
 count_goes : (d : ℕ) (ts to : List Token) (x : Expr) → Stops (s.Mark marks.Times) ts → expr_at d ts ≡ Some (x, Fixed (s.Mark marks.Close) ∷ to) → output_at d (Fixed (s.Word words.Count) ∷ Fixed (s.Mark marks.Open) ∷ ts) ≡ Some (u.Count x, to)
 unfolding output_at count_at
 count_goes d ts to x h e =
-    rw (no (s.Word words.Count) (s.Word words.Sum) (Fixed (s.Mark marks.Open) ∷ ts) (differs (s.Word words.Count) (s.Word words.Sum) refl), sees (s.Word words.Count) (Fixed (s.Mark marks.Open) ∷ ts), sees (s.Mark marks.Open) ts, h, closed_read (expr_at d) ts to x e) refl
+    rw (stops (s.Word words.Count) (s.Word words.Sum) (Fixed (s.Mark marks.Open) ∷ ts) (differs (s.Word words.Count) (s.Word words.Sum) refl), sees (s.Word words.Count) (Fixed (s.Mark marks.Open) ∷ ts), sees (s.Mark marks.Open) ts, h, closed_read (expr_at d) ts to x e) refl
 
 output_read : {from to : List Token} {x : Output} → IsOutput from to x → (d : ℕ) → HasRoom d from → Stops (s.Mark marks.Dot) to → output_at d from ≡ Some (x, to)
 output_read (column a) d h n = column_goes a d n
@@ -80,18 +77,18 @@ item_read : {from to : List Token} {x : Item} → IsItem from to x → (d : ℕ)
 unfolding item_at alias_at
 item_read (unnamed a) d h z = rw (output_read a d h z.dot, z.alias) refl
 item_read (named {to = to} {n = n} a) d h z =
-    rw (output_read a d h (no (s.Word words.As) (s.Mark marks.Dot) (Name n ∷ to) (differs (s.Word words.As) (s.Mark marks.Dot) refl)), sees (s.Word words.As) (Name n ∷ to), name_read n to) refl
+    rw (output_read a d h (stops (s.Word words.As) (s.Mark marks.Dot) (Name n ∷ to) (differs (s.Word words.As) (s.Mark marks.Dot) refl)), sees (s.Word words.As) (Name n ∷ to), name_read n to) refl
 
 complete_item : (d : ℕ) → Complete (item_at d) IsItem d EndsItem
 complete_item d = record { by = λ h w z. item_read h d w z }
 
 item_goes_on : GoesOn EndsItem
-item_goes_on = record { comma = λ ts. record { dot = no (s.Mark marks.Comma) (s.Mark marks.Dot) ts (differs (s.Mark marks.Comma) (s.Mark marks.Dot) refl); alias = no (s.Mark marks.Comma) (s.Word words.As) ts (differs (s.Mark marks.Comma) (s.Word words.As) refl) } }
+item_goes_on = record { comma = λ ts. record { dot = stops (s.Mark marks.Comma) (s.Mark marks.Dot) ts (differs (s.Mark marks.Comma) (s.Mark marks.Dot) refl); alias = stops (s.Mark marks.Comma) (s.Word words.As) ts (differs (s.Mark marks.Comma) (s.Word words.As) refl) } }
 
 items_read : (d : ℕ) (from to : List Token) (xs : List Item) → IsList IsItem from (Fixed (s.Word words.From) ∷ to) xs → HasRoom d from → list_at (item_at d) from ≡ Some (xs, Fixed (s.Word words.From) ∷ to)
 items_read d from to xs h w =
     list_read (item_at d) IsItem tame_item d EndsItem item_goes_on (complete_item d) h w
-    (record { dot = no (s.Word words.From) (s.Mark marks.Dot) to (differs (s.Word words.From) (s.Mark marks.Dot) refl); alias = no (s.Word words.From) (s.Word words.As) to (differs (s.Word words.From) (s.Word words.As) refl) }) (no (s.Word words.From) (s.Mark marks.Comma) to (differs (s.Word words.From) (s.Mark marks.Comma) refl))
+    (record { dot = stops (s.Word words.From) (s.Mark marks.Dot) to (differs (s.Word words.From) (s.Mark marks.Dot) refl); alias = stops (s.Word words.From) (s.Word words.As) to (differs (s.Word words.From) (s.Word words.As) refl) }) (stops (s.Word words.From) (s.Mark marks.Comma) to (differs (s.Word words.From) (s.Mark marks.Comma) refl))
 
 -- names, columns and keys
 any_end : GoesOn (λ to. Unit {0})
@@ -103,7 +100,7 @@ names_read from to xs h n =
     list_read name_at IsNamed tame_name d (λ to. Unit {0}) any_end (record { by = λ a w f. named_read a }) h (all_within from d (omega arith)) tt n
 
 column_goes_on : GoesOn (Stops (s.Mark marks.Dot))
-column_goes_on = record { comma = λ ts. no (s.Mark marks.Comma) (s.Mark marks.Dot) ts (differs (s.Mark marks.Comma) (s.Mark marks.Dot) refl) }
+column_goes_on = record { comma = λ ts. stops (s.Mark marks.Comma) (s.Mark marks.Dot) ts (differs (s.Mark marks.Comma) (s.Mark marks.Dot) refl) }
 
 columns_read : (from to : List Token) (xs : List ColumnName) → IsList IsColumn from to xs → Stops (s.Mark marks.Dot) to → Stops (s.Mark marks.Comma) to → list_at column_at from ≡ Some (xs, to)
 columns_read from to xs h m n =
@@ -124,10 +121,10 @@ order_read : {from to : List Token} {x : Order} → IsOrder from to x → EndsKe
 unfolding order_at
 order_read (plain a) z = rw (key_read a, z.asc, z.desc) refl
 order_read (asc {to = to} a) z = rw (key_read a, sees (s.Word words.Asc) to) refl
-order_read (desc {to = to} a) z = rw (key_read a, no (s.Word words.Desc) (s.Word words.Asc) to (differs (s.Word words.Desc) (s.Word words.Asc) refl), sees (s.Word words.Desc) to) refl
+order_read (desc {to = to} a) z = rw (key_read a, stops (s.Word words.Desc) (s.Word words.Asc) to (differs (s.Word words.Desc) (s.Word words.Asc) refl), sees (s.Word words.Desc) to) refl
 
 key_goes_on : GoesOn EndsKey
-key_goes_on = record { comma = λ ts. record { asc = no (s.Mark marks.Comma) (s.Word words.Asc) ts (differs (s.Mark marks.Comma) (s.Word words.Asc) refl); desc = no (s.Mark marks.Comma) (s.Word words.Desc) ts (differs (s.Mark marks.Comma) (s.Word words.Desc) refl) } }
+key_goes_on = record { comma = λ ts. record { asc = stops (s.Mark marks.Comma) (s.Word words.Asc) ts (differs (s.Mark marks.Comma) (s.Word words.Asc) refl); desc = stops (s.Mark marks.Comma) (s.Word words.Desc) ts (differs (s.Mark marks.Comma) (s.Word words.Desc) refl) } }
 
 keys_read : (from to : List Token) (xs : List Order) → IsList IsOrder from to xs → EndsKey to → Stops (s.Mark marks.Comma) to → list_at order_at from ≡ Some (xs, to)
 keys_read from to xs h z n =
@@ -141,19 +138,19 @@ nil_stops sign = refl
 
 end_stops : {ts : List Token} → IsEnd ts → (sign : Sign) → is_sign (s.Mark marks.Semicolon) sign ≡ false → Stops sign ts
 end_stops end sign p = nil_stops sign
-end_stops semicolon sign p = no (s.Mark marks.Semicolon) sign [] p
+end_stops semicolon sign p = stops (s.Mark marks.Semicolon) sign [] p
 
 orders_stop : {from to : List Token} {xs : List Order} → IsOrders from to xs → (sign : Sign) → is_sign (s.Word words.Order) sign ≡ false → Stops sign to → Stops sign from
 orders_stop no_orders sign p h = h
-orders_stop (orders {from = from} a) sign p h = no (s.Word words.Order) sign (Fixed (s.Word words.By) ∷ from) p
+orders_stop (orders {from = from} a) sign p h = stops (s.Word words.Order) sign (Fixed (s.Word words.By) ∷ from) p
 
 groups_stop : {from to : List Token} {xs : List ColumnName} → IsGroups from to xs → (sign : Sign) → is_sign (s.Word words.Group) sign ≡ false → Stops sign to → Stops sign from
 groups_stop no_groups sign p h = h
-groups_stop (groups {from = from} a) sign p h = no (s.Word words.Group) sign (Fixed (s.Word words.By) ∷ from) p
+groups_stop (groups {from = from} a) sign p h = stops (s.Word words.Group) sign (Fixed (s.Word words.By) ∷ from) p
 
 where_stops : {from to : List Token} {x : Option Condition} → IsWhere from to x → (sign : Sign) → is_sign (s.Word words.Where) sign ≡ false → Stops sign to → Stops sign from
 where_stops no_where sign p h = h
-where_stops (where_cond {from = from} a) sign p h = no (s.Word words.Where) sign from p
+where_stops (where_cond {from = from} a) sign p h = stops (s.Word words.Where) sign from p
 
 -- the parts behind FROM
 where_read : {from to : List Token} {x : Option Condition} → IsWhere from to x → (d : ℕ) → HasRoom d from → Stops (s.Word words.Where) to → EndsCond to → where_at (suc d) from ≡ Some (x, to)

@@ -1,10 +1,10 @@
 -- What is a list of tokens is read.
 use Rattle.std.proofs.Common.{◌≡◌, ℕ, zero, suc, ◌<◌, ◌≤◌, Bool, true, false, cond, List, [], ◌∷◌, ◌++◌, length, Option, Some, None, refl, sym, ap, ◌∙◌, arith, length-append}
-use Rattle.std.specs.Prelude.{not, ◌&&◌, ◌||◌, ◌==◌}
+use Rattle.std.specs.Prelude.{not, ◌&&◌, ◌==◌}
 use Rattle.std.specs.Char.{is_ascii_alphabetic, is_ascii_digit}
 use Rattle.std.specs.List.{list_all}
 use Rattle.std.specs.Str.{str_to_ascii_lowercase}
-use Rattle.std.proofs.lemmas.Bool.{and_left, and_parts, cond-true, cond-false}
+use Rattle.std.proofs.lemmas.Bool.{and_left, and_parts, cond-false, cond-true, or_parts}
 use Rattle.std.proofs.lemmas.Bool.Decides.{nat_tests}
 use Rattle.ssb_cells.specs.Keywords.{keyword_of}
 use Rattle.ssb_cells.specs.Names.{is_reserved, is_word, is_word_byte}
@@ -184,16 +184,11 @@ tail_of marks.NotEqual rest = 62 ∷ rest
 tail_of marks.GreaterEqual rest = 61 ∷ rest
 tail_of _ rest = rest
 
-both_false : (x y : Bool) → (x || y) ≡ false → (x ≡ false) × (y ≡ false)
-both_false false false h = (refl, refl)
-both_false false true h = absurd cc
-both_false true y h = absurd cc
-
 less_is : (rest : List ℕ) → Stops follows_less rest → less_at rest ≡ (Fixed (s.Mark marks.Less), rest)
 unfolding less_at
 less_is [] h = refl
 less_is (c ∷ rest) h =
-    let two = both_false (c == 61) (c == 62) h in
+    let two = or_parts (c == 61) (c == 62) h in
     cond-false (c == 61) (Fixed (s.Mark marks.LessEqual), rest) _ two.0 ∙ cond-false (c == 62) (Fixed (s.Mark marks.NotEqual), rest) (Fixed (s.Mark marks.Less), c ∷ rest) two.1
 
 greater_is : (rest : List ℕ) → Stops is_equal rest → greater_at rest ≡ (Fixed (s.Mark marks.Greater), rest)

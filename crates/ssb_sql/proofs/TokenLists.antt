@@ -17,16 +17,11 @@ use Rattle.ssb_sql.specs.Scanning.{CutsAtQuotes, Fails, lex, lex_turn, skip, tok
 use Rattle.ssb_sql.specs.Lexes.{HasNoTokens}
 use Rattle.ssb_sql.proofs.TextUtf8.{cuts}
 use Rattle.ssb_sql.proofs.TokenComplete.{lexes, mark_spelled, mark_stays, number_stays, skip_blank, skip_comment, skip_stays, word_stays}
-use Rattle.ssb_sql.proofs.TokenSound.{Goes, IsBare, TokenAndRest, bare, bind_some, goes, lex_sound, skips}
+use Rattle.ssb_sql.proofs.StepFacts.{bind_some}
+use Rattle.ssb_sql.proofs.TokenSound.{Goes, IsBare, TokenAndRest, bare, goes, lex_sound, skips, some_list, some_token}
 
 abbrev some_of : {A : Type 0} → A → Option A
 some_of x = Some x
-
-some_list : (x y : List Token) → some_of x ≡ some_of y → x ≡ y
-some_list x y e = cc
-
-some_token : (x y : TokenAndRest) → some_of x ≡ some_of y → x ≡ y
-some_token x y e = cc
 
 pub one_list : (bytes : List ℕ) (ts us : List Token) → IsTokens bytes ts → IsTokens bytes us → ts ≡ us
 one_list bytes ts us a b =

@@ -5,6 +5,7 @@ use Rattle.std.specs.Char.{is_ascii_alphabetic, is_ascii_digit}
 use Rattle.std.specs.List.{list_all}
 use Rattle.std.proofs.lemmas.Bool.{and_from, and_parts, eqb-true, leb-true, not-false}
 use Rattle.std.proofs.lemmas.Bool.Decides.{nat_tests}
+use Rattle.ssb_sql.proofs.StepFacts.{bind_some}
 use Rattle.ssb_cells.specs.Keywords.{keyword_of}
 use Rattle.ssb_cells.specs.Names.{is_word, is_word_byte}
 use Rattle.ssb_sql.specs.declared.class.Class.{Class}
@@ -220,7 +221,7 @@ text_sound false (b ∷ bs) x f = step_false b bs x (is_quote b) refl (text_soun
 abbrev pub TokenAndRest : Type 0
 TokenAndRest = Token × List ℕ
 
-some_token : (x y : TokenAndRest) → some_of x ≡ some_of y → x ≡ y
+pub some_token : (x y : TokenAndRest) → some_of x ≡ some_of y → x ≡ y
 some_token x y e = cc
 
 -- the token x.0 stands before what x.1 spells, and x.1 is a rest behind the first byte
@@ -353,11 +354,7 @@ goes b bs x n e = token_goes b bs x (class_of b) refl n e
 
 -- ---- lists of tokens
 
-pub bind_some : {A B : Type 0} (r : Option A) (f : A → Option B) (y : B) → (r >>= f) ≡ Some y → (x : A) × (r ≡ Some x) × (f x ≡ Some y)
-bind_some None f y e = absurd cc
-bind_some (Some x) f y e = (x, refl, e)
-
-some_list : (x y : List Token) → some_of x ≡ some_of y → x ≡ y
+pub some_list : (x y : List Token) → some_of x ≡ some_of y → x ≡ y
 some_list x y e = cc
 
 turn_sound : (n : ℕ) (us : List ℕ) (ts : List Token) → IsBare us → ((vs : List ℕ) (xs : List Token) → lex n vs ≡ Some xs → IsTokens vs xs) → lex_turn (lex n) us ≡ Some ts → IsTokens us ts

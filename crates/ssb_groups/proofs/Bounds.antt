@@ -80,6 +80,12 @@ pub summary_is : (w : ℕ) (rs : List SeenRow) (xs : List Accumulator) → summa
 summary_is w [] xs e = cc
 summary_is w (r ∷ rs) xs e = cc
 
+-- the aggregates of one key over few rows of two lists can be joined
+pub fit_rows : (w : ℕ) (k : Key) (rs qs : List SeenRow) → AreRanged rs → AreRanged qs → length rs + length qs < 2 ^ 32 → FitEach (totals w (group k rs)) (totals w (group k qs))
+fit_rows w k rs qs p q small =
+    fit_map (λ i. accumulated (arguments_at i (group k rs))) (λ i. accumulated (arguments_at i (group k qs))) (range_with_len 0 w)
+    (λ i. Fits-bounded (accumulated (arguments_at i (group k rs))) (accumulated (arguments_at i (group k qs))) (length rs) (length qs) (IsBounded-group i k rs p) (IsBounded-group i k qs q) small)
+
 -- one more row can be joined to a group of few rows
 pub fit_row : (w : ℕ) (k : Key) (rs : List SeenRow) (r : SeenRow) → AreRanged rs → EachRanged r.arguments → length rs + 1 < 2 ^ 32 → FitEach (totals w (group k rs)) (totals w (r ∷ []))
 fit_row w k rs r p q small =

@@ -3,6 +3,7 @@ pub mod Bounds
 pub mod CellFacts
 pub mod JoinedFront
 pub mod KeyFacts
+mod MergeFacts
 pub mod Permuted
 pub mod RowFacts
 pub mod StandsFacts

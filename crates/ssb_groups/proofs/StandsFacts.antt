@@ -18,12 +18,12 @@ of_row j w r = record { job = j; width = w; entries = (r.key, totals w (r ∷ []
 abbrev pub JoinsAll : GroupMap → GroupMap → GroupMap → Type 0
 JoinsAll g h n = (k : Key) → lookup (key_eq k) n.entries ≡ option_joined (lookup (key_eq k) g.entries) (lookup (key_eq k) h.entries)
 
-none_left : (a b : Option ℕ) → least_of a b ≡ None → a ≡ None
+pub none_left : (a b : Option ℕ) → least_of a b ≡ None → a ≡ None
 none_left None b e = refl
 none_left (Some m) None e = cc
 none_left (Some m) (Some n) e = cc
 
-none_right : (a b : Option ℕ) → least_of a b ≡ None → b ≡ None
+pub none_right : (a b : Option ℕ) → least_of a b ≡ None → b ≡ None
 none_right None b e = e
 none_right (Some m) None e = refl
 none_right (Some m) (Some n) e = cc

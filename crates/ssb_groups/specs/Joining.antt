@@ -42,3 +42,9 @@ option_joined (Some xs) (Some ys) = Some (joined_each xs ys)
 abbrev pub JoinsAt : Key → List Accumulator → List (Key × List Accumulator) → List (Key × List Accumulator) → Type 0
 JoinsAt k more before after = ((xs : List Accumulator) → lookup (key_eq k) before ≡ Some xs → FitEach xs more)
     → (q : Key) → lookup (key_eq q) after ≡ option_joined (lookup (key_eq q) before) (cond (key_eq q k) (Some more) None)
+
+-- the groups of two tables are joined key by key, where those of each key fit
+abbrev pub JoinsEach : List (Key × List Accumulator) → List (Key × List Accumulator) → List (Key × List Accumulator) → Type 0
+JoinsEach more before after =
+    ((k : Key) (xs ys : List Accumulator) → lookup (key_eq k) before ≡ Some xs → lookup (key_eq k) more ≡ Some ys → FitEach xs ys)
+    → (q : Key) → lookup (key_eq q) after ≡ option_joined (lookup (key_eq q) before) (lookup (key_eq q) more)

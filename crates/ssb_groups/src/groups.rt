@@ -1,6 +1,6 @@
 // The groups over the rows that were added.
 
-ghost use Rattle.std.specs.Prelude.{◌≡◌, ◌+◌, ◌<◌, ◌^◌, ◌∷◌, ◌++◌, [], ◌↔◌, List, length, Some, slice_get, IfSome, OnOk, OnErr};
+ghost use Rattle.std.specs.Prelude.{◌≡◌, ◌+◌, ◌<◌, ◌^◌, ◌∷◌, ◌++◌, [], ◌↔◌, List, length, Some, slice_get, IfErr, IfSome, OnOk, OnErr};
 ghost use Rattle.std.specs.Option.{IsSome};
 ghost use Rattle.ssb_job.specs.Kept.{AreOneJob, IsCombination, from_tables};
 ghost use Rattle.ssb_groups.specs.Keys.{cells_in};
@@ -91,6 +91,42 @@ impl Groups {
         self.store
             .add_plain(self.alloc, &self.key, self.more.as_slice())?;
         Ok(())
+    }
+
+    /// Adds the rows of other groups of the same job: the groups then stand for the rows of both. There
+    /// may be 4,294,967,295 rows.
+    ///
+    /// # Errors
+    ///
+    /// Only where a growth was refused; both stand as before, and the other groups come back.
+    pub fn merge(&mut self, other: Groups) -> Result<(), (Groups, AllocError)>
+        requires one_job { AreOneJob self.old.job other.job }
+        requires few { self.old.counted + other.counted < 2 ^ 32 }
+        ensures stands { OnOk result ((A B : List SeenRow) → Stands self.old A → Stands other B → Stands self.new (A ++ B)) }
+        ensures job { self.new.job ≡ self.old.job }
+        ensures width { OnOk result (self.new.width ≡ self.old.width) }
+        ensures counted { OnOk result (self.new.counted ≡ self.old.counted + other.counted) }
+        ensures err { OnErr result (self.new ≡ self.old) }
+        ensures other { IfErr result (λ e. e.0 ≡ other) }
+    {
+        let Groups {
+            alloc,
+            store,
+            key,
+            more,
+        } = other;
+        match self.store.merge(store) {
+            Ok(()) => Ok(()),
+            Err((store, refused)) => Err((
+                Groups {
+                    alloc,
+                    store,
+                    key,
+                    more,
+                },
+                refused,
+            )),
+        }
     }
 
     /// How many aggregates each group has: those of the job's query.

@@ -1,14 +1,15 @@
 // The groups over the rows so far.
 
-ghost use Rattle.std.specs.Prelude.{◌≡◌, ◌+◌, ◌<◌, ◌^◌, [], ◌↔◌, length, Some, slice_get, IfSome, OnOk, OnErr};
+ghost use Rattle.std.specs.Prelude.{◌≡◌, ◌+◌, ◌<◌, ◌^◌, [], ◌++◌, ◌↔◌, List, length, Some, slice_get, IfErr, IfSome, OnOk, OnErr};
 ghost use Rattle.std.specs.Option.{IsSome};
 ghost use Rattle.ssb_groups.specs.Keys.{cells_in};
 ghost use Rattle.ssb_groups.specs.Gathering.{AddsRow, IsOverAt, IsPlain};
+ghost use Rattle.ssb_groups.specs.Rows.{SeenRow};
 ghost use Rattle.ssb_groups.specs.Stands.{Stands, least_of};
 
 use crate::accumulator::Accumulator;
 use crate::key::GroupKey;
-use crate::table::{GroupTable, put};
+use crate::table::{GroupTable, put, take_all_in};
 use crate::totals::Totals;
 use indexmap::IndexMap;
 use ssb_job::Job;
@@ -105,6 +106,31 @@ impl Store {
             put(alloc, &mut self.table, key, more)?;
         }
         self.counted += 1;
+        Ok(())
+    }
+
+    // The rows of both. Where a growth is refused, both stand as before, and the other comes back. No
+    // sum is asked for where a row overflowed, so the tables are joined only where none did.
+    pub(crate) fn merge(&mut self, other: Store) -> Result<(), (Store, AllocError)>
+        requires few { self.old.counted + other.counted < 2 ^ 32 }
+        requires width { other.width ≡ self.old.width }
+        ensures stands { OnOk result ((A B : List SeenRow) → Stands self.old A → Stands other B → Stands self.new (A ++ B)) }
+        ensures job { self.new.job ≡ self.old.job }
+        ensures width { self.new.width ≡ self.old.width }
+        ensures counted { OnOk result (self.new.counted ≡ self.old.counted + other.counted) }
+        ensures err { OnErr result (self.new ≡ self.old) }
+        ensures other { IfErr result (λ e. e.0 ≡ other) }
+    {
+        let overflow = lesser(self.overflow, other.overflow);
+        let counted = self.counted + other.counted;
+        if overflow.is_none() {
+            if let Err(refused) = self.table.reserve(other.table.len()) {
+                return Err((other, refused));
+            }
+            take_all_in(&mut self.table, other.table);
+        }
+        self.overflow = overflow;
+        self.counted = counted;
         Ok(())
     }
 

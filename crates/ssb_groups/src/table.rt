@@ -1,8 +1,8 @@
 // The aggregates of each key.
 
-ghost use Rattle.std.specs.Prelude.{◌≡◌, OnOk, OnErr};
-ghost use Rattle.indexmap.specs.IndexMap.{IsUnique};
-ghost use Rattle.ssb_groups.specs.Joining.{JoinsAt};
+ghost use Rattle.std.specs.Prelude.{◌≡◌, ◌+◌, ◌<◌, ◌≤◌, OnOk, OnErr};
+ghost use Rattle.indexmap.specs.IndexMap.{IsUnique, index_map_len, spare};
+ghost use Rattle.ssb_groups.specs.Joining.{JoinsAt, JoinsEach};
 ghost use Rattle.ssb_groups.specs.Keys.{cells_in, entries_of};
 ghost use Rattle.ssb_groups.specs.contracts.key.GroupKeyPartialEq.TheImpl as keys;
 
@@ -36,4 +36,35 @@ pub(crate) fn put(
         }
     }
     Ok(())
+}
+
+// Joins a group's accumulators to those of its key, where there is room for one group more.
+fn take_in(table: &mut GroupTable, key: GroupKey, more: Totals)
+    requires unique { IsUnique keys.eq-value.it table.old }
+    requires room { 0 < spare table.old }
+    ensures joined { JoinsAt (cells_in key) more (entries_of table.old.entries) (entries_of table.new.entries) }
+    ensures unique { IsUnique keys.eq-value.it table.new }
+    ensures room { spare table.old ≤ spare table.new + 1 }
+{
+    match table.get_mut(&key) {
+        Some(totals) => totals.join(more.as_slice()),
+        None => {
+            let Ok(_) = table.insert(key, more) else {
+                unreachable!()
+            };
+        }
+    }
+}
+
+// Joins the groups of another table, where there is room for as many more.
+pub(crate) fn take_all_in(table: &mut GroupTable, other: GroupTable)
+    requires unique { IsUnique keys.eq-value.it table.old }
+    requires others { IsUnique keys.eq-value.it other }
+    requires room { index_map_len other ≤ spare table.old }
+    ensures joined { JoinsEach (entries_of other.entries) (entries_of table.old.entries) (entries_of table.new.entries) }
+    ensures unique { IsUnique keys.eq-value.it table.new }
+{
+    for (key, totals) in other {
+        take_in(table, key, totals);
+    }
 }

@@ -1,0 +1,9 @@
+pub mod Cuts
+pub mod JoinedFacts
+pub mod MarkFacts
+pub mod MorselFacts
+pub mod OpeningFacts
+pub mod PartFacts
+pub mod PartialFacts
+pub mod Probing
+pub mod RangeFacts

@@ -1,0 +1,88 @@
+-- The numbers of marked places.
+use Rattle.std.proofs.Common.{◌≡◌, ◌∙◌, ◌++◌, ◌∷◌, [], ◌≤◌, ◌<◌, ◌+◌, ◌||◌, ℕ, zero, suc, Bool, true, false, true≢false, nat_eq, List, length, Some, refl, sym, ap, subst, arith, append_assoc, length-append}
+use Rattle.std.specs.Prelude.{slice_get, slice_set}
+use Rattle.std.specs.List.{AllByRecursion, IsDistinct, range_with_len}
+use Rattle.std.specs.List.Sorted.{IsPermutation}
+use Rattle.std.proofs.lemmas.Bool.{eqb-true, false_from_ne_true}
+use Rattle.std.proofs.lemmas.List.Sorted.{IsPermutation-append_comm, IsPermutation-append_right}
+use Rattle.ssb_pipeline.specs.Marks.{marked}
+use Rattle.ssb_pipeline.specs.Part.{has}
+use Rattle.ssb_pipeline.proofs.RangeFacts.{itself}
+
+-- a marked number is that of a marked place
+pub place-of : (a : ℕ) (bs : List Bool) (i : ℕ) → has (marked a bs) i ≡ true → (k : ℕ) × (i ≡ a + k) × (slice_get bs k ≡ Some true)
+place-of a [] i h = absurd (true≢false (sym h))
+place-of a (true ∷ bs) i h = by (nat_eq i a) refl (place-of (a + 1) bs i)
+  where
+    by : (b : Bool) → nat_eq i a ≡ b → (has (marked (a + 1) bs) i ≡ true → (k : ℕ) × (i ≡ a + 1 + k) × (slice_get bs k ≡ Some true)) → (k : ℕ) × (i ≡ a + k) × (slice_get (true ∷ bs) k ≡ Some true)
+    by true e rest = let same = eqb-true i a e in (0, omega (arith, same), refl)
+    by false e rest = let r = rest (sym (ap (λ b. b || has (marked (a + 1) bs) i) e) ∙ h) in let at = r.1 in (suc r.0, omega (arith, at), r.2)
+place-of a (false ∷ bs) i h = let r = place-of (a + 1) bs i h in let at = r.1 in (suc r.0, omega (arith, at), r.2)
+
+-- the number of a marked place is marked
+pub marked-has : (a : ℕ) (bs : List Bool) (k i : ℕ) → i ≡ a + k → slice_get bs k ≡ Some true → has (marked a bs) i ≡ true
+marked-has a [] k i e h = cc h
+marked-has a (true ∷ bs) zero i e h = ap (λ b. b || has (marked (a + 1) bs) i) (itself i a (omega (arith, e)))
+marked-has a (false ∷ bs) zero i e h = let no : false ≡ true = cc in absurd (true≢false (sym no))
+marked-has a (true ∷ bs) (suc k) i e h = ap (λ b. nat_eq i a || b) (marked-has (a + 1) bs k i (omega (arith, e)) h) ∙ or-true (nat_eq i a)
+  where
+    or-true : (b : Bool) → (b || true) ≡ true
+    or-true true = refl
+    or-true false = refl
+marked-has a (false ∷ bs) (suc k) i e h = marked-has (a + 1) bs k i (omega (arith, e)) h
+
+-- the number of a place that is not marked is not
+pub marked-lacks : (a : ℕ) (bs : List Bool) (k i : ℕ) → i ≡ a + k → slice_get bs k ≡ Some false → has (marked a bs) i ≡ false
+marked-lacks a bs k i e h = false_from_ne_true (has (marked a bs) i) (λ m.
+    let r = place-of a bs i m in
+    let at = r.1 in
+    let same : r.0 ≡ k = omega (arith, e, at) in
+    let both : Some false ≡ Some true = sym h ∙ ap (slice_get bs) (sym same) ∙ r.2 in
+    let no : false ≡ true = cc in
+    true≢false (sym no))
+
+none-same : (x a : ℕ) (bs : List Bool) → x < a → AllByRecursion (λ y. nat_eq x y ≡ false) (marked a bs)
+none-same x a [] h = tt
+none-same x a (true ∷ bs) h = (false_from_ne_true (nat_eq x a) (λ e. less x a h (eqb-true x a e)), none-same x (a + 1) bs (omega (arith, h)))
+  where
+    less : (x a : ℕ) → x < a → x ≡ a → ⊥
+    less x a h e = omega (arith, h, e)
+none-same x a (false ∷ bs) h = none-same x (a + 1) bs (omega (arith, h))
+
+pub distinct-marked : (a : ℕ) (bs : List Bool) → IsDistinct nat_eq (marked a bs)
+unfolding IsDistinct
+distinct-marked a [] = tt
+distinct-marked a (true ∷ bs) = (none-same a (a + 1) bs (omega arith), distinct-marked (a + 1) bs)
+distinct-marked a (false ∷ bs) = distinct-marked (a + 1) bs
+
+-- ---- what is had of a list of numbers, number by number
+
+module _ {X : Type 0} (F : List ℕ → List X) (nil : F [] ≡ []) (cons : (i : ℕ) (is : List ℕ) → F (i ∷ is) ≡ F (i ∷ []) ++ F is) where
+  -- one place more is marked
+  pub one-more : (a : ℕ) (bs : List Bool) (k i : ℕ) → i ≡ a + k → slice_get bs k ≡ Some false → IsPermutation (F (marked a bs) ++ F (i ∷ [])) (F (marked a (slice_set bs k true)))
+  one-more a [] k i e h = cc h
+  one-more a (true ∷ bs) zero i e h = let no : true ≡ false = cc in absurd (true≢false no)
+  one-more a (false ∷ bs) zero i e h =
+      let here : i ≡ a = omega (arith, e) in
+      subst (λ n. IsPermutation (F (marked (a + 1) bs) ++ F (n ∷ [])) (F (a ∷ marked (a + 1) bs))) (sym here)
+      (subst (IsPermutation (F (marked (a + 1) bs) ++ F (a ∷ []))) (sym (cons a (marked (a + 1) bs))) (IsPermutation-append_comm (F (marked (a + 1) bs)) (F (a ∷ []))))
+  one-more a (true ∷ bs) (suc k) i e h =
+      let rest = one-more (a + 1) bs k i (omega (arith, e)) h in
+      let left : F (a ∷ marked (a + 1) bs) ++ F (i ∷ []) ≡ F (a ∷ []) ++ (F (marked (a + 1) bs) ++ F (i ∷ [])) =
+      ap (λ t. t ++ F (i ∷ [])) (cons a (marked (a + 1) bs)) ∙ append_assoc (F (a ∷ [])) (F (marked (a + 1) bs)) (F (i ∷ [])) in
+      let both = IsPermutation-append_right (F (a ∷ [])) (F (marked (a + 1) bs) ++ F (i ∷ [])) (F (marked (a + 1) (slice_set bs k true))) rest in
+      subst (λ t. IsPermutation t (F (a ∷ marked (a + 1) (slice_set bs k true)))) (sym left) (subst (IsPermutation (F (a ∷ []) ++ (F (marked (a + 1) bs) ++ F (i ∷ [])))) (sym (cons a (marked (a + 1) (slice_set bs k true)))) both)
+  one-more a (false ∷ bs) (suc k) i e h = one-more (a + 1) bs k i (omega (arith, e)) h
+
+  -- what is marked is no more than the whole
+  pub no-more : (a : ℕ) (bs : List Bool) → length (F (marked a bs)) ≤ length (F (range_with_len a (length bs)))
+  no-more a [] = omega arith
+  no-more a (true ∷ bs) =
+      let rest = no-more (a + 1) bs in
+      let left = ap length (cons a (marked (a + 1) bs)) ∙ length-append (F (a ∷ [])) (F (marked (a + 1) bs)) in
+      let right = ap length (cons a (range_with_len (a + 1) (length bs))) ∙ length-append (F (a ∷ [])) (F (range_with_len (a + 1) (length bs))) in
+      omega (arith, rest, left, right)
+  no-more a (false ∷ bs) =
+      let rest = no-more (a + 1) bs in
+      let right = ap length (cons a (range_with_len (a + 1) (length bs))) ∙ length-append (F (a ∷ [])) (F (range_with_len (a + 1) (length bs))) in
+      omega (arith, rest, right)

@@ -1,0 +1,30 @@
+use Rattle.std.proofs.Common.{◌≡◌, ◌<◌, ◌^◌, ◌-◌, ◌+◌, ℕ, Some, false, true, length, refl, rules, arith}
+use Rattle.std.specs.Prelude.{slice_get}
+use Rattle.std.specs.Arc.{arc_value}
+use Rattle.ssb_job.specs.Kept.{fact_rows}
+use Rattle.ssb_pipeline.specs.Morsels.{morsel_count, morsel_cut}
+use Rattle.ssb_pipeline.proofs.OpeningFacts.{free-all, none-marked, opens}
+use Rattle.ssb_pipeline.proofs.PartFacts.{lawful-of}
+use Rattle.ssb_pipeline.proofs.part.Part.open.Goals as goal
+
+pub invariant_of-result : goal.invariant_of-result
+invariant_of-result c =
+    let j = arc_value c.args.job in
+    let section = c.requires.section in
+    let begins : c.morsel_cut-first.result ≡ morsel_cut (morsel_count (fact_rows j) c.args.morsel_size) c.args.sections c.args.section = search rules in
+    let ends : c.morsel_cut-end.result ≡ morsel_cut (morsel_count (fact_rows j) c.args.morsel_size) c.args.sections (c.args.section + 1) = search rules in
+    let many : length c.in_ok-marks.marks.items ≡ c.morsel_cut-end.result - c.morsel_cut-first.result = search rules in
+    let free : (i : ℕ) → slice_get c.in_ok-marks.marks.items i ≡ Some true → ⊥ = free-all _ c.in_ok-marks.marks.items (c.in_ok-marks.ensures.items_if_clones_equal (λ b e. e)) in
+    let bound : c.morsel_cut-end.result < 2 ^ 32 = search rules in
+    let rows : fact_rows j < 2 ^ 32 = search rules in
+    let g = c.empty-groups.ensures in
+    opens j c.args.morsel_size c.args.section c.args.sections c.morsel_cut-first.result c.morsel_cut-end.result c.in_ok-marks.marks.items c.empty-groups.result (omega (arith, section)) begins ends many free bound rows g.stands (search rules) (search rules) g.counted
+
+pub returns-clause-opening : goal.returns-clause-opening
+returns-clause-opening c =
+    let free : (i : ℕ) → slice_get c.in_ok-marks.marks.items i ≡ Some true → ⊥ = free-all _ c.in_ok-marks.marks.items (c.in_ok-marks.ensures.items_if_clones_equal (λ b e. e)) in
+    record { job = refl; size = refl; section = refl; sections = refl; handed = refl; returned = none-marked c.morsel_cut-first.result c.in_ok-marks.marks.items free; gave_up = refl }
+
+pub returns-clause-lawful : goal.returns-clause-lawful
+returns-clause-lawful c =
+    lawful-of (arc_value c.args.job) c.args.morsel_size c.args.section c.args.sections c.morsel_cut-first.result 0 0 c.in_ok-marks.marks.items false c.empty-groups.result (invariant_of-result c)

@@ -1,0 +1,5 @@
+pub mod Morsels
+pub mod Joined
+pub mod State
+pub mod Part
+pub mod Marks

@@ -1,0 +1,93 @@
+-- One section's part of the work: what was handed out, what came back, and the groups over what came back. And a core run: the events that change a part.
+-- Source: own. It knows no marks and no counters.
+use Rattle.std.specs.Prelude.{◌≡◌, ◌≤◌, ◌++◌, ◌∷◌, [], ◌⊎◌, ℕ, Bool, true, false, nat_eq, List, Option, None, Some, Result, Ok, Err, ⊤}
+use Rattle.std.specs.List.{IsDistinct, list_any}
+use Rattle.std.specs.List.Sorted.{IsPermutation}
+use Rattle.ssb_job.specs.Kept.{AreOneJob, JobShape, fact_rows}
+use Rattle.ssb_groups.specs.Stands.{GroupMap, Stands}
+use Rattle.ssb_pipeline.specs.Joined.{seen_in}
+use Rattle.ssb_pipeline.specs.Morsels.{morsel_count, section}
+use Rattle.ssb_pipeline.specs.State.{PartialState, TicketState}
+use Rattle.ssb_pipeline.specs.declared.fault.ReturnFault.{ReturnFault}
+use Rattle.ssb_pipeline.specs.declared.fault.ReturnFault.TheVariants as fault
+
+-- A part: its job, the size of a morsel, its section of so many, the numbers handed out, those that came back, whether a ticket was given up, and the
+-- groups over those that came back.
+pub record PartState : Type 0 where
+  pub job : JobShape
+  pub size : ℕ
+  pub section : ℕ
+  pub sections : ℕ
+  pub handed : List ℕ
+  pub returned : List ℕ
+  pub gave_up : Bool
+  pub groups : GroupMap
+
+-- whether a number is one of these
+abbrev pub has : List ℕ → ℕ → Bool
+has xs x = list_any (nat_eq x) xs
+
+-- the morsels of its section
+abbrev pub ours : PartState → List ℕ
+ours p = section (morsel_count (fact_rows p.job) p.size) p.sections p.section
+
+-- the handed-out numbers are distinct members of the section, the returned ones are distinct and among them, and the groups stand for the kept
+-- combinations of the returned morsels
+pub record IsLawful (p : PartState) : Type 0 where
+  pub handed : IsDistinct nat_eq p.handed
+  pub within : (i : ℕ) → has p.handed i ≡ true → has (ours p) i ≡ true
+  pub returned : IsDistinct nat_eq p.returned
+  pub among : (i : ℕ) → has p.returned i ≡ true → has p.handed i ≡ true
+  pub job : AreOneJob p.groups.job p.job
+  pub stands : Stands p.groups (seen_in p.job p.size p.returned)
+
+-- nothing was handed out, and nothing came back
+pub record IsOpening (j : JobShape) (m s k : ℕ) (p : PartState) : Type 0 where
+  pub job : AreOneJob p.job j
+  pub size : p.size ≡ m
+  pub section : p.section ≡ s
+  pub sections : p.sections ≡ k
+  pub handed : p.handed ≡ []
+  pub returned : p.returned ≡ []
+  pub gave_up : p.gave_up ≡ false
+
+-- ---- events
+
+-- the least number of the section that was not handed out is handed out, where no ticket was given up
+pub record Hands (i : ℕ) (p q : PartState) : Type 0 where
+  pub going : p.gave_up ≡ false
+  pub member : has (ours p) i ≡ true
+  pub fresh : has p.handed i ≡ false
+  pub least : (j : ℕ) → has (ours p) j ≡ true → has p.handed j ≡ false → i ≤ j
+  pub after : q ≡ record p { handed = p.handed ++ i ∷ [] }
+
+-- a number that was handed out and had not come back comes back, with the groups over its morsel
+pub record Returns (i : ℕ) (p q : PartState) : Type 0 where
+  pub handed : has p.handed i ≡ true
+  pub fresh : has p.returned i ≡ false
+  pub returned : IsPermutation (p.returned ++ i ∷ []) q.returned
+  pub job : AreOneJob q.groups.job q.job
+  pub stands : Stands q.groups (seen_in q.job q.size q.returned)
+  pub after : q ≡ record p { returned = q.returned; groups = q.groups }
+
+-- a ticket is given up
+abbrev pub GivesUp : PartState → PartState → Type 0
+GivesUp p q = q ≡ record p { gave_up = true }
+
+-- ---- calls
+
+-- a ticket is for a morsel that the part handed out
+abbrev pub IsHandedOut : PartState → TicketState → Type 0
+IsHandedOut p t = (t.size ≡ p.size) × (has p.handed t.morsel ≡ true)
+
+-- what handing out answers: a ticket of the next morsel; or none, where all are handed out or a ticket was given up
+abbrev pub HandsOut : PartState → Option TicketState → PartState → Type 0
+HandsOut p None q = (q ≡ p) × ((p.gave_up ≡ true) ⊎ ((i : ℕ) → has (ours p) i ≡ true → has p.handed i ≡ true))
+HandsOut p (Some t) q = Hands t.morsel p q × AreOneJob t.job p.job × (t.size ≡ p.size)
+
+-- what giving back answers, exactly where: the partial is refused where the part handed out no such ticket, else where its morsel came back before; else it is taken, or memory is refused. Refused, the part is as before, and the partial comes back.
+abbrev pub GivesBack : PartState → PartialState → Result ⊤ ReturnFault → PartState → Type 0
+GivesBack p x (Ok u) q = IsHandedOut p x.ticket × Returns x.ticket.morsel p q
+GivesBack p x (Err (fault.NotHandedOut y)) q = (IsHandedOut p x.ticket → ⊥) × (y ≡ x) × (q ≡ p)
+GivesBack p x (Err (fault.Doubled y)) q = IsHandedOut p x.ticket × (has p.returned x.ticket.morsel ≡ true) × (y ≡ x) × (q ≡ p)
+GivesBack p x (Err (fault.Memory y)) q = IsHandedOut p x.ticket × (has p.returned x.ticket.morsel ≡ false) × (y ≡ x) × (q ≡ p)

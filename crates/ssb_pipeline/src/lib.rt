@@ -1,0 +1,15 @@
+//! Morsels: the work on a job, cut into pieces that are done one by one.
+#![tactic(auto)]
+
+mod fault;
+mod grouping;
+mod law;
+mod part;
+mod partial;
+mod ticket;
+
+pub use fault::ReturnFault;
+pub use law::{morsels_in_sections, rows_in_morsels};
+pub use part::Part;
+pub use partial::Partial;
+pub use ticket::Ticket;

@@ -1,0 +1,192 @@
+// One section's part of the work.
+
+ghost use Rattle.std.specs.Prelude.{◌≡◌, ◌<◌, ◌≤◌, ◌^◌, IfOk, length};
+ghost use Rattle.std.specs.Arc.{arc_value};
+ghost use Rattle.ssb_pipeline.specs.Morsels.{morsel_cut};
+ghost use Rattle.ssb_pipeline.specs.Part.{GivesBack, GivesUp, HandsOut, IsLawful, IsOpening, has};
+ghost use Rattle.ssb_job.specs.Kept.{AreOneJob};
+
+use crate::fault::ReturnFault;
+use crate::partial::Partial;
+use crate::ticket::Ticket;
+use ssb_groups::Groups;
+use ssb_job::Job;
+use std::alloc::{AllocError, Global};
+use std::marker::Model;
+use std::sync::Arc;
+
+/// One section of a job's morsels: which were handed out, which came back, and the groups over those.
+/// It hands out each of them once.
+#[derive(Drop)]
+pub struct Part {
+    job: Arc<Job, Global>,
+    size: u32,
+    section: u32,
+    sections: u32,
+    // The section's first morsel, and how many of its morsels were handed out.
+    first: u32,
+    next: u32,
+    // Of each morsel of the section whether it came back, and how many did.
+    marks: Vec<bool>,
+    back: u32,
+    gave_up: bool,
+    groups: Groups,
+}
+
+impl Model for Part {
+    ghost use Rattle.std.specs.Arc.{arc_value};
+    ghost use Rattle.std.specs.List.{range_with_len};
+    ghost use Rattle.ssb_pipeline.specs.Marks.{IsKept, marked};
+    ghost use Rattle.ssb_pipeline.specs.Part.{PartState};
+
+    ghost Value = { PartState };
+
+    ghost use Rattle.ssb_bind.specs.contracts.condition.BoundCondition as condition;
+    ghost use Rattle.ssb_bind.specs.contracts.expr.BoundExpr as expr;
+    ghost use Rattle.std.specs.Coded.{codes};
+
+    ghost coded = { Prim.hlevel (codes, condition.the_row.coded, expr.the_row.coded) };
+
+    ghost view = { λ p. record { job = arc_value p.job; size = p.size; section = p.section; sections = p.sections; handed = range_with_len p.first p.next; returned = marked p.first p.marks.items; gave_up = p.gave_up; groups = p.groups } };
+
+    ghost invariant = { λ p. IsKept (arc_value p.job) p.size p.section p.sections p.first p.next p.marks.items p.back p.groups };
+}
+
+// Where a section begins, and the one before it ends.
+fn morsel_cut(morsels: u32, sections: u32, section: u32) -> u32
+    requires some { 0 < sections }
+    requires within { section ≤ sections }
+    ensures { result ≡ morsel_cut morsels sections section }
+{
+    (u64::from(section) * u64::from(morsels) / u64::from(sections)) as u32
+}
+
+impl Part {
+    /// A part that hands out the morsels of a section, of which nothing was handed out. A morsel has
+    /// so many rows; the section is one of so many, from 0. It makes the room for every later mark.
+    ///
+    /// # Errors
+    ///
+    /// Only where a growth was refused.
+    pub fn open(
+        alloc: Global,
+        job: Arc<Job, Global>,
+        morsel_size: u32,
+        section: u32,
+        sections: u32,
+    ) -> Result<Part, AllocError>
+        requires size { 0 < morsel_size }
+        requires section { section < sections }
+        ensures opening { IfOk result (IsOpening (arc_value job) morsel_size section sections) }
+        ensures lawful { IfOk result IsLawful }
+    {
+        let morsels = job.fact_rows().div_ceil(morsel_size);
+        let first = morsel_cut(morsels, sections, section);
+        let end = morsel_cut(morsels, sections, section + 1);
+        let marks = Vec::from_elem(alloc, false, (end - first) as usize)?;
+        let groups = Groups::empty(alloc, &job);
+        Ok(Part {
+            job,
+            size: morsel_size,
+            section,
+            sections,
+            first,
+            next: 0,
+            marks,
+            back: 0,
+            gave_up: false,
+            groups,
+        })
+    }
+
+    /// A part is lawful: its handed-out morsels are disjoint, the returned ones are among them, and its
+    /// groups stand for the kept combinations of those.
+    pub fn lawful(&self)
+        ensures { IsLawful self.now }
+    {
+        let _ = &self.next;
+    }
+
+    /// A ticket of the section's least morsel that was not handed out; none where all were, or a ticket
+    /// was given up.
+    pub fn hand_out(&mut self) -> Option<Ticket>
+        ensures { HandsOut self.old result self.new }
+    {
+        if self.gave_up || self.next as usize == self.marks.len() {
+            return None;
+        }
+        let ticket = Ticket::new(&self.job, self.size, self.first + self.next);
+        self.next += 1;
+        Some(ticket)
+    }
+
+    // Whether this number was handed out.
+    fn was_handed(&self, morsel: u32) -> bool
+        ensures { result ≡ has self.now.handed morsel }
+    {
+        self.first <= morsel && morsel - self.first < self.next
+    }
+
+    /// Takes the groups of a morsel that was handed out.
+    ///
+    /// # Errors
+    ///
+    /// `NotHandedOut` where the part handed out no such ticket, `Doubled` where the morsel came back
+    /// before, `Memory` where a growth was refused. The part is as before, and the partial comes back.
+    pub fn give_back(&mut self, partial: Partial) -> Result<(), ReturnFault>
+        requires one_job { AreOneJob partial.ticket.job self.old.job }
+        ensures { GivesBack self.old partial result self.new }
+    {
+        let morsel = partial.morsel();
+        if partial.size() != self.size || !self.was_handed(morsel) {
+            return Err(ReturnFault::NotHandedOut(partial));
+        }
+        let place = (morsel - self.first) as usize;
+        if self.marks[place] {
+            return Err(ReturnFault::Doubled(partial));
+        }
+        match partial.merge_into(&mut self.groups) {
+            Ok(()) => {
+                self.marks[place] = true;
+                self.back += 1;
+                Ok(())
+            }
+            Err(partial) => Err(ReturnFault::Memory(partial)),
+        }
+    }
+
+    /// Gives a ticket up: no morsel is handed out any more.
+    pub fn give_up(&mut self, _ticket: Ticket)
+        ensures { GivesUp self.old self.new }
+    {
+        self.gave_up = true;
+    }
+
+    /// How many morsels were handed out.
+    pub fn handed(&self) -> u32
+        ensures { result ≡ length self.now.handed }
+    {
+        self.next
+    }
+
+    /// How many morsels came back.
+    pub fn returned(&self) -> u32
+        ensures { result ≡ length self.now.returned }
+    {
+        self.back
+    }
+
+    /// Whether a ticket was given up.
+    pub fn gave_up(&self) -> bool
+        ensures { result ≡ self.now.gave_up }
+    {
+        self.gave_up
+    }
+
+    /// The groups over the morsels that came back.
+    pub fn into_groups(self) -> Groups
+        ensures { result ≡ self.groups }
+    {
+        self.groups
+    }
+}

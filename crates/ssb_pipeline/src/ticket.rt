@@ -1,0 +1,57 @@
+// What is handed out.
+
+ghost use Rattle.std.specs.Prelude.{◌≡◌};
+
+use ssb_job::Job;
+use std::marker::Model;
+use std::snapshot::Snapshot;
+
+/// A morsel of a job that was handed out. It names the job in contracts alone, where it is a
+/// [`Snapshot`], which has no bytes.
+#[derive(Drop)]
+pub struct Ticket {
+    job: Snapshot<Job>,
+    size: u32,
+    morsel: u32,
+}
+
+impl Model for Ticket {
+    ghost use Rattle.ssb_pipeline.specs.State.{TicketState};
+
+    ghost Value = { TicketState };
+
+    ghost use Rattle.ssb_bind.specs.contracts.condition.BoundCondition as condition;
+    ghost use Rattle.ssb_bind.specs.contracts.expr.BoundExpr as expr;
+    ghost use Rattle.std.specs.Coded.{codes};
+
+    ghost coded = { Prim.hlevel (codes, condition.the_row.coded, expr.the_row.coded) };
+
+    ghost view = { λ t. record { job = t.job.value; size = t.size; morsel = t.morsel } };
+}
+
+impl Ticket {
+    // The ticket of this morsel, of so many rows, of a job.
+    pub(crate) fn new(job: &Job, size: u32, morsel: u32) -> Ticket
+        ensures { result ≡ record { job = job.now; size = size; morsel = morsel } }
+    {
+        Ticket {
+            job: Snapshot::of(job),
+            size,
+            morsel,
+        }
+    }
+
+    /// The number of the morsel, from 0.
+    pub fn morsel(&self) -> u32
+        ensures { result ≡ self.now.morsel }
+    {
+        self.morsel
+    }
+
+    // How many rows each morsel has, but for the last.
+    pub(crate) fn size(&self) -> u32
+        ensures { result ≡ self.now.size }
+    {
+        self.size
+    }
+}

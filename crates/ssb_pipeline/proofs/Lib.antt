@@ -7,3 +7,5 @@ pub mod PartFacts
 pub mod PartialFacts
 pub mod Probing
 pub mod RangeFacts
+pub mod RunFacts
+pub mod SetFacts

@@ -91,3 +91,28 @@ GivesBack p x (Ok u) q = IsHandedOut p x.ticket × Returns x.ticket.morsel p q
 GivesBack p x (Err (fault.NotHandedOut y)) q = (IsHandedOut p x.ticket → ⊥) × (y ≡ x) × (q ≡ p)
 GivesBack p x (Err (fault.Doubled y)) q = IsHandedOut p x.ticket × (has p.returned x.ticket.morsel ≡ true) × (y ≡ x) × (q ≡ p)
 GivesBack p x (Err (fault.Memory y)) q = IsHandedOut p x.ticket × (has p.returned x.ticket.morsel ≡ false) × (y ≡ x) × (q ≡ p)
+
+-- ---- core runs
+
+pub data Event : Type 0 where
+  hand : ℕ → Event
+  back : ℕ → Event
+  give_up : Event
+
+abbrev pub Happens : Event → PartState → PartState → Type 0
+Happens (hand i) p q = Hands i p q
+Happens (back i) p q = Returns i p q
+Happens give_up p q = GivesUp p q
+
+-- what a list of events leads to
+abbrev pub Runs : List Event → PartState → PartState → Type 0
+Runs [] p q = q ≡ p
+Runs (e ∷ es) p q = (m : PartState) × Happens e p m × Runs es m q
+
+-- a law: a core run keeps a part lawful
+abbrev pub RunsStayLawful : Type 0
+RunsStayLawful = (es : List Event) (p q : PartState) → IsLawful p → Runs es p q → IsLawful q
+
+-- a law: where all of its section came back, a lawful part's groups stand for the kept combinations of the whole section
+abbrev pub WholeSectionsStand : Type 0
+WholeSectionsStand = (p : PartState) → IsLawful p → ((i : ℕ) → has (ours p) i ≡ true → has p.returned i ≡ true) → Stands p.groups (seen_in p.job p.size (ours p))

@@ -1,6 +1,7 @@
-// Laws of how the work is cut.
+// Laws of how the work is cut, and of what parts come to.
 
 ghost use Rattle.std.specs.Prelude.{ℕ};
+ghost use Rattle.ssb_pipeline.specs.Part.{RunsStayLawful, WholeSectionsStand};
 ghost use Rattle.ssb_pipeline.specs.Morsels.{RowsLieInOneMorsel, MorselsAreTheRows, MorselsLieInOneSection, SectionsAreTheMorsels};
 
 /// A law: each row of the fact table lies in just one morsel, and the morsels one after the other are
@@ -14,4 +15,11 @@ pub fn rows_in_morsels()
 pub fn morsels_in_sections()
     ensures one { (morsels sections : ℕ) → MorselsLieInOneSection morsels sections }
     ensures all { (morsels sections : ℕ) → SectionsAreTheMorsels morsels sections }
+{}
+
+/// A law: whatever a part hands out, takes back and records, in whatever order, it stays lawful; and
+/// where all of its section came back, its groups stand for the kept combinations of the section.
+pub fn core_runs()
+    ensures lawful { RunsStayLawful }
+    ensures whole { WholeSectionsStand }
 {}

@@ -9,3 +9,4 @@ pub mod Probing
 pub mod RangeFacts
 pub mod RunFacts
 pub mod SetFacts
+pub mod SweepFacts

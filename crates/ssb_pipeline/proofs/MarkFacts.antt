@@ -1,5 +1,5 @@
 -- The numbers of marked places.
-use Rattle.std.proofs.Common.{◌≡◌, ◌∙◌, ◌++◌, ◌∷◌, [], ◌≤◌, ◌<◌, ◌+◌, ◌||◌, ℕ, zero, suc, Bool, true, false, true≢false, nat_eq, List, length, Some, refl, sym, ap, subst, arith, append_assoc, length-append}
+use Rattle.std.proofs.Common.{◌≡◌, ◌∙◌, ◌++◌, ◌∷◌, [], ◌≤◌, ◌<◌, ◌+◌, ◌||◌, ℕ, zero, suc, Bool, true, false, true≢false, nat_eq, List, length, None, Some, refl, sym, ap, subst, arith, append_assoc, length-append}
 use Rattle.std.specs.Prelude.{slice_get, slice_set}
 use Rattle.std.specs.List.{AllByRecursion, IsDistinct, range_with_len}
 use Rattle.std.specs.List.Sorted.{IsPermutation}
@@ -40,6 +40,22 @@ marked-lacks a bs k i e h = false_from_ne_true (has (marked a bs) i) (λ m.
     let both : Some false ≡ Some true = sym h ∙ ap (slice_get bs) (sym same) ∙ r.2 in
     let no : false ≡ true = cc in
     true≢false (sym no))
+
+-- a number is marked as its place is
+pub mark-is : (a : ℕ) (bs : List Bool) (k i : ℕ) (b : Bool) → i ≡ a + k → slice_get bs k ≡ Some b → b ≡ has (marked a bs) i
+mark-is a bs k i true e h = sym (marked-has a bs k i e h)
+mark-is a bs k i false e h = sym (marked-lacks a bs k i e h)
+
+pub mark-none : (a : ℕ) (bs : List Bool) (k i : ℕ) → i ≡ a + k → slice_get bs k ≡ None → false ≡ has (marked a bs) i
+mark-none a bs k i e h = sym (false_from_ne_true (has (marked a bs) i) (λ m.
+    let r = place-of a bs i m in
+    let at = r.1 in
+    let same : r.0 ≡ k = omega (arith, e, at) in
+    let both : None ≡ Some true = sym h ∙ ap (slice_get bs) (sym same) ∙ r.2 in
+    cc both))
+
+pub mark-before : (a : ℕ) (bs : List Bool) (i : ℕ) → i < a → false ≡ has (marked a bs) i
+mark-before a bs i l = sym (false_from_ne_true (has (marked a bs) i) (λ m. let r = place-of a bs i m in let at = r.1 in absurd (omega (arith, l, at))))
 
 none-same : (x a : ℕ) (bs : List Bool) → x < a → AllByRecursion (λ y. nat_eq x y ≡ false) (marked a bs)
 none-same x a [] h = tt

@@ -65,7 +65,17 @@ module _ (j : JobShape) (size s k first : ℕ) where
   -- one number more was handed out
   pub kept-next : (next back : ℕ) (marks : List Bool) (g : GroupMap) → IsKept j size s k first next marks back g → next < length marks → IsKept j size s k first (next + 1) marks back g
   kept-next next back marks g h lt = record {
-    many = h.many; begins = h.begins; ends = h.ends; fits = omega (arith, lt); came = h.came; job = h.job; width = h.width; stands = h.stands; few = h.few; bound = h.bound; room = h.room;
+    many = h.many;
+    begins = h.begins;
+    ends = h.ends;
+    fits = omega (arith, lt);
+    came = h.came;
+    job = h.job;
+    width = h.width;
+    stands = h.stands;
+    few = h.few;
+    bound = h.bound;
+    room = h.room;
     below = λ i at. let b = h.below i at in omega (arith, b);
   }
 

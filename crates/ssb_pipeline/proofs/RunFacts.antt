@@ -1,19 +1,15 @@
 -- Core runs.
-use Rattle.std.proofs.Common.{◌≡◌, ◌∙◌, ◌++◌, ◌∷◌, [], ℕ, Bool, true, false, nat_eq, List, ◌⊎◌, inl, inr, refl, sym, ap, subst}
-use Rattle.std.specs.List.{IsDistinct}
-use Rattle.std.specs.List.Sorted.{IsPermutation}
+use Rattle.std.proofs.Common.{◌≡◌, ◌∙◌, ◌++◌, ◌∷◌, [], ℕ, Bool, true, false, nat_eq, inl, inr, refl, sym, ap, subst}
 use Rattle.std.proofs.lemmas.Bool.{eqb-true}
 use Rattle.std.proofs.lemmas.List.Sorted.{list_any-IsPermutation}
 use Rattle.std.proofs.lemmas.Map.Keys.{IsDistinct-IsPermutation}
-use Rattle.ssb_job.specs.Kept.{fact_rows}
 use Rattle.ssb_groups.specs.Stands.{Stands}
 use Rattle.ssb_groups.proofs.Permuted.{any_order}
 use Rattle.ssb_pipeline.specs.Joined.{seen_in}
-use Rattle.ssb_pipeline.specs.Morsels.{morsel_count, morsel_cut}
-use Rattle.ssb_pipeline.specs.Part.{Event, GivesUp, Hands, Happens, IsLawful, PartState, Returns, Runs, RunsStayLawful, WholeSectionsStand, back, give_up, hand, has, ours}
+use Rattle.ssb_pipeline.specs.Part.{Event, GivesUp, Hands, Happens, IsLawful, PartState, Returns, RunsStayLawful, WholeSectionsStand, back, give_up, hand, has, ours}
 use Rattle.ssb_pipeline.proofs.JoinedFacts.{seen-cons, seen-none}
 use Rattle.ssb_pipeline.proofs.RangeFacts.{distinct-range, itself}
-use Rattle.ssb_pipeline.proofs.SetFacts.{distinct-last, has-last, has-left, has-right, same-set}
+use Rattle.ssb_pipeline.proofs.SetFacts.{distinct-last, has-last, has-left, same-set}
 
 handed-lawful : (i : ℕ) (p q : PartState) → IsLawful p → Hands i p q → IsLawful q
 handed-lawful i p q l h = subst IsLawful (sym h.after) (record {

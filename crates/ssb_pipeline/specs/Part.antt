@@ -74,6 +74,16 @@ pub record Returns (i : ℕ) (p q : PartState) : Type 0 where
 abbrev pub GivesUp : PartState → PartState → Type 0
 GivesUp p q = q ≡ record p { gave_up = true }
 
+-- a later state of the same part: nothing that was handed out or came back is lost, and a ticket that was given up stays so
+pub record Grows (p q : PartState) : Type 0 where
+  pub job : q.job ≡ p.job
+  pub size : q.size ≡ p.size
+  pub section : q.section ≡ p.section
+  pub sections : q.sections ≡ p.sections
+  pub gave_up : q.gave_up ≡ p.gave_up
+  pub handed : (i : ℕ) → has p.handed i ≡ true → has q.handed i ≡ true
+  pub returned : (i : ℕ) → has p.returned i ≡ true → has q.returned i ≡ true
+
 -- ---- calls
 
 -- a ticket is for a morsel that the part handed out

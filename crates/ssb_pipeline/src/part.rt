@@ -1,9 +1,10 @@
 // One section's part of the work.
 
-ghost use Rattle.std.specs.Prelude.{◌≡◌, ◌<◌, ◌≤◌, ◌^◌, IfOk, length};
+ghost use Rattle.std.specs.Prelude.{◌≡◌, ◌<◌, ◌≤◌, ◌-◌, ℕ, true, false, IfOk, OnErr, OnOk, length};
+ghost use Rattle.std.specs.List.{range_with_len};
 ghost use Rattle.std.specs.Arc.{arc_value};
 ghost use Rattle.ssb_pipeline.specs.Morsels.{morsel_cut};
-ghost use Rattle.ssb_pipeline.specs.Part.{GivesBack, GivesUp, HandsOut, IsLawful, IsOpening, has};
+ghost use Rattle.ssb_pipeline.specs.Part.{GivesBack, GivesUp, Grows, HandsOut, IsLawful, IsOpening, Returns, has, ours};
 ghost use Rattle.ssb_job.specs.Kept.{AreOneJob};
 
 use crate::fault::ReturnFault;
@@ -19,6 +20,7 @@ use std::sync::Arc;
 /// It hands out each of them once.
 #[derive(Drop)]
 pub struct Part {
+    alloc: Global,
     job: Arc<Job, Global>,
     size: u32,
     section: u32,
@@ -86,6 +88,7 @@ impl Part {
         let marks = Vec::from_elem(alloc, false, (end - first) as usize)?;
         let groups = Groups::empty(alloc, &job);
         Ok(Part {
+            alloc,
             job,
             size: morsel_size,
             section,
@@ -153,6 +156,76 @@ impl Part {
             }
             Err(partial) => Err(ReturnFault::Memory(partial)),
         }
+    }
+
+    // The section's first morsel, and the one behind its last.
+    fn bounds(&self) -> (u32, u32)
+        ensures order { result.0 ≤ result.1 }
+        ensures ours { ours self.now ≡ range_with_len result.0 (result.1 - result.0) }
+    {
+        (self.first, self.first + self.marks.len() as u32)
+    }
+
+    // Hands out all of the section that was not handed out, to the caller.
+    fn hand_out_all(&mut self)
+        ensures { self.new ≡ record self.old { handed = ours self.old } }
+    {
+        self.next = self.marks.len() as u32;
+    }
+
+    // Whether a morsel came back.
+    fn is_back(&self, morsel: u32) -> bool
+        ensures { result ≡ has self.now.returned morsel }
+    {
+        if morsel < self.first {
+            return false;
+        }
+        match self.marks.get((morsel - self.first) as usize) {
+            Some(mark) => *mark,
+            None => false,
+        }
+    }
+
+    // Does a morsel that was handed out and did not come back. Refused, the part is as before.
+    fn bring_back(&mut self, morsel: u32) -> Result<(), AllocError>
+        requires handed { has self.old.handed morsel ≡ true }
+        requires fresh { has self.old.returned morsel ≡ false }
+        ensures back { OnOk result (Returns morsel self.old self.new) }
+        ensures err { OnErr result (self.new ≡ self.old) }
+    {
+        let ticket = Ticket::new(&self.job, self.size, morsel);
+        match Partial::of(self.alloc, &self.job, ticket) {
+            Ok(partial) => match self.give_back(partial) {
+                Ok(()) => Ok(()),
+                Err(_) => Err(AllocError),
+            },
+            Err((_, refused)) => Err(refused),
+        }
+    }
+
+    /// Does all of the section that did not come back, in the caller's thread, also where a ticket was
+    /// given up.
+    ///
+    /// # Errors
+    ///
+    /// Only where a growth was refused. The part stands with what came back so far, and all of its
+    /// section may be handed out.
+    pub fn sweep(&mut self) -> Result<(), AllocError>
+        ensures grows { Grows self.old self.new }
+        ensures whole { OnOk result ((i : ℕ) → has (ours self.new) i ≡ true → has self.new.returned i ≡ true) }
+        ensures lawful { IsLawful self.new }
+    {
+        self.lawful();
+        self.hand_out_all();
+        self.lawful();
+        let (first, end) = self.bounds();
+        for morsel in first..end {
+            if !self.is_back(morsel) {
+                self.bring_back(morsel)?;
+                self.lawful();
+            }
+        }
+        Ok(())
     }
 
     /// Gives a ticket up: no morsel is handed out any more.

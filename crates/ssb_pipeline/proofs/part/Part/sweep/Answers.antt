@@ -1,0 +1,32 @@
+use Rattle.std.proofs.Common.{◌+◌, ◌∙◌, sym, subst}
+use Rattle.ssb_pipeline.specs.Part.{PartState}
+use Rattle.ssb_pipeline.proofs.SweepFacts.{IsSwept, all-done, begins, goes-on, next-handed, passes}
+use Rattle.ssb_pipeline.proofs.part.Part.sweep.Goals as goal
+use Rattle.ssb_pipeline.proofs.part.Part.sweep.Goals.{then-not-is_back+in_ok-bring_back, else-not-is_back}
+
+pub loop-morsel-init : goal.loop-morsel-init
+loop-morsel-init c = begins c.args.self.now c.hand_out_all.new.self c.bounds-first.result.0 c.bounds-first.result.1 c.lawful.ensures c.hand_out_all.ensures c.lawful-2.ensures c.bounds-first.ensures.ours
+
+pub bring_back-requires-clause-handed : goal.bring_back-requires-clause-handed
+bring_back-requires-clause-handed c =
+    let l = c.loop-morsel in
+    next-handed c.args.self.now l.self c.bounds-first.result.0 c.bounds-first.result.1 l.morsel l.invariant l.auto.morsel c.loop-morsel-test.true
+
+pub loop-morsel-preserved : goal.loop-morsel-preserved
+loop-morsel-preserved c =
+    let l = c.loop-morsel in
+    let first = c.bounds-first.result.0 in
+    let end = c.bounds-first.result.1 in
+    elim c.if-not-is_back.branch [
+      | then-not-is_back+in_ok-bring_back w ↦
+          subst (λ (q : PartState). IsSwept c.args.self.now q first end (l.morsel + 1)) (sym w.self-is)
+          (goes-on c.args.self.now l.self w.bring_back.new.self first end l.morsel l.invariant w.in_ok-bring_back.ensures.back w.lawful-then-not-is_back.ensures)
+      | else-not-is_back w ↦
+          subst (λ (q : PartState). IsSwept c.args.self.now q first end (l.morsel + 1)) (sym w.self-is)
+          (passes c.args.self.now l.self first end l.morsel l.invariant (sym c.is_back.ensures ∙ w.if-not-is_back.false))
+    ]
+
+pub returns-clause-whole : goal.returns-clause-whole
+returns-clause-whole c =
+    let l = c.loop-morsel in
+    all-done c.args.self.now l.self c.bounds-first.result.0 c.bounds-first.result.1 l.morsel l.invariant c.bounds-first.ensures.order c.loop-morsel-test.false

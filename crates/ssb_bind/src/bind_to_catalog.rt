@@ -49,6 +49,7 @@ pub fn bind(alloc: Global, catalog: &Catalog, select: Select) -> Result<Query, B
     ensures { spec.BindsTo catalog.now select result }
 {
     let parts = judged(alloc, catalog.tables(), &select);
+    // By a call, since the prover writes out all that a select holds where a scope's end lets go of it.
     drop(select);
     Ok(Query::new(parts?))
 }

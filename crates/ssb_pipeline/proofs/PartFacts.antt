@@ -62,28 +62,6 @@ module _ (j : JobShape) (size s k first : ℕ) where
     after = ap (λ hs. record { job = j; size = size; section = s; sections = k; handed = hs; returned = marked first marks; gave_up = gave; groups = g }) (range-last first next (next + 1) (first + next) (omega arith) refl);
   }
 
-  -- one number more was handed out
-  pub kept-next : (next back : ℕ) (marks : List Bool) (g : GroupMap) → IsKept j size s k first next marks back g → next < length marks → IsKept j size s k first (next + 1) marks back g
-  kept-next next back marks g h lt = record {
-    many = h.many;
-    begins = h.begins;
-    ends = h.ends;
-    fits = omega (arith, lt);
-    came = h.came;
-    job = h.job;
-    width = h.width;
-    stands = h.stands;
-    few = h.few;
-    bound = h.bound;
-    room = h.room;
-    below = λ i at. let b = h.below i at in omega (arith, b);
-  }
-
-  -- where all are handed out
-  pub all-handed : (next back : ℕ) (marks : List Bool) (g : GroupMap) → IsKept j size s k first next marks back g → next ≡ length marks
-      → (i : ℕ) → has (section (morsel_count (fact_rows j) size) k s) i ≡ true → has (range_with_len first next) i ≡ true
-  all-handed next back marks g h all i there = subst (λ n. has (range_with_len first n) i ≡ true) (sym all) (subst (λ xs. has xs i ≡ true) (ours-is next back marks g h) there)
-
   -- ---- a partial that comes back
 
   module _ (next back : ℕ) (marks : List Bool) (g : GroupMap) (h : IsKept j size s k first next marks back g) (x : PartialState) (p : ℕ) (is : x.ticket.morsel ≡ first + p) (free : slice_get marks p ≡ Some false)

@@ -197,6 +197,7 @@ impl Part {
         match Partial::of(self.alloc, &self.job, ticket) {
             Ok(partial) => match self.give_back(partial) {
                 Ok(()) => Ok(()),
+                // It was handed out and did not come back, so this is memory.
                 Err(_) => Err(AllocError),
             },
             Err((_, refused)) => Err(refused),

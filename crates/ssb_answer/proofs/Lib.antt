@@ -1,3 +1,4 @@
+pub mod Alone
 pub mod Asking
 pub mod Bridge
 pub mod EntryFacts
@@ -8,5 +9,4 @@ pub mod KnownLemmas
 pub mod Members
 pub mod OneReply
 pub mod Orders
-pub mod Probing
 pub mod Written

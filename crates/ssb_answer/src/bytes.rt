@@ -4,11 +4,14 @@ ghost use Rattle.std.specs.Prelude.{◌≡◌, ◌⊎◌, [], IfErr, IfOk, Ok, E
 ghost use Rattle.ssb_answer.specs.Reply.{IsOfContent, Replies};
 
 use crate::fault::AnswerFault;
-use crate::readers::run_plain;
+use crate::readers::run_alone;
 use crate::run_fault::RunFault;
 use crate::writer::Out;
 use ssb_load::{Catalog, LoadFault};
 use std::alloc::Global;
+
+/// How many rows a morsel has where nothing else is said.
+pub const DEFAULT_MORSEL_SIZE: u32 = 10_000;
 
 // A slice never fails a read, and a `Vec` fails a write for want of memory alone: any other fault than
 // one of the content is memory's.
@@ -37,7 +40,7 @@ fn content_fault(fault: RunFault) -> RunFault
 ///
 /// # Errors
 ///
-/// The faults of [`run_from`](crate::run_from), but no failed read and no failed write.
+/// The faults of [`run_alone_from`](crate::run_alone_from), but no failed read and no failed write.
 pub fn answer_bytes(
     alloc: Global,
     catalog: Catalog,
@@ -50,7 +53,7 @@ pub fn answer_bytes(
     ensures content { IfErr result IsOfContent }
 {
     let mut out = Out::new(Vec::new(alloc));
-    match run_plain(alloc, catalog, files, text, &mut out) {
+    match run_alone(alloc, catalog, files, text, DEFAULT_MORSEL_SIZE, &mut out) {
         Ok(()) => Ok(out.into_writer()),
         Err(fault) => Err(content_fault(fault)),
     }

@@ -1,13 +1,13 @@
 // The whole path over readers of std.
 
-ghost use Rattle.std.specs.Prelude.{◌≡◌, [], IfOk, List, Some, length, map, vec_len};
+ghost use Rattle.std.specs.Prelude.{◌≡◌, ◌<◌, [], IfOk, List, Some, length, map, vec_len};
 ghost use Rattle.ssb_load.specs.Files.{Bytes};
 ghost use Rattle.ssb_answer.specs.Reply.{Replies};
 ghost use Rattle.ssb_answer.specs.Running.{LeavesSink};
 
 use crate::run_fault::RunFault;
 use crate::sink::Sink;
-use crate::whole::run_from;
+use crate::whole::run_alone_from;
 use ssb_load::{Catalog, In, Source};
 use std::alloc::{AllocError, Global};
 use std::io::Read;
@@ -25,19 +25,21 @@ fn sources_of<R: Read + Drop>(alloc: Global, readers: Vec<R>) -> Result<Vec<In<R
 }
 
 /// Answers a query over the tables of a catalog, each read from its reader in the catalog's order, and
-/// writes the answer's rows: [`run_from`] over the readers.
+/// writes the answer's rows: [`run_alone_from`] over the readers.
 ///
 /// # Errors
 ///
-/// As of [`run_from`].
-pub fn run_plain<R: Read + Drop, W: Sink>(
+/// As of [`run_alone_from`].
+pub fn run_alone<R: Read + Drop, W: Sink>(
     alloc: Global,
     catalog: Catalog,
     readers: Vec<R>,
     text: &str,
+    morsel_size: u32,
     out: &mut W,
 ) -> Result<(), RunFault>
-    requires { vec_len readers ≡ length catalog }
+    requires readers { vec_len readers ≡ length catalog }
+    requires size { 0 < morsel_size }
     ensures replies { (files : List Bytes) → map R.remaining readers.items ≡ map Some files → Replies catalog files text.now result (W.taken out.old) (W.taken out.new) }
     ensures right { (files : List Bytes) × Replies catalog files text.now result (W.taken out.old) (W.taken out.new) }
     ensures sink { LeavesSink result (W.taken out.old) (W.taken out.new) (W.failures out.old) (W.failures out.new) (W.contents out.old) (W.contents out.new) }
@@ -45,5 +47,5 @@ pub fn run_plain<R: Read + Drop, W: Sink>(
     let Ok(mut sources) = sources_of(alloc, readers) else {
         return Err(RunFault::Memory);
     };
-    run_from(alloc, catalog, &mut sources, text, out)
+    run_alone_from(alloc, catalog, &mut sources, text, morsel_size, out)
 }

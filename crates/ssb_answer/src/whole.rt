@@ -1,6 +1,7 @@
 // The whole path, from the bytes of files to the bytes of the answer.
 
-ghost use Rattle.std.specs.Prelude.{◌≡◌, length};
+ghost use Rattle.std.specs.Prelude.{◌≡◌, ◌<◌, IfOk, length};
+ghost use Rattle.std.specs.Arc.{arc_value};
 ghost use Rattle.ssb_load.specs.Catalog.{IsCatalog};
 ghost use Rattle.ssb_answer.specs.Asking.{Asked, AnswersText};
 ghost use Rattle.ssb_job.specs.Loaded.{AreLoaded};
@@ -11,7 +12,7 @@ ghost use Rattle.ssb_answer.specs.Running.{LeavesSink, RunsFrom};
 
 use crate::answer::Answer;
 use crate::fault::AnswerFault;
-use crate::grouping::group_all;
+use crate::grouping::group_alone;
 use crate::rows_of::rows;
 use crate::run_fault::RunFault;
 use crate::sink::Sink;
@@ -21,7 +22,8 @@ use ssb_cells::Table;
 use ssb_job::Job;
 use ssb_load::{Catalog, PIECE_SIZE, Source, load_all};
 use ssb_sql::read;
-use std::alloc::Global;
+use std::alloc::{AllocError, Global};
+use std::sync::Arc;
 
 // The query of a text over a catalog.
 fn query_of(alloc: Global, catalog: &Catalog, text: &str) -> Result<Query, RunFault>
@@ -32,25 +34,48 @@ fn query_of(alloc: Global, catalog: &Catalog, text: &str) -> Result<Query, RunFa
     Ok(query)
 }
 
-// What a job's query answers.
-fn answer_job(alloc: Global, job: &Job) -> Result<Answer, AnswerFault>
-    ensures { Answers job.now.query (seen_rows job.now) result }
+// What a job's query answers, worked off in morsels of so many rows.
+fn answer_job(
+    alloc: Global,
+    job: &Arc<Job, Global>,
+    morsel_size: u32,
+) -> Result<Answer, AnswerFault>
+    requires { 0 < morsel_size }
+    ensures { Answers (arc_value job.now).query (seen_rows (arc_value job.now)) result }
 {
-    let Ok(groups) = group_all(alloc, job) else {
+    let Ok(groups) = group_alone(alloc, job, morsel_size) else {
         return Err(AnswerFault::Memory);
     };
     rows(alloc, groups, job.query())
 }
 
-// What a query answers over these tables.
-fn answer_query(alloc: Global, query: Query, tables: Vec<Table>) -> Result<Answer, AnswerFault>
+// The job of a query over these tables, shared.
+fn shared_job(
+    alloc: Global,
+    query: Query,
+    tables: Vec<Table>,
+) -> Result<Arc<Job, Global>, AllocError>
     requires { AreLoaded query.tables tables.items }
+    ensures { IfOk result (λ j. arc_value j ≡ record { query = query; tables = tables.items }) }
+{
+    Arc::new(alloc, Job::build(alloc, query, tables)?)
+}
+
+// What a query answers over these tables.
+fn answer_query(
+    alloc: Global,
+    query: Query,
+    tables: Vec<Table>,
+    morsel_size: u32,
+) -> Result<Answer, AnswerFault>
+    requires loaded { AreLoaded query.tables tables.items }
+    requires size { 0 < morsel_size }
     ensures { Answers query (seen_rows (record { query = query; tables = tables.items })) result }
 {
-    let Ok(job) = Job::build(alloc, query, tables) else {
+    let Ok(job) = shared_job(alloc, query, tables) else {
         return Err(AnswerFault::Memory);
     };
-    let answer = answer_job(alloc, &job);
+    let answer = answer_job(alloc, &job, morsel_size);
     // By a call, since the prover writes out all that a job holds where a scope's end lets go of it.
     drop(job);
     answer
@@ -63,13 +88,15 @@ fn answer_text(
     catalog: &Catalog,
     tables: Vec<Table>,
     text: &str,
+    morsel_size: u32,
 ) -> Result<Answer, RunFault>
+    requires size { 0 < morsel_size }
     requires lawful { AreLawful catalog.now tables.items }
     requires catalog { IsCatalog catalog.now }
     ensures { AnswersText catalog.now tables.items text.now result }
 {
     let query = query_of(alloc, catalog, text)?;
-    let answer = answer_query(alloc, query, tables)?;
+    let answer = answer_query(alloc, query, tables, morsel_size)?;
     Ok(answer)
 }
 
@@ -77,46 +104,53 @@ fn answer_text(
 /// and writes the answer's rows. It loads all tables, reads the query, binds it, answers and writes;
 /// the first fault ends it, and nothing is written before the answer is complete.
 ///
+/// The caller's thread does all of it, and works through the fact table in morsels of `morsel_size`
+/// rows. Their size changes no answer.
+///
 /// # Errors
 ///
 /// `Load` with the number of the table, from 0; `Sql`, `Bind` and `Answer` as the query has it; a
 /// `Load` with `Read` only where a read of that table's source failed, and `Answer(Write)` only where
 /// the sink failed, and then what it took is a beginning of the answer; `Memory` where a growth was
 /// refused.
-pub fn run_from<S: Source, W: Sink>(
+pub fn run_alone_from<S: Source, W: Sink>(
     alloc: Global,
     catalog: Catalog,
     sources: &mut [S],
     text: &str,
+    morsel_size: u32,
     out: &mut W,
 ) -> Result<(), RunFault>
-    requires { length sources.old ≡ length catalog }
+    requires sources { length sources.old ≡ length catalog }
+    requires size { 0 < morsel_size }
     ensures runs { RunsFrom S.given S.failures S.ends S.whole catalog text.now sources.old sources.new result (W.taken out.old) (W.taken out.new) }
     ensures sink { LeavesSink result (W.taken out.old) (W.taken out.new) (W.failures out.old) (W.failures out.new) (W.contents out.old) (W.contents out.new) }
 {
-    run_in_pieces(alloc, catalog, sources, text, out, PIECE_SIZE)
+    run_in_pieces(alloc, catalog, sources, text, morsel_size, out, PIECE_SIZE)
 }
 
-/// [`run_from`] with sources read in pieces of this many bytes, where no line is longer. The size
+/// [`run_alone_from`] with sources read in pieces of this many bytes, where no line is longer. The size
 /// changes no answer.
 ///
 /// # Errors
 ///
-/// As of [`run_from`].
+/// As of [`run_alone_from`].
 pub fn run_in_pieces<S: Source, W: Sink>(
     alloc: Global,
     catalog: Catalog,
     sources: &mut [S],
     text: &str,
+    morsel_size: u32,
     out: &mut W,
     piece_size: usize,
 ) -> Result<(), RunFault>
-    requires { length sources.old ≡ length catalog }
+    requires sources { length sources.old ≡ length catalog }
+    requires size { 0 < morsel_size }
     ensures runs { RunsFrom S.given S.failures S.ends S.whole catalog text.now sources.old sources.new result (W.taken out.old) (W.taken out.new) }
     ensures sink { LeavesSink result (W.taken out.old) (W.taken out.new) (W.failures out.old) (W.failures out.new) (W.contents out.old) (W.contents out.new) }
 {
     let tables = load_all(alloc, &catalog, sources, piece_size)?;
-    let answer = answer_text(alloc, &catalog, tables, text)?;
+    let answer = answer_text(alloc, &catalog, tables, text, morsel_size)?;
     write_answer(&answer, out)?;
     Ok(())
 }

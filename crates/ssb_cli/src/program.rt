@@ -9,9 +9,9 @@ use crate::check::check_text;
 use crate::fault::{AnswerFault, ProgramFault, RunFault};
 use crate::files::{catalog_of, names_of, open_all, read_query};
 use crate::report::{OUT_OF_MEMORY, program_line, program_status_of};
-use crate::words::{QuerySource, Task, WordsFault, task_of};
+use crate::words::{MorselSize, QuerySource, Task, WordsFault, task_of};
 use clap::Error;
-use ssb_answer::{MEMORY_LINE, Out, run_from};
+use ssb_answer::{MEMORY_LINE, Out, run_alone_from};
 use ssb_load::{Catalog, In};
 use std::alloc::{AllocError, Global};
 use std::io::{BufWriter, Write};
@@ -47,6 +47,7 @@ fn print_answer<R: Files + Print + AllocGlobal>(
     catalog: Catalog,
     sources: &mut [In<R::File>],
     text: &str,
+    morsel: MorselSize,
 ) -> Result<(), RunFault>
     requires { length sources.old ≡ length catalog }
 {
@@ -54,7 +55,7 @@ fn print_answer<R: Files + Print + AllocGlobal>(
         return Err(RunFault::Memory);
     };
     let mut out = Out::new(writer);
-    let answered = run_from(rt.alloc(), catalog, sources, text, &mut out);
+    let answered = run_alone_from(rt.alloc(), catalog, sources, text, morsel.rows, &mut out);
     let writer = out.into_writer();
     match answered {
         Ok(()) => flush(writer),
@@ -71,10 +72,11 @@ fn answer<R: Files + Print + AllocGlobal>(
     data: &str,
     catalog: Catalog,
     text: &str,
+    morsel: MorselSize,
 ) -> Result<(), ProgramFault> {
     let names = names_of(rt.alloc(), &catalog)?;
     let mut sources = open_all(rt, data, &catalog)?;
-    let printed = print_answer(rt, catalog, &mut sources, text);
+    let printed = print_answer(rt, catalog, &mut sources, text, morsel);
     drop(sources);
     match printed {
         Ok(()) => {
@@ -90,10 +92,11 @@ fn run<R: Files + Print + AllocGlobal>(
     data: &str,
     query: QuerySource<'_>,
     catalog: Option<&str>,
+    morsel: MorselSize,
 ) -> Result<(), ProgramFault> {
     let catalog = catalog_of(rt, catalog)?;
     let text = text_of(rt, query)?;
-    answer(rt, data, catalog, text.as_str())
+    answer(rt, data, catalog, text.as_str(), morsel)
 }
 
 fn print_ok<R: Print + AllocGlobal>(rt: &R) -> Result<(), ProgramFault> {
@@ -167,8 +170,9 @@ fn act_on<R: Files + Print + Eprint + AllocGlobal>(
                 data,
                 query,
                 catalog,
+                morsel,
             },
-        ) => run(rt, data, query, catalog),
+        ) => run(rt, data, query, catalog, morsel),
         Ok(Task::Check { query, catalog }) => check(rt, query, catalog),
         Err(WordsFault::Help(help)) => print_help(rt, help),
         Err(WordsFault::Bad) => Err(ProgramFault::BadWords),

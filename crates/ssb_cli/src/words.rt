@@ -1,8 +1,11 @@
 // The words of the command line.
 
+ghost use Rattle.std.specs.Prelude.{◌≡◌, ◌<◌, ◌≤◌, ◌×◌, ⊥, MatchOption};
+
 use crate::benchmark::text_named;
 use clap::error::ErrorKind;
 use clap::{Arg, ArgAction, ArgMatches, Command, Error};
+use ssb_answer::DEFAULT_MORSEL_SIZE;
 use std::alloc::{AllocError, Global};
 
 /// Where a query's text comes from.
@@ -12,6 +15,28 @@ pub enum QuerySource<'a> {
     File(&'a str),
     /// It is this text, of a query of the benchmark.
     Text(&'static str),
+}
+
+/// How many rows of the fact table are one morsel: 1 to 1,048,576.
+#[derive(Clone, Copy)]
+pub struct MorselSize {
+    /// The rows.
+    pub rows: u32,
+    ghost in_range: { (0 < rows) × (rows ≤ 1048576) },
+}
+
+impl MorselSize {
+    const MAX: u32 = 1_048_576;
+
+    // None for a number outside the range.
+    fn new(rows: u32) -> Option<MorselSize>
+        ensures { MatchOption result ((0 < rows) × (rows ≤ 1048576) → ⊥) (λ size. size.rows ≡ rows) }
+    {
+        if rows == 0 || rows > MorselSize::MAX {
+            return None;
+        }
+        Some(MorselSize { rows })
+    }
 }
 
 /// What is asked.
@@ -25,6 +50,8 @@ pub enum Task<'a> {
         query: QuerySource<'a>,
         /// The catalog's file, where another than the built-in one is meant.
         catalog: Option<&'a str>,
+        /// How many rows a morsel has.
+        morsel: MorselSize,
     },
     /// To say whether a query means something over a catalog.
     Check {
@@ -74,13 +101,19 @@ fn data_option<'a>(alloc: Global) -> Arg<'a> {
     option(alloc, "data", "DIR", help).required(true)
 }
 
+fn morsel_option<'a>(alloc: Global) -> Arg<'a> {
+    let help = "How many rows of the fact table are one morsel, 1 to 1048576; 10000 if not given";
+    option(alloc, "morsel", "N", help)
+}
+
 fn run_command<'a>(alloc: Global) -> Result<Command<'a>, AllocError> {
     let run = Command::new(alloc, "run")
         .about("Answers a query over tables")
         .arg(data_option(alloc))?
         .arg(query_option(alloc))?
         .arg(name_option(alloc))?
-        .arg(catalog_option(alloc))?;
+        .arg(catalog_option(alloc))?
+        .arg(morsel_option(alloc))?;
     Ok(run)
 }
 
@@ -128,11 +161,19 @@ fn query_source<'a>(found: &ArgMatches<'a>) -> Option<QuerySource<'a>> {
     }
 }
 
+fn morsel_size<'a>(found: &ArgMatches<'a>) -> Option<MorselSize> {
+    match found.get_str("morsel") {
+        Some(_) => MorselSize::new(found.get_one("morsel")?),
+        None => MorselSize::new(DEFAULT_MORSEL_SIZE),
+    }
+}
+
 fn run_task<'a>(found: &ArgMatches<'a>) -> Option<Task<'a>> {
     Some(Task::Run {
         data: found.get_str("data")?,
         query: query_source(found)?,
         catalog: found.get_str("catalog"),
+        morsel: morsel_size(found)?,
     })
 }
 

@@ -10,3 +10,4 @@ pub mod RangeFacts
 pub mod RunFacts
 pub mod SetFacts
 pub mod SweepFacts
+pub mod WorkFacts

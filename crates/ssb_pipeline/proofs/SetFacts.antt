@@ -1,5 +1,5 @@
 -- Lists of different numbers, as sets.
-use Rattle.std.proofs.Common.{◌≡◌, ◌∙◌, ◌++◌, ◌∷◌, [], ◌||◌, ℕ, Bool, true, false, true≢false, nat_eq, List, ◌⊎◌, inl, inr, refl, sym, ap, subst, append_assoc}
+use Rattle.std.proofs.Common.{◌≡◌, ◌∙◌, ◌++◌, ◌∷◌, [], ◌||◌, ◌≤◌, ℕ, Bool, true, false, true≢false, nat_eq, List, ◌⊎◌, inl, inr, refl, sym, ap, subst, arith, append_assoc, length, length-append}
 use Rattle.std.specs.List.{AllByRecursion, IsDistinct}
 use Rattle.std.specs.List.Sorted.{IsPermutation}
 use Rattle.std.proofs.lemmas.Bool.{eqb-true, false_from_ne_true}
@@ -119,6 +119,19 @@ with-it l r x i h = elim (has-either l r i h) [ inl a ↦ has-left l (x ∷ r) i
 
 not-there : (xs : List ℕ) (x i : ℕ) → has xs x ≡ false → has xs i ≡ true → i ≡ x → ⊥
 not-there xs x i gone there e = true≢false (sym there ∙ ap (has xs) e ∙ gone)
+
+-- different numbers among others are no more than those
+pub no-longer : (xs ys : List ℕ) → IsDistinct nat_eq xs → ((i : ℕ) → has xs i ≡ true → has ys i ≡ true) → length xs ≤ length ys
+unfolding IsDistinct
+no-longer [] ys d to = omega arith
+no-longer (x ∷ xs) ys d to =
+    let s = split ys x (to x (head-has x xs)) in
+    let gone = none-has x xs d.0 in
+    let rest = no-longer xs (s.left ++ s.right) d.1 (λ i h. without s.left s.right x i (not-there xs x i gone h) (subst (λ zs. has zs i ≡ true) s.is (to i (tail-has x xs i h)))) in
+    let apart = length-append s.left (x ∷ s.right) in
+    let others = length-append s.left s.right in
+    let all = ap length s.is in
+    omega (arith, rest, apart, others, all)
 
 module _ {X : Type 0} (F : List ℕ → List X) (nil : F [] ≡ []) (cons : (i : ℕ) (is : List ℕ) → F (i ∷ is) ≡ F (i ∷ []) ++ F is) where
   joined : (xs ys : List ℕ) → F (xs ++ ys) ≡ F xs ++ F ys

@@ -41,6 +41,14 @@ pub record IsLawful (p : PartState) : Type 0 where
   pub job : AreOneJob p.groups.job p.job
   pub stands : Stands p.groups (seen_in p.job p.size p.returned)
 
+-- all that was handed out came back
+abbrev pub IsBack : PartState → Type 0
+IsBack p = (i : ℕ) → has p.handed i ≡ true → has p.returned i ≡ true
+
+-- all of its section came back
+abbrev pub IsWhole : PartState → Type 0
+IsWhole p = (i : ℕ) → has (ours p) i ≡ true → has p.returned i ≡ true
+
 -- nothing was handed out, and nothing came back
 pub record IsOpening (j : JobShape) (m s k : ℕ) (p : PartState) : Type 0 where
   pub job : AreOneJob p.job j
@@ -125,4 +133,4 @@ RunsStayLawful = (es : List Event) (p q : PartState) → IsLawful p → Runs es 
 
 -- a law: where all of its section came back, a lawful part's groups stand for the kept combinations of the whole section
 abbrev pub WholeSectionsStand : Type 0
-WholeSectionsStand = (p : PartState) → IsLawful p → ((i : ℕ) → has (ours p) i ≡ true → has p.returned i ≡ true) → Stands p.groups (seen_in p.job p.size (ours p))
+WholeSectionsStand = (p : PartState) → IsLawful p → IsWhole p → Stands p.groups (seen_in p.job p.size (ours p))

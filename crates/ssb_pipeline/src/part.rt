@@ -4,7 +4,7 @@ ghost use Rattle.std.specs.Prelude.{◌≡◌, ◌<◌, ◌≤◌, ◌-◌, ℕ,
 ghost use Rattle.std.specs.List.{range_with_len};
 ghost use Rattle.std.specs.Arc.{arc_value};
 ghost use Rattle.ssb_pipeline.specs.Morsels.{morsel_cut};
-ghost use Rattle.ssb_pipeline.specs.Part.{GivesBack, GivesUp, Grows, HandsOut, IsLawful, IsOpening, Returns, has, ours};
+ghost use Rattle.ssb_pipeline.specs.Part.{GivesBack, GivesUp, Grows, HandsOut, IsBack, IsHandedOut, IsLawful, IsOpening, IsWhole, Returns, has, ours};
 ghost use Rattle.ssb_job.specs.Kept.{AreOneJob};
 
 use crate::fault::ReturnFault;
@@ -186,22 +186,44 @@ impl Part {
         }
     }
 
-    // Does a morsel that was handed out and did not come back. Refused, the part is as before.
-    fn bring_back(&mut self, morsel: u32) -> Result<(), AllocError>
-        requires handed { has self.old.handed morsel ≡ true }
-        requires fresh { has self.old.returned morsel ≡ false }
-        ensures back { OnOk result (Returns morsel self.old self.new) }
+    // Does the morsel of a ticket that was handed out and did not come back, and takes its groups.
+    // Refused, the part is as before.
+    fn bring_back(&mut self, ticket: Ticket) -> Result<(), AllocError>
+        requires one_job { AreOneJob ticket.job self.old.job }
+        requires handed { IsHandedOut self.old ticket }
+        requires fresh { has self.old.returned ticket.morsel ≡ false }
+        ensures back { OnOk result (Returns ticket.morsel self.old self.new) }
         ensures err { OnErr result (self.new ≡ self.old) }
     {
-        let ticket = Ticket::new(&self.job, self.size, morsel);
-        match Partial::of(self.alloc, &self.job, ticket) {
-            Ok(partial) => match self.give_back(partial) {
-                Ok(()) => Ok(()),
-                // It was handed out and did not come back, so this is memory.
-                Err(_) => Err(AllocError),
-            },
-            Err((_, refused)) => Err(refused),
+        let Ok(partial) = Partial::of(self.alloc, &self.job, ticket) else {
+            return Err(AllocError);
+        };
+        match self.give_back(partial) {
+            Ok(()) => Ok(()),
+            Err(ReturnFault::Memory(_)) => Err(AllocError),
+            Err(_) => unreachable!(),
         }
+    }
+
+    /// Hands out, does and takes back one morsel after the other in the caller's thread, until no
+    /// ticket comes. Where nothing was out before and no ticket was given up, all of the section came
+    /// back then.
+    ///
+    /// # Errors
+    ///
+    /// Only where a growth was refused. The part stands with what came back so far.
+    pub fn work_off(&mut self) -> Result<(), AllocError>
+        ensures grows { Grows self.old self.new }
+        ensures whole { OnOk result (IsBack self.old → self.old.gave_up ≡ false → IsWhole self.new) }
+        ensures lawful { IsLawful self.new }
+    {
+        self.lawful();
+        while let Some(ticket) = self.hand_out() {
+            self.lawful();
+            self.bring_back(ticket)?;
+            self.lawful();
+        }
+        Ok(())
     }
 
     /// Does all of the section that did not come back, in the caller's thread, also where a ticket was
@@ -213,7 +235,7 @@ impl Part {
     /// section may be handed out.
     pub fn sweep(&mut self) -> Result<(), AllocError>
         ensures grows { Grows self.old self.new }
-        ensures whole { OnOk result ((i : ℕ) → has (ours self.new) i ≡ true → has self.new.returned i ≡ true) }
+        ensures whole { OnOk result (IsWhole self.new) }
         ensures lawful { IsLawful self.new }
     {
         self.lawful();
@@ -222,7 +244,8 @@ impl Part {
         let (first, end) = self.bounds();
         for morsel in first..end {
             if !self.is_back(morsel) {
-                self.bring_back(morsel)?;
+                let ticket = Ticket::new(&self.job, self.size, morsel);
+                self.bring_back(ticket)?;
                 self.lawful();
             }
         }

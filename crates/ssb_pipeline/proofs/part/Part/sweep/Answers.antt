@@ -1,5 +1,6 @@
-use Rattle.std.proofs.Common.{◌+◌, ◌∙◌, sym, subst}
-use Rattle.ssb_pipeline.specs.Part.{PartState}
+use Rattle.std.proofs.Common.{◌≡◌, ◌+◌, ◌∙◌, true, sym, ap, subst}
+use Rattle.ssb_pipeline.specs.Part.{PartState, Returns, has}
+use Rattle.ssb_pipeline.specs.State.{TicketState}
 use Rattle.ssb_pipeline.proofs.SweepFacts.{IsSwept, all-done, begins, goes-on, next-handed, passes}
 use Rattle.ssb_pipeline.proofs.part.Part.sweep.Goals as goal
 use Rattle.ssb_pipeline.proofs.part.Part.sweep.Goals.{then-not-is_back+in_ok-bring_back, else-not-is_back}
@@ -10,7 +11,8 @@ loop-morsel-init c = begins c.args.self.now c.hand_out_all.new.self c.bounds-fir
 pub bring_back-requires-clause-handed : goal.bring_back-requires-clause-handed
 bring_back-requires-clause-handed c =
     let l = c.loop-morsel in
-    next-handed c.args.self.now l.self c.bounds-first.result.0 c.bounds-first.result.1 l.morsel l.invariant l.auto.morsel c.loop-morsel-test.true
+    let ticket = c.new-ticket.ensures in
+    (ap (λ (t : TicketState). t.size) ticket ∙ ap (λ (q : PartState). q.size) c.self.view_is, subst (λ (t : TicketState). has l.self.handed t.morsel ≡ true) (sym ticket) (next-handed c.args.self.now l.self c.bounds-first.result.0 c.bounds-first.result.1 l.morsel l.invariant l.auto.morsel c.loop-morsel-test.true))
 
 pub loop-morsel-preserved : goal.loop-morsel-preserved
 loop-morsel-preserved c =
@@ -20,7 +22,8 @@ loop-morsel-preserved c =
     elim c.if-not-is_back.branch [
       | then-not-is_back+in_ok-bring_back w ↦
           subst (λ (q : PartState). IsSwept c.args.self.now q first end (l.morsel + 1)) (sym w.self-is)
-          (goes-on c.args.self.now l.self w.bring_back.new.self first end l.morsel l.invariant w.in_ok-bring_back.ensures.back w.lawful-then-not-is_back.ensures)
+          (goes-on c.args.self.now l.self w.bring_back.new.self first end l.morsel l.invariant
+          (subst (λ (t : TicketState). Returns t.morsel l.self w.bring_back.new.self) w.new-ticket.ensures w.in_ok-bring_back.ensures.back) w.lawful-then-not-is_back.ensures)
       | else-not-is_back w ↦
           subst (λ (q : PartState). IsSwept c.args.self.now q first end (l.morsel + 1)) (sym w.self-is)
           (passes c.args.self.now l.self first end l.morsel l.invariant (sym c.is_back.ensures ∙ w.if-not-is_back.false))

@@ -1,14 +1,14 @@
 -- One part of all of a job's morsels, worked off.
-use Rattle.std.proofs.Common.{◌≡◌, ◌∙◌, ◌∷◌, [], ◌+◌, ◌<◌, ℕ, zero, suc, List, length, map, refl, sym, ap, subst, arith, true, false, true≢false}
+use Rattle.std.proofs.Common.{◌≡◌, ◌∙◌, ◌∷◌, [], ◌<◌, ℕ, zero, suc, List, length, map, sym, ap, subst, arith, false, true≢false}
 use Rattle.std.specs.List.{range_with_len}
 use Rattle.std.proofs.lemmas.List.{append-nil, length-map}
 use Rattle.std.proofs.lemmas.List.Sorted.{IsPermutation-map, IsPermutation-sym}
-use Rattle.ssb_job.specs.Kept.{JobShape, fact_rows, joined, kept}
+use Rattle.ssb_job.specs.Kept.{JobShape, fact_rows, joined}
 use Rattle.ssb_job.proofs.Whole.{whole}
 use Rattle.ssb_groups.specs.Seen.{seen}
 use Rattle.ssb_groups.specs.Stands.{Stands}
 use Rattle.ssb_groups.proofs.Permuted.{any_order}
-use Rattle.ssb_pipeline.specs.Joined.{rows_in, seen_in}
+use Rattle.ssb_pipeline.specs.Joined.{seen_in}
 use Rattle.ssb_pipeline.specs.Morsels.{MorselsAreTheRows, SectionsAreTheMorsels, morsel_count, morsel_cut, piece, section}
 use Rattle.ssb_pipeline.specs.Part.{Grows, IsBack, IsLawful, IsOpening, IsWhole, PartState, WholeSectionsStand, has, ours}
 use Rattle.ssb_answer.specs.Reply.{seen_rows}

@@ -58,7 +58,14 @@ fn shared_job(
     requires { AreLoaded query.tables tables.items }
     ensures { IfOk result (λ j. arc_value j ≡ record { query = query; tables = tables.items }) }
 {
-    Arc::new(alloc, Job::build(alloc, query, tables)?)
+    let job = Job::build(alloc, query, tables)?;
+    match Arc::new(alloc, job) {
+        Ok(job) => Ok(job),
+        Err(refused) => {
+            drop(refused);
+            Err(AllocError)
+        }
+    }
 }
 
 // What a query answers over these tables.

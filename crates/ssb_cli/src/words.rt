@@ -1,6 +1,6 @@
 // The words of the command line.
 
-ghost use Rattle.std.specs.Prelude.{◌≡◌, ◌<◌, ◌≤◌, ◌×◌, ⊥, MatchOption};
+ghost use Rattle.std.specs.Prelude.{◌≡◌, ◌<◌, ◌≤◌, MatchOption};
 
 use crate::benchmark::text_named;
 use clap::error::ErrorKind;

@@ -26,7 +26,7 @@ use std::alloc::{AllocError, Global};
 use std::sync::Arc;
 
 // The query of a text over a catalog.
-fn query_of(alloc: Global, catalog: &Catalog, text: &str) -> Result<Query, RunFault>
+pub(crate) fn query_of(alloc: Global, catalog: &Catalog, text: &str) -> Result<Query, RunFault>
     ensures { Asked catalog.now text.now result }
 {
     let select = read(alloc, text)?;
@@ -50,7 +50,7 @@ fn answer_job(
 }
 
 // The job of a query over these tables, shared.
-fn shared_job(
+pub(crate) fn shared_job(
     alloc: Global,
     query: Query,
     tables: Vec<Table>,

@@ -15,6 +15,7 @@ pub mod name;
 pub mod order;
 pub mod owned;
 pub mod table;
+pub mod text;
 mod texts;
 pub mod truth;
 pub mod value;
@@ -25,6 +26,7 @@ pub use name::{Name, is_name, is_reserved, is_word_byte};
 pub use order::{compare, sort_cmp};
 pub use owned::OwnedValue;
 pub use table::Table;
+pub use text::Text;
 pub use truth::Truth;
 pub use value::{ColType, Op, Value};
 

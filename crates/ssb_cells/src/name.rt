@@ -6,25 +6,26 @@ ghost use Rattle.std.specs.Str.{str_to_ascii_lowercase};
 ghost use Rattle.ssb_cells.specs.Names.{IsLowerName, is_name, is_reserved, is_word, is_word_byte};
 
 use crate::keyword::keyword_of;
+use crate::text::Text;
 use std::alloc::{AllocError, Global};
 use std::marker::Model;
 
 /// A name in lower case, and no reserved word, seen as its bytes.
 #[derive(Debug, Drop)]
 pub struct Name {
-    letters: String,
+    letters: Text,
 }
 
 impl Model for Name {
-    ghost use Rattle.std.specs.Prelude.{List, ℕ, string_bytes};
+    ghost use Rattle.std.specs.Prelude.{List, ℕ};
 
     ghost Value = { List ℕ };
 
     ghost use Rattle.ssb_cells.specs.Names.{IsLowerName};
 
-    ghost view = { λ n. string_bytes n.letters };
+    ghost view = { λ n. n.letters };
 
-    ghost invariant = { λ n. IsLowerName (string_bytes n.letters) };
+    ghost invariant = { λ n. IsLowerName n.letters };
 }
 
 impl Name {
@@ -39,7 +40,9 @@ impl Name {
         };
         let mut letters = String::from_str(alloc, text)?;
         letters.make_ascii_lowercase();
-        Ok(Name { letters })
+        Ok(Name {
+            letters: Text::new(letters),
+        })
     }
 
     /// A copy.
@@ -47,7 +50,7 @@ impl Name {
         ensures { IfOk result (λ n. n ≡ self.now) }
     {
         Ok(Name {
-            letters: String::from_str(alloc, self.letters.as_str())?,
+            letters: self.letters.copy(alloc)?,
         })
     }
 

@@ -11,10 +11,9 @@ ghost use Rattle.ssb_sql.specs.Lexes.{Lexes, OneListOfTokens};
 use crate::class::{Class, class_of};
 use crate::fault::SqlFault;
 use crate::scan::{TOO_LARGE, begins_with_word_byte, next, number, skip, text, word};
-use crate::text::Text;
 use crate::token::{Mark, Sign, Token};
 use sqlite_items::Items;
-use ssb_cells::{Name, keyword_of};
+use ssb_cells::{Name, Text, keyword_of};
 use std::alloc::Global;
 
 // The word in front: a reserved word or a name.

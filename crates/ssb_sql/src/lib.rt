@@ -21,7 +21,6 @@ mod read_text;
 mod scan;
 pub mod select;
 mod steps;
-pub mod text;
 pub mod token;
 
 pub use condition::{Condition, Literal, Operand, copy_literals};
@@ -31,5 +30,4 @@ pub use lex::one_list_of_tokens;
 pub use parse::one_meaning;
 pub use read_text::{one_select, read};
 pub use select::{Item, Key, Order, Output, Select};
-pub use text::Text;
 pub use token::{Mark, Sign, Token};

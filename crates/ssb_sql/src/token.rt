@@ -1,7 +1,6 @@
 // What a query text is made of.
 
-use crate::text::Text;
-use ssb_cells::{Keyword, Name};
+use ssb_cells::{Keyword, Name, Text};
 
 /// A mark.
 #[derive(Clone, Copy, PartialEq, Eq)]

@@ -7,4 +7,4 @@ unreachable-requires c = c.in_default.ensures.cases.0 (name-text c.args.text.now
 
 pub invariant_of-result : goal.invariant_of-result
 invariant_of-result c =
-    rw (c.make_ascii_lowercase.ensures.bytes, c.in_ok-letters.ensures.ok, c.in-Ok.ensures.cases.0) (lower-name c.args.text.now c.requires)
+    rw (c.new.ensures, c.make_ascii_lowercase.ensures.bytes, c.in_ok-letters.ensures.ok, c.in-Ok.ensures.cases.0) (lower-name c.args.text.now c.requires)

@@ -1,4 +1,4 @@
-// The text of a literal.
+// A text that is kept.
 
 ghost use Rattle.std.specs.Prelude.{◌≡◌, IfOk, string_bytes};
 

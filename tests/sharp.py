@@ -25,7 +25,7 @@ from typing import NamedTuple
 import run_rows
 
 TABLES = run_rows.ROOT / "examples" / "thirteen"
-TEXTS = run_rows.ROOT / "crates" / "ssb_cli" / "specs" / "Benchmark.antt"
+TEXTS = run_rows.ROOT / "crates" / "ssb_words" / "specs" / "Benchmark.antt"
 ROWS = run_rows.ROWS / "thirteen"
 
 TOKEN = re.compile(r"'(?:[^']|'')*'|[a-z_]\w*|\d+|<>|<=|>=|[-(),;+*=<>]")

@@ -1,4 +1,3 @@
-pub mod Benchmark
 pub mod Checking
 pub mod Faults
 pub mod Files

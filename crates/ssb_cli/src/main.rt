@@ -1,13 +1,11 @@
 //! The program `ssb`, which answers queries over the tables of the Star Schema Benchmark.
 #![tactic(auto)]
 
-mod benchmark;
 mod check;
 mod fault;
 mod files;
 mod program;
 mod report;
-mod words;
 
 use std::process::ExitCode;
 

@@ -2,17 +2,16 @@
 // by a call of `drop`, since the prover writes out all that it holds where the end of a scope lets go
 // of it.
 
-ghost use Rattle.std.specs.Prelude.{◌≡◌, ◌⊎◌, length};
+ghost use Rattle.std.specs.Prelude.{◌≡◌, ◌<◌, ◌⊎◌, length};
 ghost use Rattle.ssb_cli.specs.Faults.{out_of_memory, program_status};
 
 use crate::check::check_text;
 use crate::fault::{AnswerFault, ProgramFault, RunFault};
 use crate::files::{catalog_of, names_of, open_all, read_query};
 use crate::report::{OUT_OF_MEMORY, program_line, program_status_of};
-use crate::words::{MorselSize, QuerySource, Task, WordsFault, task_of};
-use clap::Error;
-use ssb_answer::{MEMORY_LINE, Out, run_alone_from};
+use ssb_answer::{DEFAULT_MORSEL_SIZE, MEMORY_LINE, Out, run_alone_from};
 use ssb_load::{Catalog, In};
+use ssb_words::{MorselSize, QuerySource, Task, WordsFault, task_of};
 use std::alloc::{AllocError, Global};
 use std::io::{BufWriter, Write};
 use std::rt::{Env, Files};
@@ -41,13 +40,22 @@ fn flush<W: Write + Drop>(writer: W) -> Result<(), RunFault> {
     }
 }
 
+fn morsel_size(given: Option<MorselSize>) -> u32
+    ensures { 0 < result }
+{
+    match given {
+        Some(size) => size.rows,
+        None => DEFAULT_MORSEL_SIZE,
+    }
+}
+
 // Prints the answer through one buffer, which is flushed after it is complete.
 fn print_answer<R: Files + Print + AllocGlobal>(
     rt: &R,
     catalog: Catalog,
     sources: &mut [In<R::File>],
     text: &str,
-    morsel: MorselSize,
+    morsel: Option<MorselSize>,
 ) -> Result<(), RunFault>
     requires { length sources.old ≡ length catalog }
 {
@@ -55,7 +63,7 @@ fn print_answer<R: Files + Print + AllocGlobal>(
         return Err(RunFault::Memory);
     };
     let mut out = Out::new(writer);
-    let answered = run_alone_from(rt.alloc(), catalog, sources, text, morsel.rows, &mut out);
+    let answered = run_alone_from(rt.alloc(), catalog, sources, text, morsel_size(morsel), &mut out);
     let writer = out.into_writer();
     match answered {
         Ok(()) => flush(writer),
@@ -72,7 +80,7 @@ fn answer<R: Files + Print + AllocGlobal>(
     data: &str,
     catalog: Catalog,
     text: &str,
-    morsel: MorselSize,
+    morsel: Option<MorselSize>,
 ) -> Result<(), ProgramFault> {
     let names = names_of(rt.alloc(), &catalog)?;
     let mut sources = open_all(rt, data, &catalog)?;
@@ -92,15 +100,15 @@ fn run<R: Files + Print + AllocGlobal>(
     data: &str,
     query: QuerySource<'_>,
     catalog: Option<&str>,
-    morsel: MorselSize,
+    morsel: Option<MorselSize>,
 ) -> Result<(), ProgramFault> {
     let catalog = catalog_of(rt, catalog)?;
     let text = text_of(rt, query)?;
     answer(rt, data, catalog, text.as_str(), morsel)
 }
 
-fn print_ok<R: Print + AllocGlobal>(rt: &R) -> Result<(), ProgramFault> {
-    match rt.print("ok\n") {
+fn print_text<R: Print + AllocGlobal>(rt: &R, text: &str) -> Result<(), ProgramFault> {
+    match rt.print(text) {
         Ok(()) => Ok(()),
         Err(_) => Err(write_fault(rt.alloc())),
     }
@@ -116,7 +124,7 @@ fn check_over<R: Files + Print + AllocGlobal>(
     let checked = check_text(rt.alloc(), catalog, text.as_str());
     drop(text);
     match checked {
-        Ok(()) => print_ok(rt),
+        Ok(()) => print_text(rt, "ok\n"),
         Err(fault) => Err(ProgramFault::Run {
             names: Vec::new(rt.alloc()),
             fault,
@@ -150,20 +158,14 @@ fn words<R: Env + AllocGlobal>(rt: &R) -> Result<Vec<String>, ProgramFault> {
     }
 }
 
-fn print_help<R: Print + Eprint + AllocGlobal>(rt: &R, help: Error) -> Result<(), ProgramFault> {
-    let printed = help.print(rt);
+fn print_help<R: Print + AllocGlobal>(rt: &R, help: String) -> Result<(), ProgramFault> {
+    let printed = print_text(rt, help.as_str());
     drop(help);
-    match printed {
-        Ok(()) => Ok(()),
-        Err(_) => Err(write_fault(rt.alloc())),
-    }
+    printed
 }
 
 // Does what these words ask.
-fn act_on<R: Files + Print + Eprint + AllocGlobal>(
-    rt: &R,
-    given: &[String],
-) -> Result<(), ProgramFault> {
+fn act_on<R: Files + Print + AllocGlobal>(rt: &R, given: &[String]) -> Result<(), ProgramFault> {
     match task_of(rt.alloc(), given) {
         Ok(
             Task::Run {
@@ -180,7 +182,7 @@ fn act_on<R: Files + Print + Eprint + AllocGlobal>(
     }
 }
 
-fn act<R: Files + Print + Eprint + Env + AllocGlobal>(rt: &R) -> Result<(), ProgramFault> {
+fn act<R: Files + Print + Env + AllocGlobal>(rt: &R) -> Result<(), ProgramFault> {
     let given = words(rt)?;
     let acted = act_on(rt, given.as_slice());
     drop(given);

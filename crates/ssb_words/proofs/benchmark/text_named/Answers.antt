@@ -1,8 +1,8 @@
 use Rattle.std.proofs.Common.{◌≡◌, ℕ, List, sym, ap}
 use Rattle.std.specs.Map.{lookup}
 use Rattle.std.specs.Str.{bytes_eq}
-use Rattle.ssb_cli.specs.Benchmark.{named_texts}
-use Rattle.ssb_cli.proofs.benchmark.text_named.Goals as goal
+use Rattle.ssb_words.specs.Benchmark.{named_texts}
+use Rattle.ssb_words.proofs.benchmark.text_named.Goals as goal
 
 -- a name has the text that stands beside a name equal to it
 same_text : {name equal : List ℕ} → name ≡ equal → lookup (bytes_eq equal) named_texts ≡ lookup (bytes_eq name) named_texts

@@ -4,7 +4,7 @@ ghost use Rattle.std.specs.Prelude.{◌≡◌};
 ghost use Rattle.std.specs.Map.{lookup};
 ghost use Rattle.std.specs.Option.{option_map};
 ghost use Rattle.std.specs.Str.{bytes_eq};
-ghost use Rattle.ssb_cli.specs.Benchmark.{named_texts};
+ghost use Rattle.ssb_words.specs.Benchmark.{named_texts};
 
 const Q1_1: &str = "select sum(lo_extendedprice*lo_discount) as revenue
 from lineorder, date

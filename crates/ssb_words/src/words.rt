@@ -5,7 +5,6 @@ ghost use Rattle.std.specs.Prelude.{◌≡◌, ◌<◌, ◌≤◌, MatchOption};
 use crate::benchmark::text_named;
 use clap::error::ErrorKind;
 use clap::{Arg, ArgAction, ArgMatches, Command, Error};
-use ssb_answer::DEFAULT_MORSEL_SIZE;
 use std::alloc::{AllocError, Global};
 
 /// Where a query's text comes from.
@@ -50,8 +49,8 @@ pub enum Task<'a> {
         query: QuerySource<'a>,
         /// The catalog's file, where another than the built-in one is meant.
         catalog: Option<&'a str>,
-        /// How many rows a morsel has.
-        morsel: MorselSize,
+        /// How many rows a morsel has, where that is said.
+        morsel: Option<MorselSize>,
     },
     /// To say whether a query means something over a catalog.
     Check {
@@ -66,7 +65,7 @@ pub enum Task<'a> {
 #[derive(Drop)]
 pub enum WordsFault {
     /// Help is asked, and this is its text.
-    Help(Error),
+    Help(String),
     /// The words are none that are known.
     Bad,
     /// A growth was refused.
@@ -161,19 +160,16 @@ fn query_source<'a>(found: &ArgMatches<'a>) -> Option<QuerySource<'a>> {
     }
 }
 
-fn morsel_size<'a>(found: &ArgMatches<'a>) -> Option<MorselSize> {
-    match found.get_str("morsel") {
-        Some(_) => MorselSize::new(found.get_one("morsel")?),
-        None => MorselSize::new(DEFAULT_MORSEL_SIZE),
-    }
-}
-
 fn run_task<'a>(found: &ArgMatches<'a>) -> Option<Task<'a>> {
+    let morsel = match found.get_str("morsel") {
+        Some(_) => Some(MorselSize::new(found.get_one("morsel")?)?),
+        None => None,
+    };
     Some(Task::Run {
         data: found.get_str("data")?,
         query: query_source(found)?,
         catalog: found.get_str("catalog"),
-        morsel: morsel_size(found)?,
+        morsel,
     })
 }
 
@@ -184,11 +180,28 @@ fn check_task<'a>(found: &ArgMatches<'a>) -> Option<Task<'a>> {
     })
 }
 
-fn fault_of(error: Error) -> WordsFault {
+fn help_of(alloc: Global, help: Error) -> WordsFault {
+    let text = help.to_string(alloc);
+    drop(help);
+    match text {
+        Ok(text) => WordsFault::Help(text),
+        Err(_) => WordsFault::Memory,
+    }
+}
+
+fn fault_of(alloc: Global, error: Error) -> WordsFault {
     match error.kind() {
-        ErrorKind::DisplayHelp => WordsFault::Help(error),
+        ErrorKind::DisplayHelp => help_of(alloc, error),
         ErrorKind::OutOfMemory => WordsFault::Memory,
         _ => WordsFault::Bad,
+    }
+}
+
+fn task_in<'a>(matches: &ArgMatches<'a>) -> Option<Task<'a>> {
+    match matches.subcommand() {
+        Some(("run", found)) => run_task(found),
+        Some(("check", found)) => check_task(found),
+        _ => None,
     }
 }
 
@@ -196,13 +209,10 @@ fn fault_of(error: Error) -> WordsFault {
 pub fn task_of<'a>(alloc: Global, given: &'a [String]) -> Result<Task<'a>, WordsFault> {
     let matches = match parse(alloc, given) {
         Ok(matches) => matches,
-        Err(error) => return Err(fault_of(error)),
+        Err(error) => return Err(fault_of(alloc, error)),
     };
-    let task = match matches.subcommand() {
-        Some(("run", found)) => run_task(found),
-        Some(("check", found)) => check_task(found),
-        _ => None,
-    };
+    let task = task_in(&matches);
+    drop(matches);
     match task {
         Some(task) => Ok(task),
         None => Err(WordsFault::Bad),

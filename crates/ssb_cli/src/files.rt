@@ -1,6 +1,6 @@
 // Files that are opened and read.
 
-ghost use Rattle.std.specs.Prelude.{◌≡◌, ◌≤◌, ◌<◌, IfOk, IfErr, IsNone, IsOk, IsErrAnd, IsUtf8, length, vec_len, string_bytes};
+ghost use Rattle.std.specs.Prelude.{◌≡◌, ◌≤◌, ◌<◌, ◌+◌, IfOk, IfErr, IsNone, IsOk, IsErrAnd, IsUtf8, length, vec_len, string_bytes};
 ghost use Rattle.ssb_load.specs.BuiltIn.{ssb_tables};
 ghost use Rattle.ssb_cli.specs.Faults.{IsOpenFault, IsQueryFault};
 ghost use Rattle.ssb_cli.specs.Files.{longest_query};
@@ -121,6 +121,23 @@ fn open_table<R: Files + AllocGlobal>(
     Ok(In::new(file?))
 }
 
+// Opens the file of a table, and puts it behind the sources.
+fn add_source<R: Files + AllocGlobal>(
+    rt: &R,
+    data: &str,
+    table: &str,
+    sources: &mut Vec<In<R::File>>,
+) -> Result<(), ProgramFault>
+    ensures added { IfOk result (λ u. vec_len sources.new ≡ vec_len sources.old + 1) }
+    ensures fault { IfErr result IsOpenFault }
+{
+    let source = open_table(rt, data, table)?;
+    match sources.push(source) {
+        Ok(()) => Ok(()),
+        Err(_) => Err(ProgramFault::Memory),
+    }
+}
+
 /// The files of the tables as sources, in the catalog's order.
 pub fn open_all<R: Files + AllocGlobal>(
     rt: &R,
@@ -132,10 +149,10 @@ pub fn open_all<R: Files + AllocGlobal>(
 {
     let mut sources = Vec::new(rt.alloc());
     for table in catalog.tables() {
-        let source = open_table(rt, data, table.name())?;
-        let Ok(()) = sources.push(source) else {
-            return Err(ProgramFault::Memory);
-        };
+        if let Err(fault) = add_source(rt, data, table.name(), &mut sources) {
+            drop(sources);
+            return Err(fault);
+        }
     }
     Ok(sources)
 }

@@ -2,7 +2,7 @@
 // by a call of `drop`, since the prover writes out all that it holds where the end of a scope lets go
 // of it.
 
-ghost use Rattle.std.specs.Prelude.{◌≡◌, ◌<◌, ◌⊎◌, length};
+ghost use Rattle.std.specs.Prelude.{◌≡◌, ◌<◌, ◌⊎◌, length, vec_len};
 ghost use Rattle.ssb_cli.specs.Faults.{out_of_memory, program_status};
 
 use crate::check::check_text;
@@ -13,7 +13,7 @@ use ssb_answer::{DEFAULT_MORSEL_SIZE, MEMORY_LINE, Out, run_alone_from};
 use ssb_load::{Catalog, In};
 use ssb_words::{MorselSize, QuerySource, Task, WordsFault, task_of};
 use std::alloc::{AllocError, Global};
-use std::io::{BufWriter, Write};
+use std::io::{BufWriter, Read, Write};
 use std::rt::{Env, Files};
 use std::{env, io};
 
@@ -40,16 +40,39 @@ fn flush<W: Write + Drop>(writer: W) -> Result<(), RunFault> {
     }
 }
 
-fn morsel_size(given: Option<MorselSize>) -> u32
+fn size_of(morsel: Option<MorselSize>) -> u32
     ensures { 0 < result }
 {
-    match given {
+    match morsel {
         Some(size) => size.rows,
         None => DEFAULT_MORSEL_SIZE,
     }
 }
 
-// Prints the answer through one buffer, which is flushed after it is complete.
+// Writes the answer to a buffer, and flushes it after it is complete.
+fn write_answer<F: Read, W: Write + Drop>(
+    alloc: Global,
+    catalog: Catalog,
+    sources: &mut [In<F>],
+    text: &str,
+    morsel: Option<MorselSize>,
+    writer: W,
+) -> Result<(), RunFault>
+    requires { length sources.old ≡ length catalog }
+{
+    let mut out = Out::new(writer);
+    let answered = run_alone_from(alloc, catalog, sources, text, size_of(morsel), &mut out);
+    let writer = out.into_writer();
+    match answered {
+        Ok(()) => flush(writer),
+        Err(fault) => {
+            drop(writer);
+            Err(fault)
+        }
+    }
+}
+
+// Prints the answer through one buffer.
 fn print_answer<R: Files + Print + AllocGlobal>(
     rt: &R,
     catalog: Catalog,
@@ -59,16 +82,52 @@ fn print_answer<R: Files + Print + AllocGlobal>(
 ) -> Result<(), RunFault>
     requires { length sources.old ≡ length catalog }
 {
-    let Ok(writer) = BufWriter::new(rt.alloc(), io::writer(rt)) else {
-        return Err(RunFault::Memory);
-    };
-    let mut out = Out::new(writer);
-    let answered = run_alone_from(rt.alloc(), catalog, sources, text, morsel_size(morsel), &mut out);
-    let writer = out.into_writer();
-    match answered {
-        Ok(()) => flush(writer),
+    match BufWriter::new(rt.alloc(), io::writer(rt)) {
+        Ok(writer) => write_answer(rt.alloc(), catalog, sources, text, morsel, writer),
+        Err(_) => {
+            drop(catalog);
+            Err(RunFault::Memory)
+        }
+    }
+}
+
+// Answers a text over files, one for each table of the catalog.
+fn answer_over<R: Files + Print + AllocGlobal>(
+    rt: &R,
+    catalog: Catalog,
+    names: Vec<String>,
+    sources: Vec<In<R::File>>,
+    text: &str,
+    morsel: Option<MorselSize>,
+) -> Result<(), ProgramFault>
+    requires { vec_len sources ≡ length catalog }
+{
+    let mut sources = sources;
+    let printed = print_answer(rt, catalog, &mut sources, text, morsel);
+    drop(sources);
+    match printed {
+        Ok(()) => {
+            drop(names);
+            Ok(())
+        }
+        Err(fault) => Err(ProgramFault::Run { names, fault }),
+    }
+}
+
+// Answers a text over the tables of a folder, which have these names.
+fn answer_named<R: Files + Print + AllocGlobal>(
+    rt: &R,
+    data: &str,
+    catalog: Catalog,
+    names: Vec<String>,
+    text: &str,
+    morsel: Option<MorselSize>,
+) -> Result<(), ProgramFault> {
+    match open_all(rt, data, &catalog) {
+        Ok(sources) => answer_over(rt, catalog, names, sources, text, morsel),
         Err(fault) => {
-            drop(writer);
+            drop(names);
+            drop(catalog);
             Err(fault)
         }
     }
@@ -82,16 +141,33 @@ fn answer<R: Files + Print + AllocGlobal>(
     text: &str,
     morsel: Option<MorselSize>,
 ) -> Result<(), ProgramFault> {
-    let names = names_of(rt.alloc(), &catalog)?;
-    let mut sources = open_all(rt, data, &catalog)?;
-    let printed = print_answer(rt, catalog, &mut sources, text, morsel);
-    drop(sources);
-    match printed {
-        Ok(()) => {
-            drop(names);
-            Ok(())
+    match names_of(rt.alloc(), &catalog) {
+        Ok(names) => answer_named(rt, data, catalog, names, text, morsel),
+        Err(_) => {
+            drop(catalog);
+            Err(ProgramFault::Memory)
         }
-        Err(fault) => Err(ProgramFault::Run { names, fault }),
+    }
+}
+
+// Answers a query over the tables of a folder.
+fn run_over<R: Files + Print + AllocGlobal>(
+    rt: &R,
+    data: &str,
+    query: QuerySource<'_>,
+    catalog: Catalog,
+    morsel: Option<MorselSize>,
+) -> Result<(), ProgramFault> {
+    match text_of(rt, query) {
+        Ok(text) => {
+            let answered = answer(rt, data, catalog, text.as_str(), morsel);
+            drop(text);
+            answered
+        }
+        Err(fault) => {
+            drop(catalog);
+            Err(fault)
+        }
     }
 }
 
@@ -102,9 +178,10 @@ fn run<R: Files + Print + AllocGlobal>(
     catalog: Option<&str>,
     morsel: Option<MorselSize>,
 ) -> Result<(), ProgramFault> {
-    let catalog = catalog_of(rt, catalog)?;
-    let text = text_of(rt, query)?;
-    answer(rt, data, catalog, text.as_str(), morsel)
+    match catalog_of(rt, catalog) {
+        Ok(catalog) => run_over(rt, data, query, catalog, morsel),
+        Err(fault) => Err(fault),
+    }
 }
 
 fn print_text<R: Print + AllocGlobal>(rt: &R, text: &str) -> Result<(), ProgramFault> {
@@ -164,21 +241,32 @@ fn print_help<R: Print + AllocGlobal>(rt: &R, help: String) -> Result<(), Progra
     printed
 }
 
+fn act_on_task<R: Files + Print + AllocGlobal>(rt: &R, task: Task<'_>) -> Result<(), ProgramFault> {
+    match task {
+        Task::Run {
+            data,
+            query,
+            catalog,
+            morsel,
+        } => run(rt, data, query, catalog, morsel),
+        Task::Check { query, catalog } => check(rt, query, catalog),
+    }
+}
+
+// What comes of words that ask for no task.
+fn act_on_fault<R: Print + AllocGlobal>(rt: &R, fault: WordsFault) -> Result<(), ProgramFault> {
+    match fault {
+        WordsFault::Help(help) => print_help(rt, help),
+        WordsFault::Bad => Err(ProgramFault::BadWords),
+        WordsFault::Memory => Err(ProgramFault::Memory),
+    }
+}
+
 // Does what these words ask.
 fn act_on<R: Files + Print + AllocGlobal>(rt: &R, given: &[String]) -> Result<(), ProgramFault> {
     match task_of(rt.alloc(), given) {
-        Ok(
-            Task::Run {
-                data,
-                query,
-                catalog,
-                morsel,
-            },
-        ) => run(rt, data, query, catalog, morsel),
-        Ok(Task::Check { query, catalog }) => check(rt, query, catalog),
-        Err(WordsFault::Help(help)) => print_help(rt, help),
-        Err(WordsFault::Bad) => Err(ProgramFault::BadWords),
-        Err(WordsFault::Memory) => Err(ProgramFault::Memory),
+        Ok(task) => act_on_task(rt, task),
+        Err(fault) => act_on_fault(rt, fault),
     }
 }
 
@@ -210,6 +298,10 @@ fn tell<R: Eprint + AllocGlobal>(rt: &R, fault: &ProgramFault) -> u8
 pub fn status_of_program<R: Files + Print + Eprint + Env + AllocGlobal>(rt: &R) -> u8 {
     match act(rt) {
         Ok(()) => 0,
-        Err(fault) => tell(rt, &fault),
+        Err(fault) => {
+            let status = tell(rt, &fault);
+            drop(fault);
+            status
+        }
     }
 }

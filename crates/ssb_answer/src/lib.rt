@@ -31,6 +31,6 @@ pub use readers::run_alone;
 pub use rows_of::rows;
 pub use run_fault::RunFault;
 pub use sink::{Sink, SinkFault};
-pub use whole::{run_alone_from, run_in_pieces};
+pub use whole::{answer_job, run_alone_from, run_in_pieces};
 pub use write::write_answer;
 pub use writer::Out;

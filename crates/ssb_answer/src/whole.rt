@@ -34,8 +34,13 @@ pub(crate) fn query_of(alloc: Global, catalog: &Catalog, text: &str) -> Result<Q
     Ok(query)
 }
 
-// What a job's query answers, worked off in morsels of so many rows.
-fn answer_job(
+/// What a job's query answers: its rows are grouped in the caller's thread, in morsels of
+/// `morsel_size` rows of the fact table, from 1 on. Their size changes no answer.
+///
+/// # Errors
+///
+/// As of [`rows`]; `Memory` also where a growth was refused on the way to the groups.
+pub fn answer_job(
     alloc: Global,
     job: &Arc<Job, Global>,
     morsel_size: u32,

@@ -1,12 +1,14 @@
-//! What the bench measures beside `ssb`: reading the records of a file and nothing more, and what a
-//! query's joins cost by themselves.
+//! What the bench measures beside `ssb`: reading the records of a file and nothing more, what a
+//! query's joins cost by themselves, and what its answer costs over loaded tables.
 #![tactic(auto)]
 
 mod probe;
 mod read;
+mod run;
 
 use probe::{Report, measure};
 use read::count_records;
+use run::own_time;
 use std::alloc::AllocError;
 use std::process::ExitCode;
 use std::rt::{Clock, Env, Files};
@@ -62,6 +64,26 @@ fn print_measures<R: Files + Clock + Print + AllocGlobal>(rt: &R, folder: &str, 
     }
 }
 
+// Prints the least milliseconds of so many answers in such morsels.
+fn print_own_time<R: Files + Clock + Print + AllocGlobal>(
+    rt: &R,
+    folder: &str,
+    path: &str,
+    morsel_size: &str,
+    times: &str,
+) -> u8 {
+    let (Ok(morsel_size), Ok(times)) = (morsel_size.parse(), times.parse()) else {
+        return BAD_WORDS;
+    };
+    let Some(micros) = own_time(rt, folder, path, morsel_size, times) else {
+        return FAILED;
+    };
+    match print_micros(rt, "answering", micros) {
+        Ok(()) => 0,
+        Err(_) => FAILED,
+    }
+}
+
 fn status<R: Files + Clock + Print + Env + AllocGlobal>(rt: &R) -> u8 {
     let Some(given) = words(rt) else {
         return FAILED;
@@ -71,6 +93,10 @@ fn status<R: Files + Clock + Print + Env + AllocGlobal>(rt: &R) -> u8 {
         [_, command, path] if command.as_str() == "read" => print_count(rt, path.as_str()),
         [_, command, folder, path] if command.as_str() == "probe" => {
             print_measures(rt, folder.as_str(), path.as_str())
+        }
+        [_, command, folder, path, morsel_size, times] if command.as_str() == "run" => {
+            let (folder, path) = (folder.as_str(), path.as_str());
+            print_own_time(rt, folder, path, morsel_size.as_str(), times.as_str())
         }
         _ => BAD_WORDS,
     }

@@ -11,11 +11,7 @@ use std::sync::Arc;
 use std::time::Instant;
 
 // How long one answer takes, in microseconds.
-fn time_of<R: Clock + AllocGlobal>(
-    rt: &R,
-    job: &Arc<Job, Global>,
-    morsel_size: u32,
-) -> Option<u128>
+fn time_of<R: Clock + AllocGlobal>(rt: &R, job: &Arc<Job, Global>, morsel_size: u32) -> Option<u128>
     requires { 0 < morsel_size }
 {
     let start = Instant::now(rt).ok()?;

@@ -1,4 +1,5 @@
 pub mod Cuts
+pub mod EveryRun
 pub mod JoinedFacts
 pub mod MarkFacts
 pub mod MorselFacts

@@ -1,9 +1,10 @@
 -- One section's part of the work: what was handed out, what came back, and the groups over what came back. And a core run: the events that change a part.
 -- Source: own. It knows no marks and no counters.
-use Rattle.std.specs.Prelude.{◌≡◌, ◌≤◌, ◌++◌, ◌∷◌, [], ◌⊎◌, ℕ, Bool, true, false, nat_eq, List, Option, None, Some, Result, Ok, Err, ⊤}
+use Rattle.std.specs.Prelude.{◌≡◌, ◌≤◌, ◌<◌, ◌++◌, ◌∷◌, [], ◌⊎◌, ℕ, Bool, true, false, nat_eq, List, length, map, Option, None, Some, Result, Ok, Err, ⊤}
 use Rattle.std.specs.List.{IsDistinct, list_any}
 use Rattle.std.specs.List.Sorted.{IsPermutation}
-use Rattle.ssb_job.specs.Kept.{AreOneJob, JobShape, fact_rows}
+use Rattle.ssb_job.specs.Kept.{AreOneJob, JobShape, fact_rows, kept}
+use Rattle.ssb_groups.specs.Seen.{seen}
 use Rattle.ssb_groups.specs.Stands.{GroupMap, Stands}
 use Rattle.ssb_pipeline.specs.Joined.{seen_in}
 use Rattle.ssb_pipeline.specs.Morsels.{morsel_count, section}
@@ -134,3 +135,16 @@ RunsStayLawful = (es : List Event) (p q : PartState) → IsLawful p → Runs es 
 -- a law: where all of its section came back, a lawful part's groups stand for the kept combinations of the whole section
 abbrev pub WholeSectionsStand : Type 0
 WholeSectionsStand = (p : PartState) → IsLawful p → IsWhole p → Stands p.groups (seen_in p.job p.size (ours p))
+
+-- a law: a part that comes of an opening one by a core run, any number that is out coming back at any turn, is lawful
+abbrev pub EveryRunIsLawful : Type 0
+EveryRunIsLawful = (es : List Event) (j : JobShape) (m s k : ℕ) (opening p : PartState) → IsOpening j m s k opening → IsLawful opening → Runs es opening p → IsLawful p
+
+-- a law: where all of its section came back, its groups stand for the kept combinations of the whole section
+abbrev pub EveryRunStands : Type 0
+EveryRunStands = (es : List Event) (j : JobShape) (m s k : ℕ) (opening p : PartState) → IsOpening j m s k opening → IsLawful opening → Runs es opening p → IsWhole p
+    → Stands p.groups (seen_in j m (section (morsel_count (fact_rows j) m) k s))
+
+-- a law: where the one section of a lawful part came back, its groups stand for all that WHERE keeps
+abbrev pub OneSectionIsAll : Type 0
+OneSectionIsAll = (p : PartState) → IsLawful p → IsWhole p → p.section ≡ 0 → p.sections ≡ 1 → 0 < p.size → p.job.query.fact < length p.job.query.from → Stands p.groups (map (seen p.job) (kept p.job))

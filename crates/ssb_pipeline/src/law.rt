@@ -1,7 +1,7 @@
 // Laws of how the work is cut, and of what parts come to.
 
 ghost use Rattle.std.specs.Prelude.{ℕ};
-ghost use Rattle.ssb_pipeline.specs.Part.{RunsStayLawful, WholeSectionsStand};
+ghost use Rattle.ssb_pipeline.specs.Part.{EveryRunIsLawful, EveryRunStands, OneSectionIsAll, RunsStayLawful, WholeSectionsStand};
 ghost use Rattle.ssb_pipeline.specs.Morsels.{RowsLieInOneMorsel, MorselsAreTheRows, MorselsLieInOneSection, SectionsAreTheMorsels};
 
 /// A law: each row of the fact table lies in just one morsel, and the morsels one after the other are
@@ -22,4 +22,13 @@ pub fn morsels_in_sections()
 pub fn core_runs()
     ensures lawful { RunsStayLawful }
     ensures whole { WholeSectionsStand }
+{}
+
+/// A law: a part that [`Part::open`](crate::Part::open) gave, after whatever list of events, is lawful;
+/// where all of its section came back, its groups stand for the kept combinations of the section, and
+/// where there is one section, for all that the query keeps.
+pub fn every_run()
+    ensures lawful { EveryRunIsLawful }
+    ensures whole { EveryRunStands }
+    ensures all { OneSectionIsAll }
 {}

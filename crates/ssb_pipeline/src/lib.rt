@@ -9,7 +9,7 @@ mod partial;
 mod ticket;
 
 pub use fault::ReturnFault;
-pub use law::{core_runs, morsels_in_sections, rows_in_morsels};
+pub use law::{core_runs, every_run, morsels_in_sections, rows_in_morsels};
 pub use part::Part;
 pub use partial::Partial;
 pub use ticket::Ticket;

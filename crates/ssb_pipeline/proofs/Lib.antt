@@ -3,9 +3,11 @@ pub mod EveryRun
 pub mod JoinedFacts
 pub mod MarkFacts
 pub mod MorselFacts
+pub mod Moves
 pub mod OpeningFacts
 pub mod PartFacts
 pub mod PartialFacts
+pub mod Passes
 pub mod Probing
 pub mod RangeFacts
 pub mod RunFacts

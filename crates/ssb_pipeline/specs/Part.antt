@@ -1,7 +1,7 @@
 -- One section's part of the work: what was handed out, what came back, and the groups over what came back. And a core run: the events that change a part.
 -- Source: own. It knows no marks and no counters.
-use Rattle.std.specs.Prelude.{◌≡◌, ◌≤◌, ◌<◌, ◌++◌, ◌∷◌, [], ◌⊎◌, ℕ, Bool, true, false, nat_eq, List, length, map, Option, None, Some, Result, Ok, Err, ⊤}
-use Rattle.std.specs.List.{IsDistinct, list_any}
+use Rattle.std.specs.Prelude.{◌≡◌, ◌≤◌, ◌<◌, ◌++◌, ◌∷◌, [], ◌⊎◌, ℕ, Bool, true, false, not, nat_eq, List, length, map, Option, None, Some, Result, Ok, Err, ⊤}
+use Rattle.std.specs.List.{IsDistinct, filter, list_any}
 use Rattle.std.specs.List.Sorted.{IsPermutation}
 use Rattle.ssb_job.specs.Kept.{AreOneJob, JobShape, fact_rows, kept}
 use Rattle.ssb_groups.specs.Seen.{seen}
@@ -92,6 +92,20 @@ pub record Grows (p q : PartState) : Type 0 where
   pub gave_up : q.gave_up ≡ p.gave_up
   pub handed : (i : ℕ) → has p.handed i ≡ true → has q.handed i ≡ true
   pub returned : (i : ℕ) → has p.returned i ≡ true → has q.returned i ≡ true
+
+-- x is the same part as y, at that time or later: no number that was handed out or came back is lost, and a ticket that was given up stays so
+pub record Follows (x y : PartState) : Type 0 where
+  pub job : x.job ≡ y.job
+  pub size : x.size ≡ y.size
+  pub section : x.section ≡ y.section
+  pub sections : x.sections ≡ y.sections
+  pub handed : (i : ℕ) → has y.handed i ≡ true → has x.handed i ≡ true
+  pub returned : (i : ℕ) → has y.returned i ≡ true → has x.returned i ≡ true
+  pub gave_up : y.gave_up ≡ true → x.gave_up ≡ true
+
+-- the numbers that were handed out between two states
+abbrev pub handed_between : PartState → PartState → List ℕ
+handed_between old new = filter (λ i. not (has old.handed i)) new.handed
 
 -- ---- calls
 

@@ -4,12 +4,15 @@
 mod fault;
 mod grouping;
 mod law;
+mod line;
 mod part;
 mod partial;
+mod parts;
 mod ticket;
 
 pub use fault::ReturnFault;
 pub use law::{core_runs, every_run, morsels_in_sections, rows_in_morsels};
 pub use part::Part;
 pub use partial::Partial;
+pub use parts::{Held, Parts, PartsPass};
 pub use ticket::Ticket;

@@ -1,0 +1,5 @@
+use Rattle.ssb_pipeline.proofs.Moves.{new-empty, opens}
+use Rattle.ssb_pipeline.proofs.line.open_one.Goals as goal
+
+pub push_as-requires-clause-rule : goal.push_as-requires-clause-rule
+push_as-requires-clause-rule g c = (opens _ _ _ _ c.in_ok-line.ensures.3 c.requires, new-empty _ _ c.in_ok-line.ensures.3)

@@ -1,0 +1,5 @@
+use Rattle.ssb_pipeline.proofs.Moves.{puts, full}
+use Rattle.ssb_pipeline.proofs.line.put_one.Goals as goal
+
+pub push_as-requires-clause-rule : goal.push_as-requires-clause-rule
+push_as-requires-clause-rule g c = (puts _ _ _ _ c.requires.holds c.requires.opened c.requires.lawful c.requires.follows, full _ _ c.requires.holds)

@@ -1,0 +1,28 @@
+use Rattle.std.proofs.Common.{sym, ◌∙◌, ap, refl}
+use Rattle.std.proofs.lemmas.List.Elements.{All-set}
+use Rattle.ssb_pipeline.specs.Rule.{putter}
+use Rattle.ssb_pipeline.specs.Pass.{queue_name, pass_name, IsAtRest, IsSingle}
+use Rattle.ssb_pipeline.proofs.Passes.{image_at, each_at, in_image, now_knows, still_pass}
+use Rattle.ssb_pipeline.proofs.parts.Parts.put.Goals as goal
+
+pub put_one-requires-clause-queue : goal.put_one-requires-clause-queue
+put_one-requires-clause-queue g c =
+    let same = ap (λ p. p.queues) c.pass.view_is ∙ (c.requires.pass.queues ∙ sym (ap (λ p. p.queues) c.self.view_is)) in
+    let in_queues = in_image queue_name c.self.inside.queues.items _ c.args.held.section (ap (λ p. p.queues) c.self.view_is) c.requires.section in
+    let in_passes = in_image pass_name c.pass.inside.passes.items _ c.args.held.section (ap (λ p. p.queues) c.pass.view_is ∙ c.requires.pass.queues) c.requires.section in (
+      (image_at pass_name queue_name _ _ _ _ _ same in_passes in_queues c.index_mut.ensures.value c.index.ensures, each_at IsAtRest _ _ _ c.pass.invariant in_passes c.index_mut.ensures.value),
+      each_at IsSingle _ _ _ c.self.invariant in_queues c.index.ensures,
+    )
+
+pub returns-clause-view : goal.returns-clause-view
+returns-clause-view g c =
+    let in_passes = in_image pass_name c.pass.inside.passes.items _ c.args.held.section (ap (λ p. p.queues) c.pass.view_is ∙ c.requires.pass.queues) c.requires.section in
+    rw (← c.pass.view_is) (now_knows c.pass.inside.passes.items c.args.held.section c.index_mut.result.now _ (λ v. putter v c.args.held.part) in_passes c.index_mut.ensures.value c.put_one.ensures.queue.0 c.put_one.ensures.view)
+
+pub returns-clause-pass : goal.returns-clause-pass
+returns-clause-pass g c = rw (returns-clause-view g c) (still_pass c.args.self.now c.args.pass.now c.args.held.section _ c.requires.pass c.requires.section refl c.requires.follows)
+
+pub invariant_of-pass : goal.invariant_of-pass
+invariant_of-pass g c =
+    let in_passes = in_image pass_name c.pass.inside.passes.items _ c.args.held.section (ap (λ p. p.queues) c.pass.view_is ∙ c.requires.pass.queues) c.requires.section in
+    All-set IsAtRest c.pass.inside.passes.items c.args.held.section c.put_one.new.pass (c.put_one.ensures.queue.2 ∙ each_at IsAtRest _ _ _ c.pass.invariant in_passes c.index_mut.ensures.value) c.pass.invariant

@@ -1,0 +1,77 @@
+-- The rule of the queue of one part: what holds of it before and after each step of the passes that use it, whatever others do.
+-- Source: own.
+use Rattle.std.specs.Prelude.{◌≡◌, ℕ, Bool, true, false, List, [], ◌∷◌, ◌++◌, ◌⊎◌, None}
+use mathlib.Core.Option.{some}
+use lib.ListN.{get_elem?}
+use Rattle.ssb_job.specs.Kept.{JobShape}
+use Rattle.ssb_pipeline.specs.Part.{Follows, IsLawful, PartState, handed_between}
+
+-- what a pass knows of a part: whether the queue is in use, whether the pass holds the part, the part at its last take or put, and the numbers that were handed out in its holds
+pub record Knows : Type 0 where
+  pub opened : Bool
+  pub holds : Bool
+  pub seen : PartState
+  pub mine : List ℕ
+
+abbrev pub knows : Bool → PartState → List ℕ → Knows
+knows holds seen mine = record { opened = true; holds = holds; seen = seen; mine = mine }
+
+-- a job over no table, in place of one before there is a part
+abbrev pub no_job : JobShape
+no_job = record { query = record { tables = []; from = []; fact = 0; condition = None; groups = []; aggregates = []; items = []; orders = [] }; tables = [] }
+
+abbrev pub no_part : PartState
+no_part = record {
+  job = no_job;
+  size = 0;
+  section = 0;
+  sections = 0;
+  handed = [];
+  returned = [];
+  gave_up = false;
+  groups = record { job = no_job; width = 0; entries = []; overflow = None; counted = 0 };
+}
+
+-- the first pass of a queue, before a part was put
+abbrev pub fresh : Knows
+fresh = record { opened = false; holds = true; seen = no_part; mine = [] }
+
+-- a pass that has seen as much as v and handed out nothing
+abbrev pub newcomer : Knows → Knows
+newcomer v = knows false v.seen []
+
+-- the pass that put x
+abbrev pub putter : Knows → PartState → Knows
+putter v x = knows false x (v.mine ++ handed_between v.seen x)
+
+-- the pass that took x
+abbrev pub taker : Knows → PartState → Knows
+taker v x = knows true x v.mine
+
+abbrev pub AllPasses : (ℕ → Knows → Type 0) → List Knows → Type 0
+AllPasses F views = (pass : ℕ) (v : Knows) → get_elem? views pass ≡ some v → F pass v
+
+-- the queue holds one lawful part, with at least what every pass has seen, and no pass holds it
+pub record IsFree (items : List PartState) (views : List Knows) : Type 0 where
+  pub part : PartState
+  pub only : items ≡ part ∷ []
+  pub lawful : IsLawful part
+  pub passes : AllPasses (λ pass v. (v.holds ≡ false) × Follows part v.seen) views
+
+-- the queue is empty and one pass holds the part, which was lawful and had at least what every pass has seen
+pub record IsOut (items : List PartState) (views : List Knows) : Type 0 where
+  pub empty : items ≡ []
+  pub holder : ℕ
+  pub known : Knows
+  pub there : get_elem? views holder ≡ some known
+  pub holds : known.holds ≡ true
+  pub opened : known.opened ≡ true
+  pub lawful : IsLawful known.seen
+  pub passes : AllPasses (λ pass v. (v.holds ≡ true → pass ≡ holder) × Follows known.seen v.seen) views
+
+-- or the queue is new
+abbrev pub IsNew : List PartState → List Knows → Type 0
+IsNew items views = (items ≡ []) × (views ≡ fresh ∷ [])
+
+abbrev pub Ruled : List PartState → List Knows → Type 0
+Ruled items views = IsNew items views ⊎ (IsFree items views ⊎ IsOut items views)

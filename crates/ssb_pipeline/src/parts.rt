@@ -1,0 +1,232 @@
+// All parts of a job, each in a queue of its own.
+
+ghost use Rattle.std.specs.Prelude.{◌≡◌, ◌<◌, ◌≤◌, true, false, length, All, IfOk};
+ghost use Rattle.std.specs.Arc.{arc_value};
+ghost use Rattle.ssb_pipeline.specs.Part.{Follows, IsLawful};
+ghost use Rattle.ssb_pipeline.specs.Rule.{taker, putter};
+ghost use Rattle.ssb_pipeline.specs.Pass.{IsPassOfParts, HoldsNone, KnowsNothing, known, knowing, newcomers};
+ghost use Rattle.std.specs.Borrow.{sem};
+ghost use Rattle.ssb_pipeline.specs.Lending.{LendsPart};
+
+use crate::line::{Line, LinePass, another_one, open_one, put_one, take_one};
+use crate::part::Part;
+use ssb_job::Job;
+use std::alloc::{AllocError, Global};
+use std::marker::Model;
+use std::sync::{Arc, Wait};
+
+/// The parts. Contracts see the names of their queues, and the job.
+#[derive(Drop)]
+pub struct Parts {
+    queues: Vec<Line>,
+    job: Arc<Job, Global>,
+    size: u32,
+}
+
+impl Model for Parts {
+    ghost use Rattle.std.specs.Prelude.{List, map, All};
+    ghost use Rattle.std.specs.Arc.{arc_value};
+    ghost use Rattle.ssb_pipeline.specs.Pass.{PartsState, queue_name, IsSingle};
+
+    ghost Value = { PartsState };
+
+    ghost use Rattle.ssb_bind.specs.contracts.condition.BoundCondition as condition;
+    ghost use Rattle.ssb_bind.specs.contracts.expr.BoundExpr as expr;
+    ghost use Rattle.std.specs.Coded.{codes};
+
+    ghost coded = { Prim.hlevel (codes, condition.the_row.coded, expr.the_row.coded) };
+
+    ghost view = { λ p. record { queues = map queue_name p.queues.items; job = arc_value p.job; size = p.size } };
+
+    ghost invariant = { λ p. All IsSingle p.queues.items };
+}
+
+/// One worker's knowledge of all parts.
+#[derive(Drop)]
+pub struct PartsPass {
+    passes: Vec<LinePass>,
+}
+
+impl Model for PartsPass {
+    ghost use Rattle.std.specs.Prelude.{List, map, All};
+    ghost use Rattle.ssb_pipeline.specs.Pass.{PassState, pass_name, pass_view, IsAtRest};
+
+    ghost Value = { PassState };
+
+    ghost use Rattle.ssb_bind.specs.contracts.condition.BoundCondition as condition;
+    ghost use Rattle.ssb_bind.specs.contracts.expr.BoundExpr as expr;
+    ghost use Rattle.std.specs.Coded.{codes};
+
+    ghost coded = { Prim.hlevel (codes, condition.the_row.coded, expr.the_row.coded) };
+
+    ghost view = { λ p. record { queues = map pass_name p.passes.items; views = map pass_view p.passes.items } };
+
+    ghost invariant = { λ p. All IsAtRest p.passes.items };
+}
+
+/// A part that was taken, and its section.
+#[derive(Drop)]
+pub struct Held {
+    pub section: u32,
+    pub part: Part,
+}
+
+impl Held {
+    /// The part, to work on.
+    pub fn part(&mut self) -> &mut Part
+        ensures* writes_back { sem 𝓛 (LendsPart self.entry result) }
+        ensures value { result.now ≡ self.old.part }
+    {
+        &mut self.part
+    }
+}
+
+impl Parts {
+    /// Takes the part of a section as soon as it is free.
+    pub fn take<R: Wait>(&self, rt: &R, section: u32, pass: &mut PartsPass) -> Held
+        requires section { section < length self.now.queues }
+        requires pass { IsPassOfParts self.now pass.old }
+        requires holds_none { HoldsNone pass.old }
+        ensures section { result.section ≡ section }
+        ensures lawful { IsLawful result.part }
+        ensures follows { Follows result.part (known pass.old section).seen }
+        ensures view { pass.new ≡ knowing pass.old section (taker (known pass.old section) result.part) }
+        ensures pass { IsPassOfParts self.now pass.new }
+    {
+        self.take_from(rt, section, pass)
+    }
+
+    // The same, whatever other parts the pass holds.
+    pub(crate) fn take_from<R: Wait>(&self, rt: &R, section: u32, pass: &mut PartsPass) -> Held
+        requires section { section < length self.now.queues }
+        requires pass { IsPassOfParts self.now pass.old }
+        ensures section { result.section ≡ section }
+        ensures lawful { IsLawful result.part }
+        ensures follows { Follows result.part (known pass.old section).seen }
+        ensures view { pass.new ≡ knowing pass.old section (taker (known pass.old section) result.part) }
+        ensures pass { IsPassOfParts self.now pass.new }
+    {
+        let part = take_one(
+            rt,
+            &self.queues[section as usize],
+            &mut pass.passes[section as usize],
+        );
+        Held { section, part }
+    }
+
+    /// Puts the part back.
+    pub fn put<R: Wait>(&self, rt: &R, held: Held, pass: &mut PartsPass)
+        requires section { held.section < length self.now.queues }
+        requires pass { IsPassOfParts self.now pass.old }
+        requires holds { (known pass.old held.section).holds ≡ true }
+        requires follows { Follows held.part (known pass.old held.section).seen }
+        ensures view { pass.new ≡ knowing pass.old held.section (putter (known pass.old held.section) held.part) }
+        ensures pass { IsPassOfParts self.now pass.new }
+    {
+        let Held { section, part } = held;
+        part.lawful();
+        put_one(
+            rt,
+            &self.queues[section as usize],
+            &mut pass.passes[section as usize],
+            part,
+        );
+    }
+}
+
+impl Parts {
+    /// The number of sections.
+    pub fn sections(&self) -> usize
+        ensures { result ≡ length self.now.queues }
+    {
+        self.queues.len()
+    }
+
+    /// Another pass, which has seen as much.
+    pub fn another(&self, alloc: Global, pass: &mut PartsPass) -> Result<PartsPass, AllocError>
+        requires pass { IsPassOfParts self.now pass.old }
+        requires none { HoldsNone pass.old }
+        ensures same { pass.new ≡ pass.old }
+        ensures new { IfOk result (λ p. p ≡ newcomers pass.old) }
+    {
+        let mut passes = Vec::new(alloc);
+        for section in 0..self.queues.len() {
+            passes.push(another_one(
+                &self.queues[section as usize],
+                &mut pass.passes[section as usize],
+            ))?;
+        }
+        Ok(PartsPass { passes })
+    }
+
+    fn open_first<R: Wait>(
+        rt: &R,
+        alloc: Global,
+        job: Arc<Job, Global>,
+        morsel_size: u32,
+        sections: u32,
+    ) -> Result<(Parts, PartsPass), AllocError>
+        requires size { 0 < morsel_size }
+        ensures job { IfOk result (λ r. (r.0.job ≡ arc_value job) × (r.0.size ≡ morsel_size) × (length r.0.queues ≡ sections)) }
+        ensures pass { IfOk result (λ r. IsPassOfParts r.0 r.1 × HoldsNone r.1 × KnowsNothing r.1) }
+    {
+        let mut queues = Vec::new(alloc);
+        let mut passes = Vec::new(alloc);
+        for section in 0..sections {
+            let part = Part::open(alloc, Arc::try_clone(&job)?, morsel_size, section, sections)?;
+            let (line, pass) = open_one(rt, alloc, part)?;
+            queues.push(line)?;
+            passes.push(pass)?;
+        }
+        Ok((
+            Parts {
+                queues,
+                job,
+                size: morsel_size,
+            },
+            PartsPass { passes },
+        ))
+    }
+
+    /// The parts, each free, and so many passes.
+    pub fn open<R: Wait>(
+        rt: &R,
+        alloc: Global,
+        job: Arc<Job, Global>,
+        morsel_size: u32,
+        sections: u32,
+        passes: usize,
+    ) -> Result<(Parts, Vec<PartsPass>), AllocError>
+        requires size { 0 < morsel_size }
+        requires passes { 0 < passes }
+        ensures job { IfOk result (λ r. (r.0.job ≡ arc_value job) × (r.0.size ≡ morsel_size) × (length r.0.queues ≡ sections)) }
+        ensures count { IfOk result (λ r. length r.1.items ≡ passes) }
+        ensures passes { IfOk result (λ r. All (λ p. IsPassOfParts r.0 p × HoldsNone p × KnowsNothing p) r.1.items) }
+    {
+        let (parts, first) = Parts::open_first(rt, alloc, job, morsel_size, sections)?;
+        let all = parts.more(alloc, first, passes)?;
+        Ok((parts, all))
+    }
+
+    // So many passes, the first of which is given.
+    fn more(
+        &self,
+        alloc: Global,
+        first: PartsPass,
+        passes: usize,
+    ) -> Result<Vec<PartsPass>, AllocError>
+        requires count { 0 < passes }
+        requires first { IsPassOfParts self.now first × HoldsNone first × KnowsNothing first }
+        ensures count { IfOk result (λ r. length r.items ≡ passes) }
+        ensures passes { IfOk result (λ r. All (λ p. IsPassOfParts self.now p × HoldsNone p × KnowsNothing p) r.items) }
+    {
+        let mut first = first;
+        let mut all = Vec::new(alloc);
+        for _ in 1..passes {
+            let pass = self.another(alloc, &mut first)?;
+            all.push(pass)?;
+        }
+        all.push(first)?;
+        Ok(all)
+    }
+}

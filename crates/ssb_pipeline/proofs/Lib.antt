@@ -1,5 +1,7 @@
+pub mod Bringing
 pub mod Cuts
 pub mod EveryRun
+pub mod Holds
 pub mod JoinedFacts
 pub mod MarkFacts
 pub mod MorselFacts
@@ -10,6 +12,7 @@ pub mod PartialFacts
 pub mod Passes
 pub mod Probing
 pub mod RangeFacts
+pub mod Rounds
 pub mod RunFacts
 pub mod SetFacts
 pub mod SweepFacts

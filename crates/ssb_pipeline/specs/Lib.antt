@@ -6,3 +6,4 @@ pub mod Marks
 pub mod Rule
 pub mod Pass
 pub mod Lending
+pub mod Work

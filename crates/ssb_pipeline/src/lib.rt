@@ -2,6 +2,7 @@
 #![tactic(auto)]
 
 mod fault;
+mod gate;
 mod grouping;
 mod law;
 mod line;
@@ -9,10 +10,13 @@ mod part;
 mod partial;
 mod parts;
 mod ticket;
+mod worker;
 
 pub use fault::ReturnFault;
+pub use gate::{Gate, NoGate};
 pub use law::{core_runs, every_run, morsels_in_sections, rows_in_morsels};
 pub use part::Part;
 pub use partial::Partial;
 pub use parts::{Held, Parts, PartsPass};
 pub use ticket::Ticket;
+pub use worker::work;

@@ -2,6 +2,7 @@
 
 ghost use Rattle.std.specs.Prelude.{◌≡◌, ◌<◌, ◌≤◌, true, false, length, All, IfOk};
 ghost use Rattle.std.specs.Arc.{arc_value};
+ghost use Rattle.ssb_job.specs.Kept.{AreOneJob};
 ghost use Rattle.ssb_pipeline.specs.Part.{Follows, IsLawful};
 ghost use Rattle.ssb_pipeline.specs.Rule.{taker, putter};
 ghost use Rattle.ssb_pipeline.specs.Pass.{IsPassOfParts, HoldsNone, KnowsNothing, known, knowing, newcomers};
@@ -10,6 +11,8 @@ ghost use Rattle.ssb_pipeline.specs.Lending.{LendsPart};
 
 use crate::line::{Line, LinePass, another_one, open_one, put_one, take_one};
 use crate::part::Part;
+use crate::partial::Partial;
+use crate::ticket::Ticket;
 use ssb_job::Job;
 use std::alloc::{AllocError, Global};
 use std::marker::Model;
@@ -18,13 +21,15 @@ use std::sync::{Arc, Wait};
 /// The parts. Contracts see the names of their queues, and the job.
 #[derive(Drop)]
 pub struct Parts {
+    alloc: Global,
     queues: Vec<Line>,
+    sections: u32,
     job: Arc<Job, Global>,
     size: u32,
 }
 
 impl Model for Parts {
-    ghost use Rattle.std.specs.Prelude.{List, map, All};
+    ghost use Rattle.std.specs.Prelude.{◌≡◌, List, map, length, All};
     ghost use Rattle.std.specs.Arc.{arc_value};
     ghost use Rattle.ssb_pipeline.specs.Pass.{PartsState, queue_name, IsSingle};
 
@@ -38,7 +43,7 @@ impl Model for Parts {
 
     ghost view = { λ p. record { queues = map queue_name p.queues.items; job = arc_value p.job; size = p.size } };
 
-    ghost invariant = { λ p. All IsSingle p.queues.items };
+    ghost invariant = { λ p. All IsSingle p.queues.items × (length p.queues.items ≡ p.sections) };
 }
 
 /// One worker's knowledge of all parts.
@@ -136,10 +141,21 @@ impl Parts {
 
 impl Parts {
     /// The number of sections.
-    pub fn sections(&self) -> usize
+    pub fn sections(&self) -> u32
         ensures { result ≡ length self.now.queues }
     {
-        self.queues.len()
+        self.sections
+    }
+
+    // The partial of a ticket of these parts' job; where a growth is refused, the ticket.
+    pub(crate) fn partial_of(&self, ticket: Ticket) -> Result<Partial, Ticket>
+        requires { AreOneJob ticket.job self.now.job }
+        ensures { IfOk result (λ p. p.ticket ≡ ticket) }
+    {
+        match Partial::of(self.alloc, &self.job, ticket) {
+            Ok(partial) => Ok(partial),
+            Err((ticket, _)) => Err(ticket),
+        }
     }
 
     /// Another pass, which has seen as much.
@@ -180,7 +196,9 @@ impl Parts {
         }
         Ok((
             Parts {
+                alloc,
                 queues,
+                sections,
                 job,
                 size: morsel_size,
             },

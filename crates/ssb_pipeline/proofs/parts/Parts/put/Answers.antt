@@ -11,7 +11,7 @@ put_one-requires-clause-queue g c =
     let in_queues = in_image queue_name c.self.inside.queues.items _ c.args.held.section (ap (λ p. p.queues) c.self.view_is) c.requires.section in
     let in_passes = in_image pass_name c.pass.inside.passes.items _ c.args.held.section (ap (λ p. p.queues) c.pass.view_is ∙ c.requires.pass.queues) c.requires.section in (
       (image_at pass_name queue_name _ _ _ _ _ same in_passes in_queues c.index_mut.ensures.value c.index.ensures, each_at IsAtRest _ _ _ c.pass.invariant in_passes c.index_mut.ensures.value),
-      each_at IsSingle _ _ _ c.self.invariant in_queues c.index.ensures,
+      each_at IsSingle _ _ _ c.self.invariant.0 in_queues c.index.ensures,
     )
 
 pub returns-clause-view : goal.returns-clause-view

@@ -1,0 +1,70 @@
+-- One turn of a worker after another.
+use Rattle.std.proofs.Common.{◌≡◌, ◌≢◌, ◌⊎◌, inl, inr, ℕ, ◌<◌, true, [], ◌∷◌, ◌++◌, length, sym, refl, ap, ◌∙◌, subst, append_assoc, append-nil, None, Some}
+use Rattle.std.proofs.lemmas.List.{set-set, set-get_or}
+use Rattle.std.proofs.lemmas.Grind.{get_or-set_at}
+use Rattle.std.proofs.lemmas.List.Elements.{All-nil, All-append, All-push, All-weaker}
+use Rattle.ssb_pipeline.specs.Part.{has}
+use Rattle.ssb_pipeline.specs.Rule.{Knows, fresh}
+use Rattle.ssb_pipeline.specs.Pass.{AllSections, PassState, known, knowing}
+use Rattle.ssb_pipeline.specs.State.{TicketState}
+use Rattle.ssb_pipeline.specs.Work.{AllBack, Brings, GetsTicket, IsExhausted, IsRound, OnlyIn}
+use Rattle.ssb_pipeline.proofs.Moves.{follows_self, follows_after}
+use Rattle.ssb_pipeline.proofs.Passes.{all_knowing, all_but_one}
+
+pub only_self : (s : ℕ) (p : PassState) → OnlyIn s p p
+only_self s p = λ k. record { queues = p.queues; views = sym (set-get_or p.views s fresh) k }
+
+-- two changes of one section are one
+pub only_again : (s t : ℕ) (p q r : PassState) (v w : Knows) → t ≡ s → s < length p.views → q ≡ knowing p s v → r ≡ knowing q t w → OnlyIn s p r
+only_again s t p q r v w is in_views a b =
+    let b' : r ≡ knowing (knowing p s v) s w = b ∙ (λ k. knowing (a k) (is k) w) in
+    let c : r ≡ knowing p s w = b' ∙ (λ k. record { queues = p.queues; views = set-set p.views s v w k }) in
+    let w_is : known r s ≡ w = ap (λ x. known x s) c ∙ get_or-set_at p.views s s w fresh refl in_views in
+    c ∙ ap (knowing p s) (sym w_is)
+
+pub only_more : (s : ℕ) (p q r : PassState) → s < length p.views → OnlyIn s p q → OnlyIn s q r → OnlyIn s p r
+only_more s p q r in_views a b = only_again s s p q r (known q s) (known r s) refl in_views a b
+
+pub round_self : (v : Knows) → IsRound v v
+round_self v = record { more = []; mine = sym (append-nil v.mine); follows = follows_self v.seen; back = inr (All-nil (λ i. has v.seen.returned i ≡ true)) }
+
+back_after : (v w x : Knows) (a : IsRound v w) (b : IsRound w x) → ((w.seen.gave_up ≡ true) ⊎ AllBack a.more w.seen) → ((x.seen.gave_up ≡ true) ⊎ AllBack b.more x.seen)
+    → (x.seen.gave_up ≡ true) ⊎ AllBack (a.more ++ b.more) x.seen
+back_after v w x a b h (inl k) = inl k
+back_after v w x a b (inl h) (inr k) = inl (b.follows.gave_up h)
+back_after v w x a b (inr h) (inr k) =
+    let Old : ℕ → Type 0 = λ i. has w.seen.returned i ≡ true in
+    let New : ℕ → Type 0 = λ i. has x.seen.returned i ≡ true in
+    inr (All-append New a.more b.more (All-weaker Old New b.follows.returned a.more h) k)
+
+pub round_after : (v w x : Knows) → IsRound v w → IsRound w x → IsRound v x
+round_after v w x a b = record {
+  more = a.more ++ b.more;
+  mine = b.mine ∙ (ap (λ l. l ++ b.more) a.mine ∙ append_assoc v.mine a.more b.more);
+  follows = follows_after x.seen w.seen v.seen b.follows a.follows;
+  back = back_after v w x a b a.back b.back;
+}
+
+-- a section more was worked on
+pub rounds_step : (p q r : PassState) (s : ℕ) → s < length q.views → AllSections (λ t w. IsRound (known p t) w) q → OnlyIn s q r → IsRound (known q s) (known r s) → AllSections (λ t w. IsRound (known p t) w) r
+rounds_step p q r s in_views all only new =
+    let F : ℕ → Knows → Type 0 = λ t w. IsRound (known p t) w in
+    subst (AllSections F) (sym only) (all_knowing F q s (known r s) all (round_after (known p s) (known q s) (known r s) (all s in_views) new) in_views)
+
+pub ended_step : (D : ℕ → Type 0) (q r : PassState) (s : ℕ) → s < length q.views → ((t : ℕ) → t < length q.views → t ≢ s → D t → IsExhausted (known q t)) → OnlyIn s q r → IsExhausted (known r s) → AllSections (λ t w. D t → IsExhausted w) r
+ended_step D q r s in_views all only new =
+    let F : ℕ → Knows → Type 0 = λ t w. D t → IsExhausted w in
+    subst (AllSections F) (sym only) (all_but_one F q s (known r s) all (λ d. new) in_views)
+
+-- a ticket came, and its morsel was brought back
+pub round-of : (t : TicketState) (v m w : Knows) → GetsTicket (Some t) v m → Brings t.morsel m w → IsRound v w
+round-of t v m w g b = record {
+  more = t.morsel ∷ [];
+  mine = b.mine ∙ g.0;
+  follows = follows_after w.seen m.seen v.seen b.follows g.1;
+  back = elim b.back [ inl gave ↦ inl gave | inr here ↦ inr (All-push (λ i. has w.seen.returned i ≡ true) [] t.morsel (All-nil (λ i. has w.seen.returned i ≡ true)) here) ];
+}
+
+-- no ticket came
+pub round-none : (v w : Knows) → GetsTicket None v w → IsRound v w
+round-none v w g = record { more = []; mine = g.0 ∙ sym (append-nil v.mine); follows = g.1; back = inr (All-nil (λ i. has w.seen.returned i ≡ true)) }

@@ -1,0 +1,56 @@
+-- What workers leave: the rounds of one pass over the sections.
+-- Source: own.
+use Rattle.std.specs.Prelude.{◌≡◌, ℕ, true, List, [], ◌∷◌, ◌++◌, ◌⊎◌, All, None, Some, Option, Result, Ok, Err}
+use Rattle.ssb_job.specs.Kept.{AreOneJob}
+use Rattle.ssb_pipeline.specs.Part.{Follows, GivesUp, IsHandedOut, PartState, has, ours}
+use Rattle.ssb_pipeline.specs.Pass.{AllSections, HoldsNone, IsPassOfParts, PartsState, PassState, known, knowing}
+use Rattle.ssb_pipeline.specs.Rule.{Knows}
+use Rattle.ssb_pipeline.specs.State.{PartialState, TicketState}
+
+-- each of these numbers came back
+abbrev pub AllBack : List ℕ → PartState → Type 0
+AllBack numbers p = All (λ i. has p.returned i ≡ true) numbers
+
+-- w is known after whole rounds from v on: a ticket was seen to be given up, or each number that is new in w came back
+pub record IsRound (v w : Knows) : Type 0 where
+  pub more : List ℕ
+  pub mine : w.mine ≡ v.mine ++ more
+  pub follows : Follows w.seen v.seen
+  pub back : (w.seen.gave_up ≡ true) ⊎ AllBack more w.seen
+
+-- a ticket was seen to be given up, or that all of the section is handed out
+abbrev pub IsExhausted : Knows → Type 0
+IsExhausted w = (w.seen.gave_up ≡ true) ⊎ ((i : ℕ) → has (ours w.seen) i ≡ true → has w.seen.handed i ≡ true)
+
+-- only what it knows of this section has changed
+abbrev pub OnlyIn : ℕ → PassState → PassState → Type 0
+OnlyIn s p q = q ≡ knowing p s (known q s)
+
+-- what getting a ticket in a hold of its own leaves: a number more that is handed out and not back, or that there is none left
+abbrev pub GetsTicket : Option TicketState → Knows → Knows → Type 0
+GetsTicket None v w = (w.mine ≡ v.mine) × Follows w.seen v.seen × IsExhausted w
+GetsTicket (Some t) v w = (w.mine ≡ v.mine ++ t.morsel ∷ []) × Follows w.seen v.seen × (has w.seen.handed t.morsel ≡ true) × AreOneJob t.job w.seen.job × (t.size ≡ w.seen.size)
+
+-- what a part is after a partial was brought: the morsel came back, perhaps before, or its ticket is given up; nothing else was handed out
+pub record IsBrought (i : ℕ) (p q : PartState) : Type 0 where
+  pub handed : q.handed ≡ p.handed
+  pub follows : Follows q p
+  pub back : (q.gave_up ≡ true) ⊎ (has q.returned i ≡ true)
+
+-- what a part is after it took a partial of a number that it handed out, or noted that a ticket is given up
+abbrev pub TakesBack : Result PartialState TicketState → PartState → PartState → Type 0
+TakesBack (Ok x) p q = IsHandedOut p x.ticket → IsBrought x.ticket.morsel p q
+TakesBack (Err t) p q = GivesUp p q
+
+-- what bringing a number back in a hold of its own leaves
+pub record Brings (i : ℕ) (v w : Knows) : Type 0 where
+  pub mine : w.mine ≡ v.mine
+  pub follows : Follows w.seen v.seen
+  pub back : (w.seen.gave_up ≡ true) ⊎ (has w.seen.returned i ≡ true)
+
+-- after the work: a pass of the parts that holds none; what was handed out to it came back, and each section is exhausted, or a ticket was given up there
+pub record IsWorked (parts : PartsState) (p q : PassState) : Type 0 where
+  pub pass : IsPassOfParts parts q
+  pub none : HoldsNone q
+  pub rounds : AllSections (λ s w. IsRound (known p s) w) q
+  pub ended : AllSections (λ s w. IsExhausted w) q

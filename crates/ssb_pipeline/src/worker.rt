@@ -1,0 +1,154 @@
+// A worker: it goes round the sections, and does morsel after morsel.
+
+ghost use Rattle.std.specs.Prelude.{◌≡◌, ◌<◌, true, length, IfOk, IsFalse};
+ghost use Rattle.ssb_job.specs.Kept.{AreOneJob};
+ghost use Rattle.ssb_pipeline.specs.Part.{has};
+ghost use Rattle.ssb_pipeline.specs.Pass.{HoldsNone, IsPassOfParts, known};
+ghost use Rattle.ssb_pipeline.specs.Work.{Brings, GetsTicket, IsExhausted, IsRound, IsWorked, OnlyIn, TakesBack};
+
+use crate::fault::ReturnFault;
+use crate::gate::Gate;
+use crate::part::Part;
+use crate::partial::Partial;
+use crate::parts::{Parts, PartsPass};
+use crate::ticket::Ticket;
+use std::sync::Wait;
+
+// Gets a ticket in a hold of its own.
+fn get_ticket<R: Wait, G: Gate>(
+    rt: &R,
+    parts: &Parts,
+    section: u32,
+    pass: &mut PartsPass,
+    gate: &G,
+) -> Option<Ticket>
+    requires section { section < length parts.now.queues }
+    requires pass { IsPassOfParts parts.now pass.old }
+    requires none { HoldsNone pass.old }
+    ensures only { OnlyIn section pass.old pass.new }
+    ensures pass { IsPassOfParts parts.now pass.new }
+    ensures none { HoldsNone pass.new }
+    ensures gets { GetsTicket result (known pass.old section) (known pass.new section) }
+{
+    let mut held = parts.take(rt, section, pass);
+    let ticket = held.part().hand_out();
+    if let Some(ticket) = &ticket {
+        gate.while_held(section, ticket.morsel());
+    }
+    parts.put(rt, held, pass);
+    ticket
+}
+
+// Takes the partial of a morsel that was handed out in an earlier hold, or notes that its ticket is
+// given up, in a hold of its own.
+fn bring_back<R: Wait>(
+    rt: &R,
+    parts: &Parts,
+    section: u32,
+    pass: &mut PartsPass,
+    made: Result<Partial, Ticket>,
+    morsel: u32,
+)
+    requires section { section < length parts.now.queues }
+    requires pass { IsPassOfParts parts.now pass.old }
+    requires none { HoldsNone pass.old }
+    requires made { IfOk made (λ p. (p.ticket.morsel ≡ morsel) × AreOneJob p.ticket.job parts.now.job × (p.ticket.size ≡ parts.now.size)) }
+    requires handed { has (known pass.old section).seen.handed morsel ≡ true }
+    ensures only { OnlyIn section pass.old pass.new }
+    ensures pass { IsPassOfParts parts.now pass.new }
+    ensures none { HoldsNone pass.new }
+    ensures brings { Brings morsel (known pass.old section) (known pass.new section) }
+{
+    let mut held = parts.take(rt, section, pass);
+    take_back(held.part(), made);
+    parts.put(rt, held, pass);
+}
+
+// A part takes a partial, or notes that its ticket is given up.
+fn take_back(part: &mut Part, made: Result<Partial, Ticket>)
+    requires { IfOk made (λ p. AreOneJob p.ticket.job part.old.job) }
+    ensures { TakesBack made part.old part.new }
+{
+    match made {
+        Ok(partial) => match part.give_back(partial) {
+            Ok(()) => {}
+            Err(ReturnFault::Memory(partial)) => part.give_up(partial.into_ticket()),
+            Err(fault) => drop(fault),
+        },
+        Err(ticket) => part.give_up(ticket),
+    }
+}
+
+// One morsel of the section, if there is one left.
+fn turn<R: Wait, G: Gate>(
+    rt: &R,
+    parts: &Parts,
+    section: u32,
+    pass: &mut PartsPass,
+    gate: &G,
+) -> bool
+    requires section { section < length parts.now.queues }
+    requires pass { IsPassOfParts parts.now pass.old }
+    requires none { HoldsNone pass.old }
+    ensures only { OnlyIn section pass.old pass.new }
+    ensures pass { IsPassOfParts parts.now pass.new }
+    ensures none { HoldsNone pass.new }
+    ensures round { IsRound (known pass.old section) (known pass.new section) }
+    ensures ended { IsFalse result → IsExhausted (known pass.new section) }
+{
+    let Some(ticket) = get_ticket(rt, parts, section, pass, gate) else {
+        return false;
+    };
+    let morsel = ticket.morsel();
+    gate.before_probe(morsel);
+    let made = parts.partial_of(ticket);
+    bring_back(rt, parts, section, pass, made, morsel);
+    true
+}
+
+// All morsels of the section that are left.
+fn work_section<R: Wait, G: Gate>(
+    rt: &R,
+    parts: &Parts,
+    section: u32,
+    pass: &mut PartsPass,
+    gate: &G,
+)
+    requires section { section < length parts.now.queues }
+    requires pass { IsPassOfParts parts.now pass.old }
+    requires none { HoldsNone pass.old }
+    ensures only { OnlyIn section pass.old pass.new }
+    ensures pass { IsPassOfParts parts.now pass.new }
+    ensures none { HoldsNone pass.new }
+    ensures round { IsRound (known pass.old section) (known pass.new section) }
+    ensures ended { IsExhausted (known pass.new section) }
+{
+    for _ in rt.forever() {
+        if !turn(rt, parts, section, pass, gate) {
+            return;
+        }
+    }
+    unreachable!()
+}
+
+/// One worker, in the caller's thread: it begins at the section of this number, counted in a circle,
+/// and takes morsel after morsel of each section in turn, until each gave no ticket. It holds no part
+/// while it probes, and where a growth is refused it gives its ticket up. It may wait for other passes.
+pub fn work<R: Wait, G: Gate>(rt: &R, parts: &Parts, index: usize, pass: &mut PartsPass, gate: &G)
+    requires pass { IsPassOfParts parts.now pass.old }
+    requires none { HoldsNone pass.old }
+    ensures { IsWorked parts.now pass.old pass.new }
+{
+    let sections = parts.sections();
+    let first = if sections == 0 {
+        0
+    } else {
+        (index % sections as usize) as u32
+    };
+    for section in first..sections {
+        work_section(rt, parts, section, pass, gate);
+    }
+    for section in 0..first {
+        work_section(rt, parts, section, pass, gate);
+    }
+}

@@ -72,7 +72,9 @@ impl Model for PartsPass {
 /// A part that was taken, and its section.
 #[derive(Drop)]
 pub struct Held {
+    /// The number of its section, from 0.
     pub section: u32,
+    /// The part.
     pub part: Part,
 }
 
@@ -87,7 +89,8 @@ impl Held {
 }
 
 impl Parts {
-    /// Takes the part of a section as soon as it is free.
+    /// Takes the part of a section, numbered from 0, as soon as it is free; it may wait for other
+    /// passes. The part has at least what this pass saw of it. It takes no memory.
     pub fn take<R: Wait>(&self, rt: &R, section: u32, pass: &mut PartsPass) -> Held
         requires section { section < length self.now.queues }
         requires pass { IsPassOfParts self.now pass.old }
@@ -119,7 +122,8 @@ impl Parts {
         Held { section, part }
     }
 
-    /// Puts the part back.
+    /// Puts a part back that this pass took; it may wait. The next take of the section, by whichever
+    /// pass, finds it. It takes no memory.
     pub fn put<R: Wait>(&self, rt: &R, held: Held, pass: &mut PartsPass)
         requires section { held.section < length self.now.queues }
         requires pass { IsPassOfParts self.now pass.old }
@@ -159,6 +163,10 @@ impl Parts {
     }
 
     /// Another pass, which has seen as much.
+    ///
+    /// # Errors
+    ///
+    /// Only where a growth was refused; the pass that is given is as before.
     pub fn another(&self, alloc: Global, pass: &mut PartsPass) -> Result<PartsPass, AllocError>
         requires pass { IsPassOfParts self.now pass.old }
         requires none { HoldsNone pass.old }
@@ -206,7 +214,12 @@ impl Parts {
         ))
     }
 
-    /// The parts, each free, and so many passes.
+    /// The parts of a job, one for each of so many sections of its morsels, each free, and so many
+    /// passes. A morsel has `morsel_size` rows, from 1 on. It may wait while it puts the parts.
+    ///
+    /// # Errors
+    ///
+    /// Only where a growth was refused.
     pub fn open<R: Wait>(
         rt: &R,
         alloc: Global,

@@ -10,3 +10,4 @@ pub mod Taking
 pub mod Text
 pub mod Told
 pub mod Writing
+pub mod Settings

@@ -6,12 +6,10 @@ ghost use Rattle.ssb_answer.specs.Reply.{IsOfContent, Replies};
 use crate::fault::AnswerFault;
 use crate::readers::run_alone;
 use crate::run_fault::RunFault;
+use crate::settings::DEFAULT_MORSEL_SIZE;
 use crate::writer::Out;
 use ssb_load::{Catalog, LoadFault};
 use std::alloc::Global;
-
-/// How many rows a morsel has where nothing else is said.
-pub const DEFAULT_MORSEL_SIZE: u32 = 10_000;
 
 // A slice never fails a read, and a `Vec` fails a write for want of memory alone: any other fault than
 // one of the content is memory's.

@@ -1,4 +1,4 @@
-// The groups over all rows that a query keeps.
+// The groups over all rows that a query keeps, by one thread or by many.
 
 ghost use Rattle.std.specs.Prelude.{◌≡◌, ◌<◌, IfOk};
 ghost use Rattle.std.specs.Arc.{arc_value};
@@ -6,14 +6,74 @@ ghost use Rattle.ssb_job.specs.Kept.{AreOneJob};
 ghost use Rattle.ssb_groups.specs.Stands.{Stands};
 ghost use Rattle.ssb_answer.specs.Reply.{seen_rows};
 
+use crate::settings::Settings;
 use ssb_groups::Groups;
 use ssb_job::Job;
-use ssb_pipeline::{Part, core_runs, morsels_in_sections, rows_in_morsels};
+use ssb_pipeline::{
+    Gate, Part, Parts, core_runs, finish, morsels_in_sections, rows_in_morsels, run_workers,
+};
 use std::alloc::{AllocError, Global};
-use std::sync::Arc;
+use std::sync::{Arc, Wait};
+use std::thread::Threads;
 
-// The groups over all that a job keeps: one part of all its morsels, worked off in this thread.
-pub(crate) fn group_alone(
+// A way to come to the groups over all that a job keeps.
+pub(crate) trait Grouping {
+    // The groups; an error only where a growth was refused.
+    fn group(&self, alloc: Global, job: &Arc<Job, Global>) -> Result<Groups, AllocError>
+        ensures stands { IfOk result (λ g. Stands g (seen_rows (arc_value job.now))) }
+        ensures job { IfOk result (λ g. AreOneJob g.job (arc_value job.now)) };
+}
+
+// In the caller's thread, in morsels of so many rows.
+pub(crate) struct Alone {
+    pub(crate) morsel_size: u32,
+    ghost some: { 0 < morsel_size },
+}
+
+impl Grouping for Alone {
+    fn group(&self, alloc: Global, job: &Arc<Job, Global>) -> Result<Groups, AllocError> {
+        group_alone(alloc, job, self.morsel_size)
+    }
+}
+
+// By workers in threads of their own.
+pub(crate) struct Team<'a, R: Threads + Wait + Sync, G: Gate + Sync> {
+    pub(crate) rt: &'a R,
+    pub(crate) settings: Settings,
+    pub(crate) gate: &'a G,
+}
+
+impl<'a, R: Threads + Wait + Sync, G: Gate + Sync> Grouping for Team<'a, R, G> {
+    fn group(&self, alloc: Global, job: &Arc<Job, Global>) -> Result<Groups, AllocError> {
+        group_shared(self.rt, alloc, job, self.settings, self.gate)
+    }
+}
+
+// One part for each section of the morsels, and one pass for each worker; what the workers leave is done
+// in this thread.
+fn group_shared<R: Threads + Wait + Sync, G: Gate + Sync>(
+    rt: &R,
+    alloc: Global,
+    job: &Arc<Job, Global>,
+    settings: Settings,
+    gate: &G,
+) -> Result<Groups, AllocError>
+    ensures stands { IfOk result (λ g. Stands g (seen_rows (arc_value job.now))) }
+    ensures job { IfOk result (λ g. AreOneJob g.job (arc_value job.now)) }
+{
+    let Settings {
+        workers,
+        morsel_size,
+        parts,
+    } = settings;
+    let shared = Arc::try_clone(job)?;
+    let (parts, mut passes) = Parts::open(rt, alloc, shared, morsel_size, parts, workers as usize)?;
+    run_workers(rt, &parts, passes.as_mut_slice(), gate);
+    finish(rt, parts, &mut passes[0])
+}
+
+// One part of all morsels, worked off in this thread.
+fn group_alone(
     alloc: Global,
     job: &Arc<Job, Global>,
     morsel_size: u32,

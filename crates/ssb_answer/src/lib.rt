@@ -13,6 +13,7 @@ mod page;
 mod readers;
 mod rows_of;
 pub mod run_fault;
+pub mod settings;
 mod shown;
 pub mod sink;
 #[cfg(test)]
@@ -22,15 +23,17 @@ mod write;
 pub mod writer;
 
 pub use answer::{Answer, AnswerRow};
-pub use bytes::{DEFAULT_MORSEL_SIZE, answer_bytes};
+pub use bytes::answer_bytes;
 pub use fault::AnswerFault;
 pub use fault_line::{MEMORY_LINE, load_line, run_line, words_line};
 pub use law::one_reply;
 pub use order::one_order;
-pub use readers::run_alone;
+pub use readers::{run, run_alone};
 pub use rows_of::rows;
 pub use run_fault::RunFault;
+pub use settings::{DEFAULT_MORSEL_SIZE, DEFAULT_PARTS, DEFAULT_WORKERS, Settings};
 pub use sink::{Sink, SinkFault};
-pub use whole::{answer_job, run_alone_from, run_in_pieces};
+pub use ssb_pipeline::{Gate, NoGate};
+pub use whole::{answer_job, answer_shared, run_alone_from, run_from};
 pub use write::write_answer;
 pub use writer::Out;

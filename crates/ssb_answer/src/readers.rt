@@ -5,12 +5,17 @@ ghost use Rattle.ssb_load.specs.Files.{Bytes};
 ghost use Rattle.ssb_answer.specs.Reply.{Replies};
 ghost use Rattle.ssb_answer.specs.Running.{LeavesSink};
 
+use crate::grouping::{Alone, Grouping, Team};
 use crate::run_fault::RunFault;
+use crate::settings::Settings;
 use crate::sink::Sink;
-use crate::whole::run_alone_from;
-use ssb_load::{Catalog, In, Source};
+use crate::whole::run_in_pieces;
+use ssb_load::{Catalog, In, PIECE_SIZE, Source};
+use ssb_pipeline::Gate;
 use std::alloc::{AllocError, Global};
 use std::io::Read;
+use std::sync::Wait;
+use std::thread::Threads;
 
 // Each reader as a source that gave nothing yet.
 fn sources_of<R: Read + Drop>(alloc: Global, readers: Vec<R>) -> Result<Vec<In<R>>, AllocError>
@@ -24,12 +29,32 @@ fn sources_of<R: Read + Drop>(alloc: Global, readers: Vec<R>) -> Result<Vec<In<R
     Ok(sources)
 }
 
+// The whole path over readers, with rows grouped in this way.
+fn run_over<H: Grouping, R: Read + Drop, W: Sink>(
+    alloc: Global,
+    catalog: Catalog,
+    readers: Vec<R>,
+    text: &str,
+    how: &H,
+    out: &mut W,
+) -> Result<(), RunFault>
+    requires readers { vec_len readers ≡ length catalog }
+    ensures replies { (files : List Bytes) → map R.remaining readers.items ≡ map Some files → Replies catalog files text.now result (W.taken out.old) (W.taken out.new) }
+    ensures right { (files : List Bytes) × Replies catalog files text.now result (W.taken out.old) (W.taken out.new) }
+    ensures sink { LeavesSink result (W.taken out.old) (W.taken out.new) (W.failures out.old) (W.failures out.new) (W.contents out.old) (W.contents out.new) }
+{
+    let Ok(mut sources) = sources_of(alloc, readers) else {
+        return Err(RunFault::Memory);
+    };
+    run_in_pieces(alloc, catalog, &mut sources, text, how, out, PIECE_SIZE)
+}
+
 /// Answers a query over the tables of a catalog, each read from its reader in the catalog's order, and
-/// writes the answer's rows: [`run_alone_from`] over the readers.
+/// writes the answer's rows: [`run_alone_from`](crate::run_alone_from) over the readers.
 ///
 /// # Errors
 ///
-/// As of [`run_alone_from`].
+/// As of [`run_alone_from`](crate::run_alone_from).
 pub fn run_alone<R: Read + Drop, W: Sink>(
     alloc: Global,
     catalog: Catalog,
@@ -44,8 +69,36 @@ pub fn run_alone<R: Read + Drop, W: Sink>(
     ensures right { (files : List Bytes) × Replies catalog files text.now result (W.taken out.old) (W.taken out.new) }
     ensures sink { LeavesSink result (W.taken out.old) (W.taken out.new) (W.failures out.old) (W.failures out.new) (W.contents out.old) (W.contents out.new) }
 {
-    let Ok(mut sources) = sources_of(alloc, readers) else {
-        return Err(RunFault::Memory);
-    };
-    run_alone_from(alloc, catalog, &mut sources, text, morsel_size, out)
+    run_over(alloc, catalog, readers, text, &Alone { morsel_size }, out)
+}
+
+/// Answers a query over readers by workers in threads of their own: [`run_from`](crate::run_from) over
+/// the readers.
+///
+/// # Errors
+///
+/// As of [`run_alone_from`](crate::run_alone_from).
+pub fn run<T: Threads + Wait + Sync, R: Read + Drop, G: Gate + Sync, W: Sink>(
+    rt: &T,
+    alloc: Global,
+    catalog: Catalog,
+    readers: Vec<R>,
+    text: &str,
+    settings: Settings,
+    gate: &G,
+    out: &mut W,
+) -> Result<(), RunFault>
+    requires readers { vec_len readers ≡ length catalog }
+    ensures replies { (files : List Bytes) → map R.remaining readers.items ≡ map Some files → Replies catalog files text.now result (W.taken out.old) (W.taken out.new) }
+    ensures right { (files : List Bytes) × Replies catalog files text.now result (W.taken out.old) (W.taken out.new) }
+    ensures sink { LeavesSink result (W.taken out.old) (W.taken out.new) (W.failures out.old) (W.failures out.new) (W.contents out.old) (W.contents out.new) }
+{
+    run_over(
+        alloc,
+        catalog,
+        readers,
+        text,
+        &Team { rt, settings, gate },
+        out,
+    )
 }

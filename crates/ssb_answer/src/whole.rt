@@ -12,18 +12,21 @@ ghost use Rattle.ssb_answer.specs.Running.{LeavesSink, RunsFrom};
 
 use crate::answer::Answer;
 use crate::fault::AnswerFault;
-use crate::grouping::group_alone;
+use crate::grouping::{Alone, Grouping, Team};
 use crate::rows_of::rows;
 use crate::run_fault::RunFault;
+use crate::settings::Settings;
 use crate::sink::Sink;
 use crate::write::write_answer;
 use ssb_bind::{Query, bind};
 use ssb_cells::Table;
 use ssb_job::Job;
 use ssb_load::{Catalog, PIECE_SIZE, Source, load_all};
+use ssb_pipeline::Gate;
 use ssb_sql::read;
 use std::alloc::{AllocError, Global};
-use std::sync::Arc;
+use std::sync::{Arc, Wait};
+use std::thread::Threads;
 
 // The query of a text over a catalog.
 pub(crate) fn query_of(alloc: Global, catalog: &Catalog, text: &str) -> Result<Query, RunFault>
@@ -32,6 +35,20 @@ pub(crate) fn query_of(alloc: Global, catalog: &Catalog, text: &str) -> Result<Q
     let select = read(alloc, text)?;
     let query = bind(alloc, catalog, select)?;
     Ok(query)
+}
+
+// What a job's query answers, its rows grouped in this way.
+fn answer_by<H: Grouping>(
+    alloc: Global,
+    job: &Arc<Job, Global>,
+    how: &H,
+) -> Result<Answer, AnswerFault>
+    ensures { Answers (arc_value job.now).query (seen_rows (arc_value job.now)) result }
+{
+    let Ok(groups) = how.group(alloc, job) else {
+        return Err(AnswerFault::Memory);
+    };
+    rows(alloc, groups, job.query())
 }
 
 /// What a job's query answers: its rows are grouped in the caller's thread, in morsels of
@@ -48,10 +65,25 @@ pub fn answer_job(
     requires { 0 < morsel_size }
     ensures { Answers (arc_value job.now).query (seen_rows (arc_value job.now)) result }
 {
-    let Ok(groups) = group_alone(alloc, job, morsel_size) else {
-        return Err(AnswerFault::Memory);
-    };
-    rows(alloc, groups, job.query())
+    answer_by(alloc, job, &Alone { morsel_size })
+}
+
+/// What a job's query answers: its rows are grouped by workers in threads of their own, which may wait
+/// for each other. How their work is cut and shared changes no answer.
+///
+/// # Errors
+///
+/// As of [`answer_job`].
+pub fn answer_shared<R: Threads + Wait + Sync, G: Gate + Sync>(
+    rt: &R,
+    alloc: Global,
+    job: &Arc<Job, Global>,
+    settings: Settings,
+    gate: &G,
+) -> Result<Answer, AnswerFault>
+    ensures { Answers (arc_value job.now).query (seen_rows (arc_value job.now)) result }
+{
+    answer_by(alloc, job, &Team { rt, settings, gate })
 }
 
 // The job of a query over these tables, shared.
@@ -74,20 +106,19 @@ pub(crate) fn shared_job(
 }
 
 // What a query answers over these tables.
-fn answer_query(
+fn answer_query<H: Grouping>(
     alloc: Global,
     query: Query,
     tables: Vec<Table>,
-    morsel_size: u32,
+    how: &H,
 ) -> Result<Answer, AnswerFault>
-    requires loaded { AreLoaded query.tables tables.items }
-    requires size { 0 < morsel_size }
+    requires { AreLoaded query.tables tables.items }
     ensures { Answers query (seen_rows (record { query = query; tables = tables.items })) result }
 {
     let Ok(job) = shared_job(alloc, query, tables) else {
         return Err(AnswerFault::Memory);
     };
-    let answer = answer_job(alloc, &job, morsel_size);
+    let answer = answer_by(alloc, &job, how);
     // By a call, since the prover writes out all that a job holds where a scope's end lets go of it.
     drop(job);
     answer
@@ -95,20 +126,19 @@ fn answer_query(
 
 // What a text asks of these tables.
 #[tactic(auto, using(crate::proofs::Asking::unasked, crate::proofs::Asking::answered, crate::proofs::Asking::refused, crate::proofs::Asking::fits))]
-fn answer_text(
+fn answer_text<H: Grouping>(
     alloc: Global,
     catalog: &Catalog,
     tables: Vec<Table>,
     text: &str,
-    morsel_size: u32,
+    how: &H,
 ) -> Result<Answer, RunFault>
-    requires size { 0 < morsel_size }
     requires lawful { AreLawful catalog.now tables.items }
     requires catalog { IsCatalog catalog.now }
     ensures { AnswersText catalog.now tables.items text.now result }
 {
     let query = query_of(alloc, catalog, text)?;
-    let answer = answer_query(alloc, query, tables, morsel_size)?;
+    let answer = answer_query(alloc, query, tables, how)?;
     Ok(answer)
 }
 
@@ -138,31 +168,52 @@ pub fn run_alone_from<S: Source, W: Sink>(
     ensures runs { RunsFrom S.given S.failures S.ends S.whole catalog text.now sources.old sources.new result (W.taken out.old) (W.taken out.new) }
     ensures sink { LeavesSink result (W.taken out.old) (W.taken out.new) (W.failures out.old) (W.failures out.new) (W.contents out.old) (W.contents out.new) }
 {
-    run_in_pieces(alloc, catalog, sources, text, morsel_size, out, PIECE_SIZE)
+    let alone = Alone { morsel_size };
+    run_in_pieces(alloc, catalog, sources, text, &alone, out, PIECE_SIZE)
 }
 
-/// [`run_alone_from`] with sources read in pieces of this many bytes, where no line is longer. The size
-/// changes no answer.
+/// The same over threads: workers take the morsels of the fact table from parts, and make the groups of
+/// each in threads of their own. They may wait for each other. How many workers and parts there are, and
+/// how large a morsel is, changes no answer.
 ///
 /// # Errors
 ///
 /// As of [`run_alone_from`].
-pub fn run_in_pieces<S: Source, W: Sink>(
+pub fn run_from<R: Threads + Wait + Sync, S: Source, G: Gate + Sync, W: Sink>(
+    rt: &R,
     alloc: Global,
     catalog: Catalog,
     sources: &mut [S],
     text: &str,
-    morsel_size: u32,
+    settings: Settings,
+    gate: &G,
+    out: &mut W,
+) -> Result<(), RunFault>
+    requires sources { length sources.old ≡ length catalog }
+    ensures runs { RunsFrom S.given S.failures S.ends S.whole catalog text.now sources.old sources.new result (W.taken out.old) (W.taken out.new) }
+    ensures sink { LeavesSink result (W.taken out.old) (W.taken out.new) (W.failures out.old) (W.failures out.new) (W.contents out.old) (W.contents out.new) }
+{
+    let team = Team { rt, settings, gate };
+    run_in_pieces(alloc, catalog, sources, text, &team, out, PIECE_SIZE)
+}
+
+// The whole path, with rows grouped in this way and sources read in pieces of so many bytes, where no
+// line is longer. The size changes no answer.
+pub(crate) fn run_in_pieces<S: Source, H: Grouping, W: Sink>(
+    alloc: Global,
+    catalog: Catalog,
+    sources: &mut [S],
+    text: &str,
+    how: &H,
     out: &mut W,
     piece_size: usize,
 ) -> Result<(), RunFault>
     requires sources { length sources.old ≡ length catalog }
-    requires size { 0 < morsel_size }
     ensures runs { RunsFrom S.given S.failures S.ends S.whole catalog text.now sources.old sources.new result (W.taken out.old) (W.taken out.new) }
     ensures sink { LeavesSink result (W.taken out.old) (W.taken out.new) (W.failures out.old) (W.failures out.new) (W.contents out.old) (W.contents out.new) }
 {
     let tables = load_all(alloc, &catalog, sources, piece_size)?;
-    let answer = answer_text(alloc, &catalog, tables, text, morsel_size)?;
+    let answer = answer_text(alloc, &catalog, tables, text, how)?;
     write_answer(&answer, out)?;
     Ok(())
 }

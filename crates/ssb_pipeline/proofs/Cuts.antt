@@ -8,7 +8,7 @@ use Rattle.std.proofs.Math.Nat.{le_trans}
 use Rattle.ssb_pipeline.specs.Morsels.{IsOneOf, LiesIn, piece, pieces}
 
 -- n numbers and then m are n + m numbers
-range-append : (a n m b k : ℕ) → b ≡ a + n → k ≡ n + m → range_with_len a n ++ range_with_len b m ≡ range_with_len a k
+pub range-append : (a n m b k : ℕ) → b ≡ a + n → k ≡ n + m → range_with_len a n ++ range_with_len b m ≡ range_with_len a k
 range-append a zero m b k e h = let z : b ≡ a = omega arith in let s : k ≡ m = omega arith in rw (z, s) refl
 range-append a (suc n) m b k e h =
     let next : b ≡ a + 1 + n = omega arith in

@@ -53,7 +53,7 @@ all-morsels n =
     let pos : 0 < 1 = omega arith in
     sym (append-nil (piece (morsel_cut n 1) 0)) ∙ all-pieces (morsel_cut n 1) (morsel-begins n 1 pos) (λ s. morsel-rises n 1 s pos) 1 ∙ ap (range_with_len 0) (morsel-end n 1 pos)
 
-all-rows : (j : JobShape) (m : ℕ) → 0 < m → seen_in j m (range_with_len 0 (morsel_count (fact_rows j) m)) ≡ map (seen j) (joined j (range_with_len 0 (fact_rows j)))
+pub all-rows : (j : JobShape) (m : ℕ) → 0 < m → seen_in j m (range_with_len 0 (morsel_count (fact_rows j) m)) ≡ map (seen j) (joined j (range_with_len 0 (fact_rows j)))
 all-rows j m pos =
     let n = fact_rows j in
     ap (λ rs. map (seen j) (joined j rs)) (all-pieces (row_cut n m) (row-begins n m) (row-rises n m) (morsel_count n m) ∙ ap (range_with_len 0) (row-end n m pos))

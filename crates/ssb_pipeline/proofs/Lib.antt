@@ -1,6 +1,10 @@
 pub mod Bringing
+pub mod CrossingJobs
+pub mod CrossingParts
+pub mod CrossingQueries
 pub mod Cuts
 pub mod EveryRun
+pub mod FinishFacts
 pub mod Holds
 pub mod JoinedFacts
 pub mod MarkFacts

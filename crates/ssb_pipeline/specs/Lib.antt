@@ -7,3 +7,4 @@ pub mod Rule
 pub mod Pass
 pub mod Lending
 pub mod Work
+pub mod Finish

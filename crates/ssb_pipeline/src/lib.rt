@@ -2,6 +2,7 @@
 #![tactic(auto)]
 
 mod fault;
+mod finishing;
 mod gate;
 mod grouping;
 mod law;
@@ -13,10 +14,11 @@ mod ticket;
 mod worker;
 
 pub use fault::ReturnFault;
+pub use finishing::finish;
 pub use gate::{Gate, NoGate};
 pub use law::{core_runs, every_run, morsels_in_sections, rows_in_morsels};
 pub use part::Part;
 pub use partial::Partial;
 pub use parts::{Held, Parts, PartsPass};
 pub use ticket::Ticket;
-pub use worker::work;
+pub use worker::{run_workers, work};

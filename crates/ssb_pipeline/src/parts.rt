@@ -1,8 +1,8 @@
 // All parts of a job, each in a queue of its own.
 
-ghost use Rattle.std.specs.Prelude.{◌≡◌, ◌<◌, ◌≤◌, true, false, length, All, IfOk};
+ghost use Rattle.std.specs.Prelude.{◌≡◌, ◌<◌, ◌≤◌, ◌^◌, true, false, length, All, IfOk};
 ghost use Rattle.std.specs.Arc.{arc_value};
-ghost use Rattle.ssb_job.specs.Kept.{AreOneJob};
+ghost use Rattle.ssb_job.specs.Kept.{AreOneJob, fact_rows};
 ghost use Rattle.ssb_pipeline.specs.Part.{Follows, IsLawful};
 ghost use Rattle.ssb_pipeline.specs.Rule.{taker, putter};
 ghost use Rattle.ssb_pipeline.specs.Pass.{IsPassOfParts, HoldsNone, KnowsNothing, known, knowing, newcomers};
@@ -149,6 +149,15 @@ impl Parts {
         ensures { result ≡ length self.now.queues }
     {
         self.sections
+    }
+
+    // What holds of the fact table, for the prover: the query names it, and 32 bits number its rows.
+    pub(crate) fn fact_table(&self)
+        ensures named { self.now.job.query.fact < length self.now.job.query.from }
+        ensures few { fact_rows self.now.job < 2 ^ 32 }
+    {
+        let _query = self.job.query();
+        let _rows = self.job.fact_rows();
     }
 
     // The partial of a ticket of these parts' job; where a growth is refused, the ticket.

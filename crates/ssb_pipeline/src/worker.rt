@@ -1,9 +1,9 @@
 // A worker: it goes round the sections, and does morsel after morsel.
 
-ghost use Rattle.std.specs.Prelude.{◌≡◌, ◌<◌, true, length, IfOk, IsFalse};
+ghost use Rattle.std.specs.Prelude.{◌≡◌, ◌<◌, ℕ, true, length, slice_index_or, All, IfOk, IsFalse};
 ghost use Rattle.ssb_job.specs.Kept.{AreOneJob};
 ghost use Rattle.ssb_pipeline.specs.Part.{has};
-ghost use Rattle.ssb_pipeline.specs.Pass.{HoldsNone, IsPassOfParts, known};
+ghost use Rattle.ssb_pipeline.specs.Pass.{HoldsNone, IsPassOfParts, PassState, known};
 ghost use Rattle.ssb_pipeline.specs.Work.{Brings, GetsTicket, IsExhausted, IsRound, IsWorked, OnlyIn, TakesBack};
 
 use crate::fault::ReturnFault;
@@ -13,6 +13,8 @@ use crate::partial::Partial;
 use crate::parts::{Parts, PartsPass};
 use crate::ticket::Ticket;
 use std::sync::Wait;
+use std::thread;
+use std::thread::Threads;
 
 // Gets a ticket in a hold of its own.
 fn get_ticket<R: Wait, G: Gate>(
@@ -151,4 +153,31 @@ pub fn work<R: Wait, G: Gate>(rt: &R, parts: &Parts, index: usize, pass: &mut Pa
     for section in 0..first {
         work_section(rt, parts, section, pass, gate);
     }
+}
+
+/// One worker for each pass, each in a thread of its own; the worker of a pass begins at the section of
+/// its place in the list, counted in a circle. Where a thread can't be made its worker runs in turn with
+/// another. Without passes nothing is done.
+pub fn run_workers<R: Threads + Wait + Sync, G: Gate + Sync>(
+    rt: &R,
+    parts: &Parts,
+    passes: &mut [PartsPass],
+    gate: &G,
+)
+    requires { All (λ p. IsPassOfParts parts.now p × HoldsNone p) passes.old }
+    ensures { (i : ℕ) (d : PassState) → i < length passes.old → IsWorked parts.now (slice_index_or passes.old i d) (slice_index_or passes.new i d) }
+{
+    if passes.is_empty() {
+        return;
+    }
+    let count = passes.len();
+    thread::for_each_mut(
+        rt,
+        passes,
+        count,
+        &|i: usize, pass: &mut PartsPass|
+            requires { IsPassOfParts parts.now pass.now × HoldsNone pass.now }
+            ensures { IsWorked parts.entry.now pass.entry.now pass.exit.now }
+        { work(rt, parts, i, pass, gate) },
+    );
 }

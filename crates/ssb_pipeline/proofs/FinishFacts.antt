@@ -1,0 +1,144 @@
+-- Groups over sections, one after the other.
+use Rattle.std.proofs.Common.{◌≡◌, ◌≢◌, ◌∙◌, ◌++◌, ◌≤◌, ◌<◌, ◌+◌, ◌-◌, ◌^◌, inl, inr, true, ℕ, List, length, map, refl, sym, ap, subst, arith, length-append}
+use Rattle.std.specs.List.{range_with_len}
+use Rattle.std.proofs.lemmas.Bool.{cases_lt}
+use Rattle.std.proofs.lemmas.Grind.{flat_map-append}
+use Rattle.std.proofs.lemmas.List.{get_or-set_other, map-append}
+use Rattle.std.proofs.lemmas.List.FromFn.{length-range_with_len}
+use Rattle.std.proofs.lemmas.List.Sorted.{IsPermutation-map, IsPermutation-sym, length_permutation}
+use Rattle.ssb_job.specs.Kept.{JobShape, fact_rows, joined, kept}
+use Rattle.ssb_job.proofs.Whole as all_kept
+use Rattle.ssb_groups.specs.Seen.{seen}
+use Rattle.ssb_groups.specs.Stands.{GroupMap, Stands}
+use Rattle.ssb_groups.proofs.Permuted.{any_order}
+use Rattle.ssb_pipeline.specs.Finish.{AreOver, IsMerged, section_of}
+use Rattle.ssb_pipeline.specs.Joined.{rows_in, seen_in}
+use Rattle.ssb_pipeline.specs.Morsels.{morsel, morsel_count, morsel_cut, row_cut, section}
+use Rattle.ssb_pipeline.specs.Part.{Grows, IsLawful, IsWhole, PartState, ours}
+use Rattle.ssb_pipeline.specs.Pass.{IsPassOfParts, PartsState, PassState, known}
+use Rattle.ssb_pipeline.specs.Rule.{Knows, fresh}
+use Rattle.ssb_pipeline.specs.Work.{OnlyIn}
+use Rattle.ssb_pipeline.proofs.Cuts.{all-pieces, range-append}
+use Rattle.ssb_pipeline.proofs.EveryRun.{all-rows}
+use Rattle.ssb_pipeline.proofs.JoinedFacts.{joined-append, rows-cons}
+use Rattle.ssb_pipeline.proofs.MorselFacts.{morsel-begins, morsel-end, morsel-rises, row-begins, row-rises}
+use Rattle.ssb_pipeline.proofs.RangeFacts.{distinct-range}
+use Rattle.ssb_pipeline.proofs.RunFacts.{whole}
+use Rattle.ssb_pipeline.proofs.SetFacts.{same-set}
+
+-- the groups of a part all of whose section came back
+pub of-whole : (p : PartState) → IsLawful p → IsWhole p → p.groups.counted ≤ length (rows_in p.job p.size p.returned) → AreOver p.job p.size (ours p) p.groups
+of-whole p l all few =
+    let same = same-set (rows_in p.job p.size) refl (rows-cons p.job p.size) p.returned (ours p) l.returned (distinct-range _ _) (λ i h. l.within i (l.among i h)) all in
+    record { job = l.job; stands = whole p l all; few = subst (λ n. p.groups.counted ≤ n) (sym (length_permutation _ _ same)) few }
+
+-- the groups of a part that grew so
+pub of-grown : (p q : PartState) (g : GroupMap) → Grows p q → IsLawful q → IsWhole q → g ≡ q.groups → g.counted ≤ length (rows_in q.job q.size q.returned) → AreOver p.job p.size (ours p) g
+of-grown p q g grows lawful all is few =
+    let over : AreOver q.job q.size (ours q) g = subst (AreOver q.job q.size (ours q)) (sym is) (of-whole q lawful all (subst (λ (h : GroupMap). h.counted ≤ length (rows_in q.job q.size q.returned)) is few)) in
+    rw (grows.job, grows.size, grows.section, grows.sections) at over
+
+module _ (j : JobShape) (size : ℕ) where
+  rows-append : (is js : List ℕ) → rows_in j size (is ++ js) ≡ rows_in j size is ++ rows_in j size js
+  rows-append is js = flat_map-append (morsel (fact_rows j) size) is js
+
+  seen-append : (is js : List ℕ) → seen_in j size (is ++ js) ≡ seen_in j size is ++ seen_in j size js
+  seen-append is js =
+      ap (λ rs. map (seen j) (joined j rs)) (rows-append is js) ∙ ap (map (seen j)) (joined-append j (rows_in j size is) (rows_in j size js))
+      ∙ map-append (seen j) (joined j (rows_in j size is)) (joined j (rows_in j size js))
+
+  -- the first so many morsels have no more rows than the fact table
+  pub few-rows : (n : ℕ) → length (rows_in j size (range_with_len 0 n)) ≤ fact_rows j
+  few-rows n =
+      let rows = fact_rows j in
+      let many : length (rows_in j size (range_with_len 0 n)) ≡ row_cut rows size n =
+      ap length (all-pieces (row_cut rows size) (row-begins rows size) (row-rises rows size) n) ∙ length-range_with_len 0 (row_cut rows size n) in
+      omega (arith, many)
+
+  module _ (a b : ℕ) (order : a ≤ b) where
+    both-ranges : range_with_len 0 b ≡ range_with_len 0 a ++ range_with_len a (b - a)
+    both-ranges = sym (range-append 0 a (b - a) a b (omega arith) (omega (arith, order)))
+
+    both-rows : length (rows_in j size (range_with_len 0 b)) ≡ length (rows_in j size (range_with_len 0 a)) + length (rows_in j size (range_with_len a (b - a)))
+    both-rows = ap length (ap (rows_in j size) both-ranges ∙ rows-append (range_with_len 0 a) (range_with_len a (b - a))) ∙ length-append (rows_in j size (range_with_len 0 a)) _
+
+    -- groups over some first morsels and groups over the next count no more rows than the fact table has
+    pub fits : (g h : GroupMap) → AreOver j size (range_with_len 0 a) g → AreOver j size (range_with_len a (b - a)) h → fact_rows j < 2 ^ 32 → g.counted + h.counted < 2 ^ 32
+    fits g h over next bound =
+        let most = few-rows b in
+        let e = both-rows in
+        let f = over.few in
+        let k = next.few in
+        omega (arith, most, e, f, k, bound)
+
+    -- merged, they are over all of these
+    pub merged : (g h r : GroupMap) → AreOver j size (range_with_len 0 a) g → AreOver j size (range_with_len a (b - a)) h
+        → IsMerged g h r → AreOver j size (range_with_len 0 b) r
+    merged g h r over next m = record {
+      job = m.job ∙ over.job;
+      stands = subst (Stands r) (sym (ap (seen_in j size) both-ranges ∙ seen-append (range_with_len 0 a) (range_with_len a (b - a)))) (m.stands _ _ over.stands next.stands);
+      few = let e = both-rows in let f = over.few in let k = next.few in let c = m.counted in omega (arith, e, f, k, c);
+    }
+
+  -- groups over all morsels stand for all that is kept
+  pub over-all : (g : GroupMap) → 0 < size → j.query.fact < length j.query.from → AreOver j size (range_with_len 0 (morsel_count (fact_rows j) size)) g → Stands g (map (seen j) (kept j))
+  over-all g pos fact over =
+      any_order g _ _ (IsPermutation-map (seen j) _ _ (IsPermutation-sym _ _ (all_kept.whole j fact))) (subst (Stands g) (all-rows j size pos) over.stands)
+
+-- ---- sections
+
+abbrev pub first-sections : ℕ → ℕ → ℕ → List ℕ
+first-sections n k s = range_with_len 0 (morsel_cut n k s)
+
+pub first-section : (n k : ℕ) → 0 < k → section n k 0 ≡ first-sections n k 1
+first-section n k pos =
+    let z = morsel-begins n k pos in
+    rw z (ap (range_with_len 0) (all-of (morsel_cut n k 1)))
+  where
+    all-of : (m : ℕ) → m - 0 ≡ m
+    all-of m = omega arith
+
+pub all-sections : (n k : ℕ) → 0 < k → first-sections n k k ≡ range_with_len 0 n
+all-sections n k pos = ap (range_with_len 0) (morsel-end n k pos)
+
+-- ---- section after section
+
+other-known : (s t : ℕ) (p q : PassState) → OnlyIn t p q → s ≢ t → known q s ≡ known p s
+other-known s t p q only apart = ap (λ (x : PassState). known x s) only ∙ get_or-set_other p.views t s (known q t) fresh apart
+
+-- after so many sections: the groups are over those, the pass knows of the others what it knew, and no ticket of those was given up
+pub record IsFinished (parts : PartsState) (old now : PassState) (s : ℕ) (g : GroupMap) : Type 0 where
+  pub pass : IsPassOfParts parts now
+  pub over : AreOver parts.job parts.size (first-sections (morsel_count (fact_rows parts.job) parts.size) (length parts.queues) s) g
+  pub later : (t : ℕ) → s ≤ t → known now t ≡ known old t
+  pub clear : (t : ℕ) → t < s → (known old t).seen.gave_up ≡ true → ⊥
+
+module _ (parts : PartsState) (some : 0 < length parts.queues) where
+  abbrev many : ℕ
+  many = morsel_count (fact_rows parts.job) parts.size
+
+  pub begun : (p q : PassState) (g : GroupMap) → OnlyIn 0 p q → IsPassOfParts parts q → AreOver parts.job parts.size (section_of parts 0) g → ((known p 0).seen.gave_up ≡ true → ⊥) → IsFinished parts p q 1 g
+  begun p q g only pass over clear = record {
+    pass = pass;
+    over = subst (λ is. AreOver parts.job parts.size is g) (first-section many (length parts.queues) some) over;
+    later = λ t h. other-known t 0 p q only (λ e. omega (arith, h, e));
+    clear = λ t h gave. let e : t ≡ 0 = omega (arith, h) in clear (subst (λ n. (known p n).seen.gave_up ≡ true) e gave);
+  }
+
+  module _ (old p q : PassState) (s : ℕ) (g h : GroupMap) (done : IsFinished parts old p s g) (over : AreOver parts.job parts.size (section_of parts s) h) where
+    pub fit : fact_rows parts.job < 2 ^ 32 → g.counted + h.counted < 2 ^ 32
+    fit bound = fits parts.job parts.size _ _ (morsel-rises many (length parts.queues) s some) g h done.over over bound
+
+    pub one-more : (r : GroupMap) → IsMerged g h r → OnlyIn s p q → IsPassOfParts parts q → ((known p s).seen.gave_up ≡ true → ⊥) → IsFinished parts old q (s + 1) r
+    one-more r m only pass clear = record {
+      pass = pass;
+      over = merged parts.job parts.size _ _ (morsel-rises many (length parts.queues) s some) g h r done.over over m;
+      later = λ t b. other-known t s p q only (λ e. omega (arith, b, e)) ∙ done.later t (omega (arith, b));
+      clear = λ t b gave. elim (cases_lt t s) [
+        | inl before ↦ done.clear t before gave
+        | inr behind ↦ let e : t ≡ s = omega (arith, b, behind) in clear (ap (λ (v : Knows). v.seen.gave_up) (done.later s (omega arith)) ∙ subst (λ n. (known old n).seen.gave_up ≡ true) e gave)
+      ];
+    }
+
+  pub ended : (p q : PassState) (s : ℕ) (g : GroupMap) → IsFinished parts p q s g → s ≡ length parts.queues → AreOver parts.job parts.size (range_with_len 0 many) g
+  ended p q s g done e = subst (λ is. AreOver parts.job parts.size is g) (ap (first-sections many (length parts.queues)) e ∙ all-sections many (length parts.queues) some) done.over

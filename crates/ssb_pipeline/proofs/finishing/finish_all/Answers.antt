@@ -1,0 +1,28 @@
+use Rattle.std.proofs.Common.{arith, sym, true≢false}
+use Rattle.ssb_pipeline.proofs.FinishFacts.{begun, ended, fit, one-more, over-all}
+use Rattle.ssb_pipeline.proofs.finishing.finish_all.Goals as goal
+
+pub loop-section-init : goal.loop-section-init
+loop-section-init g c =
+    let f = c.in_ok-groups.ensures in
+    begun c.args.parts.now c.requires.some c.args.pass.now c.finish_section.new.pass c.in_ok-groups.groups f.only f.pass f.over (λ h. true≢false (sym (f.refused h)))
+
+pub merged-requires-clause-few : goal.merged-requires-clause-few
+merged-requires-clause-few g c =
+    let l = c.loop-section in
+    fit c.args.parts.now c.requires.some c.args.pass.now l.pass c.finish_section-in-loop-section.new.pass l.section l.groups c.in-Ok.more l.invariant c.in-Ok.ensures.over c.fact_table.ensures.few
+
+pub loop-section-preserved : goal.loop-section-preserved
+loop-section-preserved g c =
+    let l = c.loop-section in
+    let f = c.in-Ok.ensures in
+    one-more c.args.parts.now c.requires.some c.args.pass.now l.pass c.finish_section-in-loop-section.new.pass l.section l.groups c.in-Ok.more l.invariant f.over c.in_ok-groups-in-Ok.groups c.in_ok-groups-in-Ok.ensures f.only f.pass (λ h. true≢false (sym (f.refused h)))
+
+pub returns-clause-stands : goal.returns-clause-stands
+returns-clause-stands g c =
+    let l = c.loop-section in
+    let k = c.sections-section-end.ensures in
+    let t = c.loop-section-test.false in
+    let a = l.auto.section in
+    let some = c.requires.some in
+    over-all c.args.parts.now.job c.args.parts.now.size l.groups c.requires.size c.fact_table.ensures.named (ended c.args.parts.now some c.args.pass.now l.pass l.section l.groups l.invariant (omega (arith, k, t, a, some)))

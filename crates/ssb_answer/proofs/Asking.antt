@@ -1,12 +1,12 @@
 -- From a text to what is answered.
-use Rattle.std.proofs.Common.{◌≡◌, ◌<◌, List, length, Ok, Err}
+use Rattle.std.proofs.Common.{◌≡◌, ◌<◌, List, length, Result, Ok, Err, subst}
 use Rattle.std.proofs.lemmas.List.Quantifiers.{position-Some}
 use Rattle.ssb_load.specs.Catalog.{IsCatalog}
 use Rattle.ssb_load.specs.Shapes.{TableShape}
 use Rattle.ssb_sql.specs.declared.fault.SqlFault.TheVariants as sql
 use Rattle.ssb_bind.specs.Star.{IsStar}
 use Rattle.ssb_bind.specs.declared.query.QueryParts.{QueryParts}
-use Rattle.ssb_job.specs.Kept.{Columns}
+use Rattle.ssb_job.specs.Kept.{Columns, JobShape}
 use Rattle.ssb_load.specs.Files.{AreLawful}
 use Rattle.ssb_job.specs.Loaded.{AreLoaded}
 use Rattle.ssb_job.proofs.Loading.{query_loaded}
@@ -37,11 +37,14 @@ unasked c text tables (run.Bind f) h = h
 unasked c text tables (run.Answer f) h = absurd h
 unasked c text tables run.Memory h = tt
 
-pub answered : (c : List TableShape) (text : Bytes) (tables : List Columns) (q : QueryParts) (rows : List Row) → Asks c text q → Answers q (seen_rows (record { query = q; tables = tables })) (Ok rows) → AnswersText c tables text (Ok rows)
-answered c text tables q rows a h = record { query = q; asks = a; answers = h }
+over : (tables : List Columns) (j : JobShape) (r : Result (List Row) AnswerFault) → j.tables ≡ tables → Answers j.query (seen_rows j) r → Answers j.query (seen_rows (record { query = j.query; tables = tables })) r
+over tables j r t h = subst (λ ts. Answers j.query (seen_rows (record { query = j.query; tables = ts })) r) t h
 
-pub refused : (c : List TableShape) (text : Bytes) (tables : List Columns) (q : QueryParts) (f : AnswerFault) (told : RunFault) → Asks c text q → Answers q (seen_rows (record { query = q; tables = tables })) (Err f) → told ≡ told_answer f → AnswersText c tables text (Err told)
-refused c text tables q (answer.RowOverflow n) told a h is = rw is (record { query = q; asks = a; answers = h })
-refused c text tables q answer.SumOutOfRange told a h is = rw is (record { query = q; asks = a; answers = h })
-refused c text tables q answer.Memory told a h is = rw is tt
-refused c text tables q answer.Write told a h is = absurd h
+pub answered : (c : List TableShape) (text : Bytes) (tables : List Columns) (j : JobShape) (rows : List Row) → Asks c text j.query → j.tables ≡ tables → Answers j.query (seen_rows j) (Ok rows) → AnswersText c tables text (Ok rows)
+answered c text tables j rows a t h = record { query = j.query; asks = a; answers = over tables j (Ok rows) t h }
+
+pub refused : (c : List TableShape) (text : Bytes) (tables : List Columns) (j : JobShape) (f : AnswerFault) (told : RunFault) → Asks c text j.query → j.tables ≡ tables → Answers j.query (seen_rows j) (Err f) → told ≡ told_answer f → AnswersText c tables text (Err told)
+refused c text tables j (answer.RowOverflow n) told a t h is = rw is (record { query = j.query; asks = a; answers = over tables j (Err (answer.RowOverflow n)) t h })
+refused c text tables j answer.SumOutOfRange told a t h is = rw is (record { query = j.query; asks = a; answers = over tables j (Err answer.SumOutOfRange) t h })
+refused c text tables j answer.Memory told a t h is = rw is tt
+refused c text tables j answer.Write told a t h is = absurd h

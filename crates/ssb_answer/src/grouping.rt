@@ -16,42 +16,9 @@ use std::alloc::{AllocError, Global};
 use std::sync::{Arc, Wait};
 use std::thread::Threads;
 
-// A way to come to the groups over all that a job keeps.
-pub(crate) trait Grouping {
-    // The groups; an error only where a growth was refused.
-    fn group(&self, alloc: Global, job: &Arc<Job, Global>) -> Result<Groups, AllocError>
-        ensures stands { IfOk result (λ g. Stands g (seen_rows (arc_value job.now))) }
-        ensures job { IfOk result (λ g. AreOneJob g.job (arc_value job.now)) };
-}
-
-// In the caller's thread, in morsels of so many rows.
-pub(crate) struct Alone {
-    pub(crate) morsel_size: u32,
-    ghost some: { 0 < morsel_size },
-}
-
-impl Grouping for Alone {
-    fn group(&self, alloc: Global, job: &Arc<Job, Global>) -> Result<Groups, AllocError> {
-        group_alone(alloc, job, self.morsel_size)
-    }
-}
-
-// By workers in threads of their own.
-pub(crate) struct Team<'a, R: Threads + Wait + Sync, G: Gate + Sync> {
-    pub(crate) rt: &'a R,
-    pub(crate) settings: Settings,
-    pub(crate) gate: &'a G,
-}
-
-impl<'a, R: Threads + Wait + Sync, G: Gate + Sync> Grouping for Team<'a, R, G> {
-    fn group(&self, alloc: Global, job: &Arc<Job, Global>) -> Result<Groups, AllocError> {
-        group_shared(self.rt, alloc, job, self.settings, self.gate)
-    }
-}
-
 // One part for each section of the morsels, and one pass for each worker; what the workers leave is done
 // in this thread.
-fn group_shared<R: Threads + Wait + Sync, G: Gate + Sync>(
+pub(crate) fn group_shared<R: Threads + Wait + Sync, G: Gate + Sync>(
     rt: &R,
     alloc: Global,
     job: &Arc<Job, Global>,
@@ -73,7 +40,7 @@ fn group_shared<R: Threads + Wait + Sync, G: Gate + Sync>(
 }
 
 // One part of all morsels, worked off in this thread.
-fn group_alone(
+pub(crate) fn group_alone(
     alloc: Global,
     job: &Arc<Job, Global>,
     morsel_size: u32,

@@ -5,12 +5,11 @@ ghost use Rattle.ssb_load.specs.Files.{Bytes};
 ghost use Rattle.ssb_answer.specs.Reply.{Replies};
 ghost use Rattle.ssb_answer.specs.Running.{LeavesSink};
 
-use crate::grouping::{Alone, Grouping, Team};
 use crate::run_fault::RunFault;
 use crate::settings::Settings;
 use crate::sink::Sink;
-use crate::whole::run_in_pieces;
-use ssb_load::{Catalog, In, PIECE_SIZE, Source};
+use crate::whole::{run_alone_from, run_from};
+use ssb_load::{Catalog, In, Source};
 use ssb_pipeline::Gate;
 use std::alloc::{AllocError, Global};
 use std::io::Read;
@@ -27,26 +26,6 @@ fn sources_of<R: Read + Drop>(alloc: Global, readers: Vec<R>) -> Result<Vec<In<R
         sources.push(In::new(reader))?;
     }
     Ok(sources)
-}
-
-// The whole path over readers, with rows grouped in this way.
-fn run_over<H: Grouping, R: Read + Drop, W: Sink>(
-    alloc: Global,
-    catalog: Catalog,
-    readers: Vec<R>,
-    text: &str,
-    how: &H,
-    out: &mut W,
-) -> Result<(), RunFault>
-    requires readers { vec_len readers ≡ length catalog }
-    ensures replies { (files : List Bytes) → map R.remaining readers.items ≡ map Some files → Replies catalog files text.now result (W.taken out.old) (W.taken out.new) }
-    ensures right { (files : List Bytes) × Replies catalog files text.now result (W.taken out.old) (W.taken out.new) }
-    ensures sink { LeavesSink result (W.taken out.old) (W.taken out.new) (W.failures out.old) (W.failures out.new) (W.contents out.old) (W.contents out.new) }
-{
-    let Ok(mut sources) = sources_of(alloc, readers) else {
-        return Err(RunFault::Memory);
-    };
-    run_in_pieces(alloc, catalog, &mut sources, text, how, out, PIECE_SIZE)
 }
 
 /// Answers a query over the tables of a catalog, each read from its reader in the catalog's order, and
@@ -69,7 +48,10 @@ pub fn run_alone<R: Read + Drop, W: Sink>(
     ensures right { (files : List Bytes) × Replies catalog files text.now result (W.taken out.old) (W.taken out.new) }
     ensures sink { LeavesSink result (W.taken out.old) (W.taken out.new) (W.failures out.old) (W.failures out.new) (W.contents out.old) (W.contents out.new) }
 {
-    run_over(alloc, catalog, readers, text, &Alone { morsel_size }, out)
+    let Ok(mut sources) = sources_of(alloc, readers) else {
+        return Err(RunFault::Memory);
+    };
+    run_alone_from(alloc, catalog, &mut sources, text, morsel_size, out)
 }
 
 /// Answers a query over readers by workers in threads of their own: [`run_from`](crate::run_from) over
@@ -93,12 +75,8 @@ pub fn run<T: Threads + Wait + Sync, R: Read + Drop, G: Gate + Sync, W: Sink>(
     ensures right { (files : List Bytes) × Replies catalog files text.now result (W.taken out.old) (W.taken out.new) }
     ensures sink { LeavesSink result (W.taken out.old) (W.taken out.new) (W.failures out.old) (W.failures out.new) (W.contents out.old) (W.contents out.new) }
 {
-    run_over(
-        alloc,
-        catalog,
-        readers,
-        text,
-        &Team { rt, settings, gate },
-        out,
-    )
+    let Ok(mut sources) = sources_of(alloc, readers) else {
+        return Err(RunFault::Memory);
+    };
+    run_from(rt, alloc, catalog, &mut sources, text, settings, gate, out)
 }

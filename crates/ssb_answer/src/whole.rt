@@ -1,18 +1,18 @@
 // The whole path, from the bytes of files to the bytes of the answer.
 
-ghost use Rattle.std.specs.Prelude.{◌≡◌, ◌<◌, IfOk, length};
+ghost use Rattle.std.specs.Prelude.{◌≡◌, ◌<◌, Err, IfErr, IfOk, length};
 ghost use Rattle.std.specs.Arc.{arc_value};
 ghost use Rattle.ssb_load.specs.Catalog.{IsCatalog};
 ghost use Rattle.ssb_answer.specs.Asking.{Asked, AnswersText};
 ghost use Rattle.ssb_job.specs.Loaded.{AreLoaded};
 ghost use Rattle.ssb_load.specs.Files.{AreLawful};
-ghost use Rattle.ssb_answer.specs.Reply.{seen_rows};
+ghost use Rattle.ssb_answer.specs.Reply.{Asks, seen_rows};
 ghost use Rattle.ssb_answer.specs.Result.{Answers};
 ghost use Rattle.ssb_answer.specs.Running.{LeavesSink, RunsFrom};
 
 use crate::answer::Answer;
 use crate::fault::AnswerFault;
-use crate::grouping::{Alone, Grouping, Team};
+use crate::grouping::{group_alone, group_shared};
 use crate::rows_of::rows;
 use crate::run_fault::RunFault;
 use crate::settings::Settings;
@@ -37,20 +37,6 @@ pub(crate) fn query_of(alloc: Global, catalog: &Catalog, text: &str) -> Result<Q
     Ok(query)
 }
 
-// What a job's query answers, its rows grouped in this way.
-fn answer_by<H: Grouping>(
-    alloc: Global,
-    job: &Arc<Job, Global>,
-    how: &H,
-) -> Result<Answer, AnswerFault>
-    ensures { Answers (arc_value job.now).query (seen_rows (arc_value job.now)) result }
-{
-    let Ok(groups) = how.group(alloc, job) else {
-        return Err(AnswerFault::Memory);
-    };
-    rows(alloc, groups, job.query())
-}
-
 /// What a job's query answers: its rows are grouped in the caller's thread, in morsels of
 /// `morsel_size` rows of the fact table, from 1 on. Their size changes no answer.
 ///
@@ -65,7 +51,10 @@ pub fn answer_job(
     requires { 0 < morsel_size }
     ensures { Answers (arc_value job.now).query (seen_rows (arc_value job.now)) result }
 {
-    answer_by(alloc, job, &Alone { morsel_size })
+    let Ok(groups) = group_alone(alloc, job, morsel_size) else {
+        return Err(AnswerFault::Memory);
+    };
+    rows(alloc, groups, job.query())
 }
 
 /// What a job's query answers: its rows are grouped by workers in threads of their own, which may wait
@@ -83,7 +72,10 @@ pub fn answer_shared<R: Threads + Wait + Sync, G: Gate + Sync>(
 ) -> Result<Answer, AnswerFault>
     ensures { Answers (arc_value job.now).query (seen_rows (arc_value job.now)) result }
 {
-    answer_by(alloc, job, &Team { rt, settings, gate })
+    let Ok(groups) = group_shared(rt, alloc, job, settings, gate) else {
+        return Err(AnswerFault::Memory);
+    };
+    rows(alloc, groups, job.query())
 }
 
 // The job of a query over these tables, shared.
@@ -105,41 +97,67 @@ pub(crate) fn shared_job(
     }
 }
 
-// What a query answers over these tables.
-fn answer_query<H: Grouping>(
-    alloc: Global,
-    query: Query,
-    tables: Vec<Table>,
-    how: &H,
-) -> Result<Answer, AnswerFault>
-    requires { AreLoaded query.tables tables.items }
-    ensures { Answers query (seen_rows (record { query = query; tables = tables.items })) result }
-{
-    let Ok(job) = shared_job(alloc, query, tables) else {
-        return Err(AnswerFault::Memory);
-    };
-    let answer = answer_by(alloc, &job, how);
-    // By a call, since the prover writes out all that a job holds where a scope's end lets go of it.
-    drop(job);
-    answer
-}
-
-// What a text asks of these tables.
-#[tactic(auto, using(crate::proofs::Asking::unasked, crate::proofs::Asking::answered, crate::proofs::Asking::refused, crate::proofs::Asking::fits))]
-fn answer_text<H: Grouping>(
+// The job of a text's query over these tables.
+#[tactic(auto, using(crate::proofs::Asking::fits))]
+fn job_of_text(
     alloc: Global,
     catalog: &Catalog,
     tables: Vec<Table>,
     text: &str,
-    how: &H,
+) -> Result<Arc<Job, Global>, RunFault>
+    requires lawful { AreLawful catalog.now tables.items }
+    requires catalog { IsCatalog catalog.now }
+    ensures asks { IfOk result (λ j. Asks catalog.now text.now (arc_value j).query) }
+    ensures tables { IfOk result (λ j. (arc_value j).tables ≡ tables.items) }
+    ensures fault { IfErr result (λ f. Asked catalog.now text.now (Err f)) }
+{
+    let query = query_of(alloc, catalog, text)?;
+    match shared_job(alloc, query, tables) {
+        Ok(job) => Ok(job),
+        Err(_) => Err(RunFault::Memory),
+    }
+}
+
+// What a text asks of these tables, worked out in this thread. The job is let go by a call, since the
+// prover writes out all that it holds where a scope's end lets go of it.
+#[tactic(auto, using(crate::proofs::Asking::unasked, crate::proofs::Asking::answered, crate::proofs::Asking::refused))]
+fn answer_text(
+    alloc: Global,
+    catalog: &Catalog,
+    tables: Vec<Table>,
+    text: &str,
+    morsel_size: u32,
+) -> Result<Answer, RunFault>
+    requires size { 0 < morsel_size }
+    requires lawful { AreLawful catalog.now tables.items }
+    requires catalog { IsCatalog catalog.now }
+    ensures { AnswersText catalog.now tables.items text.now result }
+{
+    let job = job_of_text(alloc, catalog, tables, text)?;
+    let answer = answer_job(alloc, &job, morsel_size);
+    drop(job);
+    Ok(answer?)
+}
+
+// The same by workers.
+#[tactic(auto, using(crate::proofs::Asking::unasked, crate::proofs::Asking::answered, crate::proofs::Asking::refused))]
+fn answer_text_shared<R: Threads + Wait + Sync, G: Gate + Sync>(
+    rt: &R,
+    alloc: Global,
+    catalog: &Catalog,
+    tables: Vec<Table>,
+    text: &str,
+    settings: Settings,
+    gate: &G,
 ) -> Result<Answer, RunFault>
     requires lawful { AreLawful catalog.now tables.items }
     requires catalog { IsCatalog catalog.now }
     ensures { AnswersText catalog.now tables.items text.now result }
 {
-    let query = query_of(alloc, catalog, text)?;
-    let answer = answer_query(alloc, query, tables, how)?;
-    Ok(answer)
+    let job = job_of_text(alloc, catalog, tables, text)?;
+    let answer = answer_shared(rt, alloc, &job, settings, gate);
+    drop(job);
+    Ok(answer?)
 }
 
 /// Answers a query over the tables of a catalog, each of what its source gives, in the catalog's order,
@@ -168,8 +186,7 @@ pub fn run_alone_from<S: Source, W: Sink>(
     ensures runs { RunsFrom S.given S.failures S.ends S.whole catalog text.now sources.old sources.new result (W.taken out.old) (W.taken out.new) }
     ensures sink { LeavesSink result (W.taken out.old) (W.taken out.new) (W.failures out.old) (W.failures out.new) (W.contents out.old) (W.contents out.new) }
 {
-    let alone = Alone { morsel_size };
-    run_in_pieces(alloc, catalog, sources, text, &alone, out, PIECE_SIZE)
+    run_in_pieces(alloc, catalog, sources, text, morsel_size, out, PIECE_SIZE)
 }
 
 /// The same over threads: workers take the morsels of the fact table from parts, and make the groups of
@@ -193,27 +210,30 @@ pub fn run_from<R: Threads + Wait + Sync, S: Source, G: Gate + Sync, W: Sink>(
     ensures runs { RunsFrom S.given S.failures S.ends S.whole catalog text.now sources.old sources.new result (W.taken out.old) (W.taken out.new) }
     ensures sink { LeavesSink result (W.taken out.old) (W.taken out.new) (W.failures out.old) (W.failures out.new) (W.contents out.old) (W.contents out.new) }
 {
-    let team = Team { rt, settings, gate };
-    run_in_pieces(alloc, catalog, sources, text, &team, out, PIECE_SIZE)
+    let tables = load_all(alloc, &catalog, sources, PIECE_SIZE)?;
+    let answer = answer_text_shared(rt, alloc, &catalog, tables, text, settings, gate)?;
+    write_answer(&answer, out)?;
+    Ok(())
 }
 
-// The whole path, with rows grouped in this way and sources read in pieces of so many bytes, where no
-// line is longer. The size changes no answer.
-pub(crate) fn run_in_pieces<S: Source, H: Grouping, W: Sink>(
+// [`run_alone_from`] with sources read in pieces of this many bytes, where no line is longer. The size
+// changes no answer.
+pub(crate) fn run_in_pieces<S: Source, W: Sink>(
     alloc: Global,
     catalog: Catalog,
     sources: &mut [S],
     text: &str,
-    how: &H,
+    morsel_size: u32,
     out: &mut W,
     piece_size: usize,
 ) -> Result<(), RunFault>
     requires sources { length sources.old ≡ length catalog }
+    requires size { 0 < morsel_size }
     ensures runs { RunsFrom S.given S.failures S.ends S.whole catalog text.now sources.old sources.new result (W.taken out.old) (W.taken out.new) }
     ensures sink { LeavesSink result (W.taken out.old) (W.taken out.new) (W.failures out.old) (W.failures out.new) (W.contents out.old) (W.contents out.new) }
 {
     let tables = load_all(alloc, &catalog, sources, piece_size)?;
-    let answer = answer_text(alloc, &catalog, tables, text, how)?;
+    let answer = answer_text(alloc, &catalog, tables, text, morsel_size)?;
     write_answer(&answer, out)?;
     Ok(())
 }

@@ -6,6 +6,7 @@ Usage: run_rows.py [PROGRAM]
 PROGRAM is crates/ssb_cli/out/ssb_cli where it is left out. tests/README.md says what a row holds.
 """
 
+import itertools
 import json
 import subprocess
 import sys
@@ -27,6 +28,7 @@ DEFAULTS = {
     "files": {},
     "query": None,
     "options": [],
+    "settings": {},
     "words": None,
     "standard_output": "",
     "output": "",
@@ -52,9 +54,28 @@ def read_row(path):
     for key in ("shows", "status"):
         if row[key] in ("", None):
             raise BadRow(f"no {key}")
+    for option, values in row["settings"].items():
+        if not values or not all(isinstance(value, str) for value in values):
+            raise BadRow(f"{option} has no list of texts")
     if row["standard_output"] not in ("", "closed", "full"):
         raise BadRow("standard_output is closed or full, or left out")
     return row
+
+
+def turns(field):
+    """What a field holds in one record after the other, until it begins again."""
+    if isinstance(field, dict) and set(field) == {"from", "to"}:
+        field = [str(number) for number in range(field["from"], field["to"] + 1)]
+    if not isinstance(field, list) or not field:
+        raise BadRow(f"no field: {field!r}")
+    return field
+
+
+def record_bytes(count, fields):
+    """The bytes of so many records, each field of which goes round in what it may hold."""
+    held = [turns(field) for field in fields]
+    records = ("|".join(values[i % len(values)] for values in held) for i in range(count))
+    return "".join(f"{record}|\n" for record in records).encode()
 
 
 def part_bytes(part):
@@ -63,6 +84,8 @@ def part_bytes(part):
         return part.encode()
     if not isinstance(part, dict):
         raise BadRow(f"no content: {part!r}")
+    if set(part) == {"records", "fields"}:
+        return record_bytes(part["records"], part["fields"])
     part = dict(part)
     times = part.pop("times", 1)
     if set(part) == {"text"}:
@@ -118,16 +141,22 @@ def lay_out(row, folder):
 
 
 def words_of(row):
-    """The words of the command line behind the program's name, as bytes."""
+    """The words of the command line behind the program's name, as bytes, without the settings."""
     if row["words"] is not None:
         return [content_bytes(word) for word in row["words"]]
     words = ["run", "--data", DATA, "--query", f"{DATA}/query.sql", "--catalog", f"{DATA}/catalog"]
     return [word.encode() for word in words] + [content_bytes(word) for word in row["options"]]
 
 
-def run(row, program, folder):
+def choices(row):
+    """Each choice of one value for every option of the settings, as words."""
+    for values in itertools.product(*row["settings"].values()):
+        yield [word for pair in zip(row["settings"], values) for word in pair]
+
+
+def run(row, choice, program, folder):
     """Runs the program: its status, and what it wrote on its two outputs."""
-    command = [str(program).encode()] + words_of(row)
+    command = [str(program).encode()] + words_of(row) + [word.encode() for word in choice]
     if row["standard_output"] == "closed":
         command = [b"/bin/sh", b"-c", b'exec "$0" "$@" >&-'] + command
     if row["standard_output"] == "full":
@@ -146,8 +175,8 @@ def differences(row, status, output, error):
     if row["output"] is None:
         if not output:
             found.append("nothing on the standard output, wanted some text")
-    elif output != row["output"].encode():
-        found.append(f"output {output[:200]!r}, wanted {row['output'].encode()!r}")
+    elif output != content_bytes(row["output"]):
+        found.append(f"output {output[:200]!r}, wanted {content_bytes(row['output'])[:200]!r}")
     wanted = f"{row['error']}\n".encode() if row["error"] else b""
     if error != wanted:
         found.append(f"error {error[:200]!r}, wanted {wanted!r}")
@@ -155,13 +184,17 @@ def differences(row, status, output, error):
 
 
 def check(path, program):
-    """What is wrong with a row, nothing where it passes."""
+    """What is wrong with the first run of a row that fails, nothing where all pass."""
     try:
         row = read_row(path)
         with tempfile.TemporaryDirectory() as name:
             folder = Path(name)
             lay_out(row, folder)
-            return differences(row, *run(row, program, folder))
+            for choice in choices(row):
+                wrong = differences(row, *run(row, choice, program, folder))
+                if wrong:
+                    return [" ".join([*choice, text]) for text in wrong]
+            return []
     except BadRow as error:
         return [str(error)]
     except (KeyError, OSError, TypeError, ValueError, subprocess.TimeoutExpired) as error:

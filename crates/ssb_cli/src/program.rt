@@ -2,20 +2,37 @@
 // by a call of `drop`, since the prover writes out all that it holds where the end of a scope lets go
 // of it.
 
-ghost use Rattle.std.specs.Prelude.{◌≡◌, ◌<◌, ◌⊎◌, length, vec_len};
+ghost use Rattle.std.specs.Prelude.{◌≡◌, ◌⊎◌, IfSome, IsNone, length, unwrap_or, vec_len};
+ghost use Rattle.ssb_answer.specs.Settings.{AreInRange};
 ghost use Rattle.ssb_cli.specs.Faults.{out_of_memory, program_status};
 
 use crate::check::check_text;
 use crate::fault::{AnswerFault, ProgramFault, RunFault};
 use crate::files::{catalog_of, names_of, open_all, read_query};
 use crate::report::{OUT_OF_MEMORY, program_line, program_status_of};
-use ssb_answer::{DEFAULT_MORSEL_SIZE, MEMORY_LINE, Out, run_alone_from};
+use ssb_answer::{
+    DEFAULT_MORSEL_SIZE, DEFAULT_PARTS, DEFAULT_WORKERS, MEMORY_LINE, NoGate, Out, Settings,
+    run_from,
+};
 use ssb_load::{Catalog, In};
-use ssb_words::{MorselSize, QuerySource, Task, WordsFault, task_of};
+use ssb_words::{QuerySource, Task, WordsFault, task_of};
 use std::alloc::{AllocError, Global};
 use std::io::{BufWriter, Read, Write};
 use std::rt::{Env, Files};
+use std::sync::Wait;
+use std::thread::Threads;
 use std::{env, io};
+
+// What the words ask of a run.
+#[derive(Clone, Copy)]
+struct RunWords<'a> {
+    // The folder of the tables' files.
+    data: &'a str,
+    query: QuerySource<'a>,
+    // The catalog's file, none for the built-in catalog.
+    catalog: Option<&'a str>,
+    settings: Settings,
+}
 
 fn write_fault(alloc: Global) -> ProgramFault {
     ProgramFault::Run {
@@ -40,28 +57,42 @@ fn flush<W: Write + Drop>(writer: W) -> Result<(), RunFault> {
     }
 }
 
-fn size_of(morsel: Option<MorselSize>) -> u32
-    ensures { 0 < result }
+// Settings of the numbers that were given, and the defaults; none where one is outside its range.
+fn settings_of(workers: Option<u32>, morsel: Option<u32>, parts: Option<u32>) -> Option<Settings>
+    ensures workers { IfSome result (λ s. s.workers ≡ unwrap_or workers DEFAULT_WORKERS) }
+    ensures morsel_size { IfSome result (λ s. s.morsel_size ≡ unwrap_or morsel DEFAULT_MORSEL_SIZE) }
+    ensures parts { IfSome result (λ s. s.parts ≡ unwrap_or parts DEFAULT_PARTS) }
+    ensures none { IsNone result → AreInRange (unwrap_or workers DEFAULT_WORKERS) (unwrap_or morsel DEFAULT_MORSEL_SIZE) (unwrap_or parts DEFAULT_PARTS) → ⊥ }
 {
-    match morsel {
-        Some(size) => size.rows,
-        None => DEFAULT_MORSEL_SIZE,
-    }
+    Settings::new(
+        workers.unwrap_or(DEFAULT_WORKERS),
+        morsel.unwrap_or(DEFAULT_MORSEL_SIZE),
+        parts.unwrap_or(DEFAULT_PARTS),
+    )
 }
 
 // Writes the answer to a buffer, and flushes it after it is complete.
-fn write_answer<F: Read, W: Write + Drop>(
-    alloc: Global,
+fn write_answer<R: AllocGlobal + Threads + Wait + Sync, F: Read, W: Write + Drop>(
+    rt: &R,
     catalog: Catalog,
     sources: &mut [In<F>],
     text: &str,
-    morsel: Option<MorselSize>,
+    settings: Settings,
     writer: W,
 ) -> Result<(), RunFault>
     requires { length sources.old ≡ length catalog }
 {
     let mut out = Out::new(writer);
-    let answered = run_alone_from(alloc, catalog, sources, text, size_of(morsel), &mut out);
+    let answered = run_from(
+        rt,
+        rt.alloc(),
+        catalog,
+        sources,
+        text,
+        settings,
+        &NoGate,
+        &mut out,
+    );
     let writer = out.into_writer();
     match answered {
         Ok(()) => flush(writer),
@@ -73,17 +104,17 @@ fn write_answer<F: Read, W: Write + Drop>(
 }
 
 // Prints the answer through one buffer.
-fn print_answer<R: Files + Print + AllocGlobal>(
+fn print_answer<R: Files + Print + AllocGlobal + Threads + Wait + Sync>(
     rt: &R,
     catalog: Catalog,
     sources: &mut [In<R::File>],
     text: &str,
-    morsel: Option<MorselSize>,
+    settings: Settings,
 ) -> Result<(), RunFault>
     requires { length sources.old ≡ length catalog }
 {
     match BufWriter::new(rt.alloc(), io::writer(rt)) {
-        Ok(writer) => write_answer(rt.alloc(), catalog, sources, text, morsel, writer),
+        Ok(writer) => write_answer(rt, catalog, sources, text, settings, writer),
         Err(_) => {
             drop(catalog);
             Err(RunFault::Memory)
@@ -92,18 +123,18 @@ fn print_answer<R: Files + Print + AllocGlobal>(
 }
 
 // Answers a text over files, one for each table of the catalog.
-fn answer_over<R: Files + Print + AllocGlobal>(
+fn answer_over<R: Files + Print + AllocGlobal + Threads + Wait + Sync>(
     rt: &R,
     catalog: Catalog,
     names: Vec<String>,
     sources: Vec<In<R::File>>,
     text: &str,
-    morsel: Option<MorselSize>,
+    settings: Settings,
 ) -> Result<(), ProgramFault>
     requires { vec_len sources ≡ length catalog }
 {
     let mut sources = sources;
-    let printed = print_answer(rt, catalog, &mut sources, text, morsel);
+    let printed = print_answer(rt, catalog, &mut sources, text, settings);
     drop(sources);
     match printed {
         Ok(()) => {
@@ -115,16 +146,15 @@ fn answer_over<R: Files + Print + AllocGlobal>(
 }
 
 // Answers a text over the tables of a folder, which have these names.
-fn answer_named<R: Files + Print + AllocGlobal>(
+fn answer_named<R: Files + Print + AllocGlobal + Threads + Wait + Sync>(
     rt: &R,
-    data: &str,
+    words: RunWords<'_>,
     catalog: Catalog,
     names: Vec<String>,
     text: &str,
-    morsel: Option<MorselSize>,
 ) -> Result<(), ProgramFault> {
-    match open_all(rt, data, &catalog) {
-        Ok(sources) => answer_over(rt, catalog, names, sources, text, morsel),
+    match open_all(rt, words.data, &catalog) {
+        Ok(sources) => answer_over(rt, catalog, names, sources, text, words.settings),
         Err(fault) => {
             drop(names);
             drop(catalog);
@@ -134,15 +164,14 @@ fn answer_named<R: Files + Print + AllocGlobal>(
 }
 
 // Answers a text over the tables of a folder.
-fn answer<R: Files + Print + AllocGlobal>(
+fn answer<R: Files + Print + AllocGlobal + Threads + Wait + Sync>(
     rt: &R,
-    data: &str,
+    words: RunWords<'_>,
     catalog: Catalog,
     text: &str,
-    morsel: Option<MorselSize>,
 ) -> Result<(), ProgramFault> {
     match names_of(rt.alloc(), &catalog) {
-        Ok(names) => answer_named(rt, data, catalog, names, text, morsel),
+        Ok(names) => answer_named(rt, words, catalog, names, text),
         Err(_) => {
             drop(catalog);
             Err(ProgramFault::Memory)
@@ -151,16 +180,14 @@ fn answer<R: Files + Print + AllocGlobal>(
 }
 
 // Answers a query over the tables of a folder.
-fn run_over<R: Files + Print + AllocGlobal>(
+fn run_over<R: Files + Print + AllocGlobal + Threads + Wait + Sync>(
     rt: &R,
-    data: &str,
-    query: QuerySource<'_>,
+    words: RunWords<'_>,
     catalog: Catalog,
-    morsel: Option<MorselSize>,
 ) -> Result<(), ProgramFault> {
-    match text_of(rt, query) {
+    match text_of(rt, words.query) {
         Ok(text) => {
-            let answered = answer(rt, data, catalog, text.as_str(), morsel);
+            let answered = answer(rt, words, catalog, text.as_str());
             drop(text);
             answered
         }
@@ -171,15 +198,12 @@ fn run_over<R: Files + Print + AllocGlobal>(
     }
 }
 
-fn run<R: Files + Print + AllocGlobal>(
+fn run<R: Files + Print + AllocGlobal + Threads + Wait + Sync>(
     rt: &R,
-    data: &str,
-    query: QuerySource<'_>,
-    catalog: Option<&str>,
-    morsel: Option<MorselSize>,
+    words: RunWords<'_>,
 ) -> Result<(), ProgramFault> {
-    match catalog_of(rt, catalog) {
-        Ok(catalog) => run_over(rt, data, query, catalog, morsel),
+    match catalog_of(rt, words.catalog) {
+        Ok(catalog) => run_over(rt, words, catalog),
         Err(fault) => Err(fault),
     }
 }
@@ -241,14 +265,30 @@ fn print_help<R: Print + AllocGlobal>(rt: &R, help: String) -> Result<(), Progra
     printed
 }
 
-fn act_on_task<R: Files + Print + AllocGlobal>(rt: &R, task: Task<'_>) -> Result<(), ProgramFault> {
+fn act_on_task<R: Files + Print + AllocGlobal + Threads + Wait + Sync>(
+    rt: &R,
+    task: Task<'_>,
+) -> Result<(), ProgramFault> {
     match task {
         Task::Run {
             data,
             query,
             catalog,
+            workers,
             morsel,
-        } => run(rt, data, query, catalog, morsel),
+            parts,
+        } => match settings_of(workers, morsel, parts) {
+            Some(settings) => run(
+                rt,
+                RunWords {
+                    data,
+                    query,
+                    catalog,
+                    settings,
+                },
+            ),
+            None => Err(ProgramFault::BadWords),
+        },
         Task::Check { query, catalog } => check(rt, query, catalog),
     }
 }
@@ -263,14 +303,19 @@ fn act_on_fault<R: Print + AllocGlobal>(rt: &R, fault: WordsFault) -> Result<(),
 }
 
 // Does what these words ask.
-fn act_on<R: Files + Print + AllocGlobal>(rt: &R, given: &[String]) -> Result<(), ProgramFault> {
+fn act_on<R: Files + Print + AllocGlobal + Threads + Wait + Sync>(
+    rt: &R,
+    given: &[String],
+) -> Result<(), ProgramFault> {
     match task_of(rt.alloc(), given) {
         Ok(task) => act_on_task(rt, task),
         Err(fault) => act_on_fault(rt, fault),
     }
 }
 
-fn act<R: Files + Print + Env + AllocGlobal>(rt: &R) -> Result<(), ProgramFault> {
+fn act<R: Files + Print + Env + AllocGlobal + Threads + Wait + Sync>(
+    rt: &R,
+) -> Result<(), ProgramFault> {
     let given = words(rt)?;
     let acted = act_on(rt, given.as_slice());
     drop(given);
@@ -295,7 +340,9 @@ fn tell<R: Eprint + AllocGlobal>(rt: &R, fault: &ProgramFault) -> u8
 }
 
 /// Does what the words of the command line ask, and gives the exit status.
-pub fn status_of_program<R: Files + Print + Eprint + Env + AllocGlobal>(rt: &R) -> u8 {
+pub fn status_of_program<R: Files + Print + Eprint + Env + AllocGlobal + Threads + Wait + Sync>(
+    rt: &R,
+) -> u8 {
     match act(rt) {
         Ok(()) => 0,
         Err(fault) => {

@@ -8,4 +8,4 @@ mod benchmark;
 pub mod words;
 
 pub use benchmark::text_named;
-pub use words::{MorselSize, QuerySource, Task, WordsFault, task_of};
+pub use words::{QuerySource, Task, WordsFault, task_of};

@@ -1,6 +1,7 @@
 // The words of the command line.
 
-ghost use Rattle.std.specs.Prelude.{◌≡◌, ◌<◌, ◌≤◌, MatchOption};
+ghost use Rattle.std.specs.Prelude.{IfOk, IfSome};
+ghost use Rattle.ssb_words.specs.Words.{AsksKnownQuery, IsFileOrBenchmark};
 
 use crate::benchmark::text_named;
 use clap::error::ErrorKind;
@@ -16,28 +17,6 @@ pub enum QuerySource<'a> {
     Text(&'static str),
 }
 
-/// How many rows of the fact table are one morsel: 1 to 1,048,576.
-#[derive(Clone, Copy)]
-pub struct MorselSize {
-    /// The rows.
-    pub rows: u32,
-    ghost in_range: { (0 < rows) × (rows ≤ 1048576) },
-}
-
-impl MorselSize {
-    const MAX: u32 = 1_048_576;
-
-    // None for a number outside the range.
-    fn new(rows: u32) -> Option<MorselSize>
-        ensures { MatchOption result ((0 < rows) × (rows ≤ 1048576) → ⊥) (λ size. size.rows ≡ rows) }
-    {
-        if rows == 0 || rows > MorselSize::MAX {
-            return None;
-        }
-        Some(MorselSize { rows })
-    }
-}
-
 /// What is asked.
 #[derive(Clone, Copy)]
 pub enum Task<'a> {
@@ -49,8 +28,12 @@ pub enum Task<'a> {
         query: QuerySource<'a>,
         /// The catalog's file, where another than the built-in one is meant.
         catalog: Option<&'a str>,
+        /// How many workers there are, where that is said: like the two numbers below, any of 32 bits.
+        workers: Option<u32>,
         /// How many rows a morsel has, where that is said.
-        morsel: Option<MorselSize>,
+        morsel: Option<u32>,
+        /// How many parts there are, where that is said.
+        parts: Option<u32>,
     },
     /// To say whether a query means something over a catalog.
     Check {
@@ -100,9 +83,19 @@ fn data_option<'a>(alloc: Global) -> Arg<'a> {
     option(alloc, "data", "DIR", help).required(true)
 }
 
+fn workers_option<'a>(alloc: Global) -> Arg<'a> {
+    let help = "How many workers take morsels, each in a thread, 1 to 64; 4 if not given";
+    option(alloc, "workers", "N", help)
+}
+
 fn morsel_option<'a>(alloc: Global) -> Arg<'a> {
     let help = "How many rows of the fact table are one morsel, 1 to 1048576; 10000 if not given";
     option(alloc, "morsel", "N", help)
+}
+
+fn parts_option<'a>(alloc: Global) -> Arg<'a> {
+    let help = "Into how many parts the morsels are divided, 1 to 16; 1 if not given";
+    option(alloc, "parts", "N", help)
 }
 
 fn run_command<'a>(alloc: Global) -> Result<Command<'a>, AllocError> {
@@ -112,7 +105,9 @@ fn run_command<'a>(alloc: Global) -> Result<Command<'a>, AllocError> {
         .arg(query_option(alloc))?
         .arg(name_option(alloc))?
         .arg(catalog_option(alloc))?
-        .arg(morsel_option(alloc))?;
+        .arg(workers_option(alloc))?
+        .arg(morsel_option(alloc))?
+        .arg(parts_option(alloc))?;
     Ok(run)
 }
 
@@ -152,7 +147,9 @@ fn parse<'a>(alloc: Global, given: &'a [String]) -> Result<ArgMatches<'a>, Error
 }
 
 // Exactly one of a file and a name.
-fn query_source<'a>(found: &ArgMatches<'a>) -> Option<QuerySource<'a>> {
+fn query_source<'a>(found: &ArgMatches<'a>) -> Option<QuerySource<'a>>
+    ensures { IfSome result IsFileOrBenchmark }
+{
     match (found.get_str("query"), found.get_str("name")) {
         (Some(path), None) => Some(QuerySource::File(path)),
         (None, Some(name)) => Some(QuerySource::Text(text_named(name)?)),
@@ -160,20 +157,22 @@ fn query_source<'a>(found: &ArgMatches<'a>) -> Option<QuerySource<'a>> {
     }
 }
 
-fn run_task<'a>(found: &ArgMatches<'a>) -> Option<Task<'a>> {
-    let morsel = match found.get_str("morsel") {
-        Some(_) => Some(MorselSize::new(found.get_one("morsel")?)?),
-        None => None,
-    };
+fn run_task<'a>(found: &ArgMatches<'a>) -> Option<Task<'a>>
+    ensures { IfSome result AsksKnownQuery }
+{
     Some(Task::Run {
         data: found.get_str("data")?,
         query: query_source(found)?,
         catalog: found.get_str("catalog"),
-        morsel,
+        workers: found.try_get_one("workers").ok()?,
+        morsel: found.try_get_one("morsel").ok()?,
+        parts: found.try_get_one("parts").ok()?,
     })
 }
 
-fn check_task<'a>(found: &ArgMatches<'a>) -> Option<Task<'a>> {
+fn check_task<'a>(found: &ArgMatches<'a>) -> Option<Task<'a>>
+    ensures { IfSome result AsksKnownQuery }
+{
     Some(Task::Check {
         query: found.get_str("query")?,
         catalog: found.get_str("catalog"),
@@ -197,7 +196,9 @@ fn fault_of(alloc: Global, error: Error) -> WordsFault {
     }
 }
 
-fn task_in<'a>(matches: &ArgMatches<'a>) -> Option<Task<'a>> {
+fn task_in<'a>(matches: &ArgMatches<'a>) -> Option<Task<'a>>
+    ensures { IfSome result AsksKnownQuery }
+{
     match matches.subcommand() {
         Some(("run", found)) => run_task(found),
         Some(("check", found)) => check_task(found),
@@ -205,8 +206,17 @@ fn task_in<'a>(matches: &ArgMatches<'a>) -> Option<Task<'a>> {
     }
 }
 
-/// What the words ask. The first is the program's own name.
-pub fn task_of<'a>(alloc: Global, given: &'a [String]) -> Result<Task<'a>, WordsFault> {
+/// What the words ask. The first is the program's own name. A query that stands there by its name is
+/// one of the benchmark's.
+///
+/// # Errors
+///
+/// `Help` where help is asked; `Bad` where the words are no command with its options, where an option
+/// that takes a number has none of 32 bits, and where no query has the name; `Memory` where a growth was
+/// refused.
+pub fn task_of<'a>(alloc: Global, given: &'a [String]) -> Result<Task<'a>, WordsFault>
+    ensures { IfOk result AsksKnownQuery }
+{
     let matches = match parse(alloc, given) {
         Ok(matches) => matches,
         Err(error) => return Err(fault_of(alloc, error)),

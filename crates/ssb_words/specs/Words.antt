@@ -1,0 +1,20 @@
+-- What is known of a task that words ask.
+-- Source: own.
+use Rattle.std.specs.Prelude.{◌≡◌, ℕ, List, Some, ⊤}
+use Rattle.std.specs.Map.{lookup}
+use Rattle.std.specs.Str.{bytes_eq}
+use Rattle.ssb_words.specs.Benchmark.{named_texts}
+use Rattle.ssb_words.specs.declared.words.QuerySource.{QuerySource}
+use Rattle.ssb_words.specs.declared.words.QuerySource.TheVariants as query
+use Rattle.ssb_words.specs.declared.words.Task.{Task}
+use Rattle.ssb_words.specs.declared.words.Task.TheVariants as task
+
+-- a text that stands in place of a file is that of a query of the benchmark
+abbrev pub IsFileOrBenchmark : QuerySource → Type 0
+IsFileOrBenchmark (query.File path) = ⊤
+IsFileOrBenchmark (query.Text text) = (name : List ℕ) × (lookup (bytes_eq name) named_texts ≡ Some text.now)
+
+-- the task's query is that of a file or of the benchmark
+abbrev pub AsksKnownQuery : Task → Type 0
+AsksKnownQuery (task.Run folder query catalog workers morsel parts) = IsFileOrBenchmark query
+AsksKnownQuery (task.Check query catalog) = ⊤

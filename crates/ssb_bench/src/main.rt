@@ -8,10 +8,13 @@ mod run;
 
 use probe::{Report, measure};
 use read::count_records;
-use run::own_time;
+use run::{By, own_time};
+use ssb_answer::Settings;
 use std::alloc::AllocError;
 use std::process::ExitCode;
 use std::rt::{Clock, Env, Files};
+use std::sync::Wait;
+use std::thread::Threads;
 use std::{env, fs, io};
 
 // Words that ask for nothing.
@@ -64,18 +67,18 @@ fn print_measures<R: Files + Clock + Print + AllocGlobal>(rt: &R, folder: &str, 
     }
 }
 
-// Prints the least milliseconds of so many answers in such morsels.
-fn print_own_time<R: Files + Clock + Print + AllocGlobal>(
+// Prints the least milliseconds of so many answers.
+fn print_own_time<R: Files + Clock + Print + Threads + Wait + Sync + AllocGlobal>(
     rt: &R,
     folder: &str,
     path: &str,
-    morsel_size: &str,
+    by: Option<By>,
     times: &str,
 ) -> u8 {
-    let (Ok(morsel_size), Ok(times)) = (morsel_size.parse(), times.parse()) else {
+    let (Some(by), Ok(times)) = (by, times.parse()) else {
         return BAD_WORDS;
     };
-    let Some(micros) = own_time(rt, folder, path, morsel_size, times) else {
+    let Some(micros) = own_time(rt, folder, path, by, times) else {
         return FAILED;
     };
     match print_micros(rt, "answering", micros) {
@@ -84,7 +87,18 @@ fn print_own_time<R: Files + Clock + Print + AllocGlobal>(
     }
 }
 
-fn status<R: Files + Clock + Print + Env + AllocGlobal>(rt: &R) -> u8 {
+fn alone(morsel_size: &str) -> Option<By> {
+    Some(By::Alone(Settings::new(1, morsel_size.parse().ok()?, 1)?))
+}
+
+fn workers(workers: &str, morsel_size: &str, parts: &str) -> Option<By> {
+    let workers = workers.parse().ok()?;
+    let morsel_size = morsel_size.parse().ok()?;
+    let parts = parts.parse().ok()?;
+    Some(By::Workers(Settings::new(workers, morsel_size, parts)?))
+}
+
+fn status<R: Files + Clock + Print + Env + Threads + Wait + Sync + AllocGlobal>(rt: &R) -> u8 {
     let Some(given) = words(rt) else {
         return FAILED;
     };
@@ -95,9 +109,14 @@ fn status<R: Files + Clock + Print + Env + AllocGlobal>(rt: &R) -> u8 {
             print_measures(rt, folder.as_str(), path.as_str())
         }
         [_, command, folder, path, morsel_size, times] if command.as_str() == "run" => {
-            let (folder, path) = (folder.as_str(), path.as_str());
-            print_own_time(rt, folder, path, morsel_size.as_str(), times.as_str())
+            let by = alone(morsel_size.as_str());
+            print_own_time(rt, folder.as_str(), path.as_str(), by, times.as_str())
         }
+        [_, command, folder, path, morsel_size, times, count, parts] if command.as_str() == "run" =>
+            {
+                let by = workers(count.as_str(), morsel_size.as_str(), parts.as_str());
+                print_own_time(rt, folder.as_str(), path.as_str(), by, times.as_str())
+            }
         _ => BAD_WORDS,
     }
 }

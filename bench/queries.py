@@ -5,7 +5,7 @@ Usage: queries.py FOLDER [--runs N]
 
 FOLDER has the five tables, as `make_tables.py` makes them, and `ssb` must be built: `.ci/run` leaves
 it in crates/ssb_cli/out. Every run loads all tables, so what `select count(*) from lineorder` takes is
-the loading time, and what a query takes above it is the query's own. The queries take turns. Each
+the loading time, and what a query takes above it is the query's own, by one worker. The queries take turns. Each
 figure is the least of the runs. A figure that is missed is marked as such, and is no failure.
 """
 
@@ -43,7 +43,7 @@ MOST_PEAK = 2.5
 
 def commands_over(tables, texts):
     """The command of each query over a folder of tables. Texts that have no name go into a folder."""
-    run = [measure.SSB, "run", "--data", tables]
+    run = [measure.SSB, "run", "--data", tables, "--workers", "1"]
     commands = {}
     for number, (name, text) in enumerate(TEXTS.items()):
         path = texts / f"{number}.sql"

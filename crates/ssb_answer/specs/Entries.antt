@@ -47,9 +47,13 @@ entry_row q e = map (λ item. entry_cell q e item.origin) q.items
 abbrev pub zeros : ℕ → List Accumulator
 zeros width = replicate width (record { values = 0; total = pos 0 })
 
+-- the whole as one group over no row
+abbrev pub whole_entry : ℕ → List Entry
+whole_entry width = ([], zeros width) ∷ []
+
 -- the entries that rows are made of: without GROUP BY the whole is one group, also where it is empty
 abbrev pub all_entries : List BoundColumn → ℕ → List Entry → List Entry
-all_entries [] width [] = ([], zeros width) ∷ []
+all_entries [] width [] = whole_entry width
 all_entries [] width (e ∷ es) = e ∷ es
 all_entries (x ∷ xs) width es = es
 
@@ -65,3 +69,11 @@ abbrev pub JudgesEntry : QueryParts → Option Entry → Result Row AnswerFault 
 JudgesEntry q None r = ⊥
 JudgesEntry q (Some e) (Ok row) = (entry_beyond q e ≡ false) × (row ≡ entry_row q e)
 JudgesEntry q (Some e) (Err f) = IsBeyondFault (entry_beyond q e) f
+
+-- these are the rows of the entries, none of which leaves the range
+abbrev pub AreRowsOf : QueryParts → List Entry → List Row → Type 0
+AreRowsOf q es rows = (list_any (entry_beyond q) es ≡ false) × (rows ≡ map (entry_row q) es)
+
+-- why the entries have no rows
+abbrev pub IsFaultOf : QueryParts → List Entry → AnswerFault → Type 0
+IsFaultOf q es f = IsBeyondFault (list_any (entry_beyond q) es) f

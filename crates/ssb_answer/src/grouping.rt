@@ -9,9 +9,7 @@ ghost use Rattle.ssb_answer.specs.Reply.{seen_rows};
 use crate::settings::Settings;
 use ssb_groups::Groups;
 use ssb_job::Job;
-use ssb_pipeline::{
-    Gate, Part, Parts, core_runs, finish, morsels_in_sections, rows_in_morsels, run_workers,
-};
+use ssb_pipeline::{Gate, Part, Parts, every_run, finish, run_workers};
 use std::alloc::{AllocError, Global};
 use std::sync::{Arc, Wait};
 use std::thread::Threads;
@@ -49,10 +47,8 @@ pub(crate) fn group_alone(
     ensures stands { IfOk result (λ g. Stands g (seen_rows (arc_value job.now))) }
     ensures job { IfOk result (λ g. AreOneJob g.job (arc_value job.now)) }
 {
-    // For the prover: the laws of morsels and parts, and that the fact table is one of the query's.
-    rows_in_morsels();
-    morsels_in_sections();
-    core_runs();
+    // For the prover: the law of parts, and that the fact table is one of the query's.
+    every_run();
     let _query = job.query();
     let mut part = Part::open(alloc, Arc::try_clone(job)?, morsel_size, 0, 1)?;
     part.work_off()?;

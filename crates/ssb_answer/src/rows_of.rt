@@ -1,6 +1,6 @@
 // From groups to the rows of an answer.
 
-ghost use Rattle.std.specs.Prelude.{◌≡◌, ◌<◌, IfOk, IfErr, List, [], ◌∷◌, true, false, length, map, slice_get, unwrap_or};
+ghost use Rattle.std.specs.Prelude.{◌≡◌, ◌<◌, IfOk, IfErr, List, true, false, length, map, slice_get, unwrap_or};
 ghost use Rattle.std.specs.List.{list_any, range_with_len};
 ghost use Rattle.ssb_cells.specs.Cell as Cell;
 ghost use Rattle.ssb_cells.specs.Values.{owned_cell};
@@ -169,8 +169,8 @@ fn group_rows(
     parts: &QueryParts,
     groups: &Groups,
 ) -> Result<Vec<AnswerRow>, AnswerFault>
-    ensures ok { IfOk result (λ rows. (list_any (spec.entry_beyond parts.now) groups.now.entries ≡ false) × (rows.items ≡ map (spec.entry_row parts.now) groups.now.entries)) }
-    ensures err { IfErr result (spec.IsBeyondFault (list_any (spec.entry_beyond parts.now) groups.now.entries)) }
+    ensures ok { IfOk result (λ rows. spec.AreRowsOf parts.now groups.now.entries rows.items) }
+    ensures err { IfErr result (spec.IsFaultOf parts.now groups.now.entries) }
 {
     let mut rows = Vec::new(alloc);
     for at in 0..groups.group_count() {
@@ -197,8 +197,8 @@ fn zeros(alloc: Global, width: usize) -> Result<Vec<Accumulator>, AllocError>
 
 // The one row of a query without GROUP BY over no row.
 fn whole_row(alloc: Global, parts: &QueryParts, width: usize) -> Result<Vec<AnswerRow>, AnswerFault>
-    ensures ok { IfOk result (λ rows. (list_any (spec.entry_beyond parts.now) (([], spec.zeros width) ∷ []) ≡ false) × (rows.items ≡ map (spec.entry_row parts.now) (([], spec.zeros width) ∷ []))) }
-    ensures err { IfErr result (spec.IsBeyondFault (list_any (spec.entry_beyond parts.now) (([], spec.zeros width) ∷ []))) }
+    ensures ok { IfOk result (λ rows. spec.AreRowsOf parts.now (spec.whole_entry width) rows.items) }
+    ensures err { IfErr result (spec.IsFaultOf parts.now (spec.whole_entry width)) }
 {
     let Ok(totals) = zeros(alloc, width) else {
         return Err(AnswerFault::Memory);
@@ -220,8 +220,8 @@ fn all_rows(
     parts: &QueryParts,
     groups: &Groups,
 ) -> Result<Vec<AnswerRow>, AnswerFault>
-    ensures ok { IfOk result (λ rows. (list_any (spec.entry_beyond parts.now) (spec.all_entries parts.now.groups groups.now.width groups.now.entries) ≡ false) × (rows.items ≡ map (spec.entry_row parts.now) (spec.all_entries parts.now.groups groups.now.width groups.now.entries))) }
-    ensures err { IfErr result (spec.IsBeyondFault (list_any (spec.entry_beyond parts.now) (spec.all_entries parts.now.groups groups.now.width groups.now.entries))) }
+    ensures ok { IfOk result (λ rows. spec.AreRowsOf parts.now (spec.all_entries parts.now.groups groups.now.width groups.now.entries) rows.items) }
+    ensures err { IfErr result (spec.IsFaultOf parts.now (spec.all_entries parts.now.groups groups.now.width groups.now.entries)) }
 {
     if parts.groups.is_empty() && groups.group_count() == 0 {
         return whole_row(alloc, parts, groups.width());

@@ -36,11 +36,9 @@ impl Model for Groups {
 
     ghost Value = { GroupMap };
 
-    ghost use Rattle.ssb_bind.specs.contracts.condition.BoundCondition as condition;
-    ghost use Rattle.ssb_bind.specs.contracts.expr.BoundExpr as expr;
-    ghost use Rattle.std.specs.Coded.{codes};
+    ghost use Rattle.ssb_groups.specs.contracts.store.Store as store_type;
 
-    ghost coded = { Prim.hlevel (codes, condition.the_row.coded, expr.the_row.coded) };
+    ghost coded = { store_type.the_row.coded };
 
     ghost view = { λ g. g.store };
 

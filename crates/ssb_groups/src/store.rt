@@ -36,11 +36,10 @@ impl Model for Store {
 
     ghost Value = { GroupMap };
 
-    ghost use Rattle.ssb_bind.specs.contracts.condition.BoundCondition as condition;
-    ghost use Rattle.ssb_bind.specs.contracts.expr.BoundExpr as expr;
+    ghost use Rattle.ssb_job.specs.contracts.job.Job as job_type;
     ghost use Rattle.std.specs.Coded.{codes};
 
-    ghost coded = { Prim.hlevel (codes, condition.the_row.coded, expr.the_row.coded) };
+    ghost coded = { Prim.hlevel (codes, job_type.the_row.coded) };
 
     ghost view = { λ s. record { job = s.job.value; width = s.width; entries = entries_of s.table.entries; overflow = s.overflow; counted = s.counted } };
 

@@ -9,27 +9,12 @@ use Rattle.ssb_pipeline.specs.Rule.{Knows, knows}
 use Rattle.ssb_pipeline.specs.State.{PartialState, TicketState}
 use Rattle.ssb_pipeline.specs.Work.{Brings, IsBrought, TakesBack}
 use Rattle.ssb_pipeline.proofs.Holds.{same-none}
-use Rattle.ssb_pipeline.proofs.Moves.{follows_after}
+use Rattle.ssb_pipeline.proofs.Later.{back-follows, follows_after, give-up-follows, is-back}
 use Rattle.ssb_pipeline.proofs.RangeFacts.{range-has}
 use Rattle.ssb_pipeline.proofs.SetFacts.{has-left, has-right}
 
 pub back-brought : (i : ℕ) (x q : PartState) → Returns i x q → IsBrought i x q
-back-brought i x q r =
-    let e = r.after in
-    let came : (k : ℕ) → has (x.returned ++ i ∷ []) k ≡ true → has q.returned k ≡ true = λ k there. sym (list_any-IsPermutation (nat_eq k) (x.returned ++ i ∷ []) q.returned r.returned) ∙ there in
-    record {
-      handed = ap (λ (y : PartState). y.handed) e;
-      follows = record {
-        job = ap (λ (y : PartState). y.job) e;
-        size = ap (λ (y : PartState). y.size) e;
-        section = ap (λ (y : PartState). y.section) e;
-        sections = ap (λ (y : PartState). y.sections) e;
-        handed = λ k there. ap (λ (y : PartState). has y.handed k) e ∙ there;
-        returned = λ k there. came k (has-left x.returned (i ∷ []) k there);
-        gave_up = λ g. ap (λ (y : PartState). y.gave_up) e ∙ g;
-      };
-      back = inr (came i (has-right x.returned (i ∷ []) i (range-has i 1 i (omega arith) (omega arith))));
-    }
+back-brought i x q r = record { handed = ap (λ (y : PartState). y.handed) r.after; follows = back-follows i x q r; back = inr (is-back i x q r) }
 
 -- the partial is of this number, of this job and this size
 abbrev pub IsMade : ℕ → JobShape → ℕ → Result PartialState TicketState → Type 0
@@ -42,19 +27,7 @@ one-job (Err t) i m j k h e = tt
 pub brought : (made : Result PartialState TicketState) (i m : ℕ) (j : JobShape) (x q : PartState) → IsMade i j m made → TakesBack made x q → has x.handed i ≡ true → x.size ≡ m → IsBrought i x q
 brought (Ok p) i m j x q h t there size =
     subst (λ n. IsBrought n x q) h.0 (t (h.2 ∙ sym size, subst (λ n. has x.handed n ≡ true) (sym h.0) there))
-brought (Err t) i m j x q h e there size = record {
-  handed = ap (λ (y : PartState). y.handed) e;
-  follows = record {
-    job = ap (λ (y : PartState). y.job) e;
-    size = ap (λ (y : PartState). y.size) e;
-    section = ap (λ (y : PartState). y.section) e;
-    sections = ap (λ (y : PartState). y.sections) e;
-    handed = λ k there. ap (λ (y : PartState). has y.handed k) e ∙ there;
-    returned = λ k there. ap (λ (y : PartState). has y.returned k) e ∙ there;
-    gave_up = λ g. ap (λ (y : PartState). y.gave_up) e;
-  };
-  back = inl (ap (λ (y : PartState). y.gave_up) e);
-}
+brought (Err t) i m j x q h e there size = record { handed = ap (λ (y : PartState). y.handed) e; follows = give-up-follows x q e; back = inl (ap (λ (y : PartState). y.gave_up) e) }
 
 pub brings : (i : ℕ) (v w : Knows) (x q : PartState) → w ≡ knows false q (v.mine ++ handed_between x q) → Follows x v.seen → IsBrought i x q → Brings i v w
 brings i v w x q e f b = subst (Brings i v) (sym e) (record {

@@ -32,7 +32,7 @@ use Rattle.ssb_pipeline.specs.contracts.parts.Parts as Parts
 use Rattle.ssb_pipeline.specs.contracts.parts.Parts.TheInside as InParts
 use Rattle.ssb_pipeline.specs.contracts.parts.PartsPass as PartsPass
 use Rattle.ssb_pipeline.specs.contracts.parts.PartsPass.TheInside as InPass
-use Rattle.ssb_pipeline.proofs.CrossingJobs.{job_send, job_sync}
+use Rattle.ssb_pipeline.proofs.CrossingJobs.{job}
 
 key_send : IsSend Key.the_row
 key_send = search (crosses, sendable) depth 20
@@ -59,11 +59,11 @@ groups_send =
 
 pub part_send : IsSend Part.the_row
 part_send =
-    let job = Arc-send Job.the_row job_send job_sync in
+    let shared_job = Arc-send Job.the_row job.0 job.1 in
     view_send InPart.the_row _ _ _ _ (declared_send InPart.the_type (
       search (as_row_send, crosses, sendable) depth 20,
       (
-        job,
+        shared_job,
         (
           search (as_row_send, sendable) depth 20,
           (
@@ -112,8 +112,8 @@ module _ (Q : RattleType) (g : Ghosts Q.Denot Slot.Denot Turn.Denot unit.Denot) 
 
 pub parts_sync : IsSync Parts.the_row
 parts_sync =
-    let job = Arc-sync Job.the_row job_send job_sync in
+    let shared_job = Arc-sync Job.the_row job.0 job.1 in
     view_sync InParts.the_row _ _ _ _ (declared_sync InParts.the_type (
       sync,
-      (Vec-sync _ (line_sync (Turns.the_row Law.the_row) (turns.ghosts Part.the_row Knowledge.the_row Law.the_row law.ghosts turns.no_dict)), (search (as_row_sync, sendable) depth 20, (job, (search (as_row_sync, sendable) depth 20, tt)))),
+      (Vec-sync _ (line_sync (Turns.the_row Law.the_row) (turns.ghosts Part.the_row Knowledge.the_row Law.the_row law.ghosts turns.no_dict)), (search (as_row_sync, sendable) depth 20, (shared_job, (search (as_row_sync, sendable) depth 20, tt)))),
     ))

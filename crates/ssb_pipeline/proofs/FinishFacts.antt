@@ -11,12 +11,13 @@ use Rattle.ssb_job.proofs.Whole as all_kept
 use Rattle.ssb_groups.specs.Seen.{seen}
 use Rattle.ssb_groups.specs.Stands.{GroupMap, Stands}
 use Rattle.ssb_groups.proofs.Permuted.{any_order}
-use Rattle.ssb_pipeline.specs.Finish.{AreOver, IsMerged, section_of}
+use Rattle.ssb_pipeline.specs.Finish.{IsMerged, section_of}
 use Rattle.ssb_pipeline.specs.Joined.{rows_in, seen_in}
 use Rattle.ssb_pipeline.specs.Morsels.{morsel, morsel_count, morsel_cut, row_cut, section}
 use Rattle.ssb_pipeline.specs.Part.{Grows, IsLawful, IsWhole, PartState, ours}
 use Rattle.ssb_pipeline.specs.Pass.{IsPassOfParts, PartsState, PassState, known}
 use Rattle.ssb_pipeline.specs.Rule.{Knows, fresh}
+use Rattle.ssb_pipeline.specs.State.{AreOver}
 use Rattle.ssb_pipeline.specs.Work.{OnlyIn}
 use Rattle.ssb_pipeline.proofs.Cuts.{all-pieces, range-append}
 use Rattle.ssb_pipeline.proofs.EveryRun.{all-rows}
@@ -36,7 +37,7 @@ of-whole p l all few =
 pub of-grown : (p q : PartState) (g : GroupMap) → Grows p q → IsLawful q → IsWhole q → g ≡ q.groups → g.counted ≤ length (rows_in q.job q.size q.returned) → AreOver p.job p.size (ours p) g
 of-grown p q g grows lawful all is few =
     let over : AreOver q.job q.size (ours q) g = subst (AreOver q.job q.size (ours q)) (sym is) (of-whole q lawful all (subst (λ (h : GroupMap). h.counted ≤ length (rows_in q.job q.size q.returned)) is few)) in
-    rw (grows.job, grows.size, grows.section, grows.sections) at over
+    let f = grows.follows in rw (f.job, f.size, f.section, f.sections) at over
 
 module _ (j : JobShape) (size : ℕ) where
   rows-append : (is js : List ℕ) → rows_in j size (is ++ js) ≡ rows_in j size is ++ rows_in j size js

@@ -8,7 +8,7 @@ use Rattle.ssb_pipeline.specs.Pass.{HoldsNone, PassState, known, knowing}
 use Rattle.ssb_pipeline.specs.Rule.{Knows, fresh, knows, putter, taker}
 use Rattle.ssb_pipeline.specs.State.{TicketState}
 use Rattle.ssb_pipeline.specs.Work.{GetsTicket, OnlyIn}
-use Rattle.ssb_pipeline.proofs.Moves.{follows_after, follows_self}
+use Rattle.ssb_pipeline.proofs.Later.{follows_after, follows_self, hand-follows}
 use Rattle.ssb_pipeline.proofs.Passes.{all_knowing}
 use Rattle.ssb_pipeline.proofs.RangeFacts.{range-has}
 use Rattle.ssb_pipeline.proofs.Rounds.{only_again}
@@ -58,19 +58,6 @@ one-new : (xs : List ℕ) (i : ℕ) (ys : List ℕ) → ((k : ℕ) → has ys k 
 one-new xs i [] h new = rw new refl
 one-new xs i (y ∷ ys) h new =
     rw (h y (has-left (y ∷ []) ys y (range-has y 1 y (omega arith) (omega arith)))) (one-new xs i ys (λ k there. h k (has-right (y ∷ []) ys k there)) new)
-
-hand-follows : (i : ℕ) (x q : PartState) → Hands i x q → Follows q x
-hand-follows i x q h =
-    let e = h.after in
-    record {
-      job = ap (λ (y : PartState). y.job) e;
-      size = ap (λ (y : PartState). y.size) e;
-      section = ap (λ (y : PartState). y.section) e;
-      sections = ap (λ (y : PartState). y.sections) e;
-      handed = λ k there. ap (λ (y : PartState). has y.handed k) e ∙ has-left x.handed (i ∷ []) k there;
-      returned = λ k there. ap (λ (y : PartState). has y.returned k) e ∙ there;
-      gave_up = λ g. ap (λ (y : PartState). y.gave_up) e ∙ g;
-    }
 
 pub out-follows : (r : Option TicketState) (x q : PartState) → HandsOut x r q → Follows q x
 out-follows None x q h = subst (λ y. Follows y x) (sym h.0) (follows_self x)

@@ -1,12 +1,15 @@
 pub mod Bringing
+pub mod Crossing
 pub mod CrossingJobs
 pub mod CrossingParts
 pub mod CrossingQueries
 pub mod Cuts
 pub mod EveryRun
 pub mod FinishFacts
+pub mod GivingBack
 pub mod Holds
 pub mod JoinedFacts
+pub mod Later
 pub mod MarkFacts
 pub mod MorselFacts
 pub mod Moves

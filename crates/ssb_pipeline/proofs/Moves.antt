@@ -6,20 +6,7 @@ use Rattle.crossbeam_queue.specs.Fifo.{Pushes, Pops, Forks, Learns}
 use Rattle.crossbeam_queue.proofs.Lists.{at_set, at_snoc, at_longer, set_here, set_again}
 use Rattle.ssb_pipeline.specs.Part.{Follows, IsLawful, PartState}
 use Rattle.ssb_pipeline.specs.Rule.{Knows, knows, fresh, newcomer, putter, taker, AllPasses, Ruled}
-
-pub follows_self : (x : PartState) → Follows x x
-follows_self x = record { job = refl; size = refl; section = refl; sections = refl; handed = λ i h. h; returned = λ i h. h; gave_up = λ h. h }
-
-pub follows_after : (x y z : PartState) → Follows x y → Follows y z → Follows x z
-follows_after x y z a b = record {
-  job = a.job ∙ b.job;
-  size = a.size ∙ b.size;
-  section = a.section ∙ b.section;
-  sections = a.sections ∙ b.sections;
-  handed = λ i h. a.handed i (b.handed i h);
-  returned = λ i h. a.returned i (b.returned i h);
-  gave_up = λ h. a.gave_up (b.gave_up h);
-}
+use Rattle.ssb_pipeline.proofs.Later.{follows_after, follows_self}
 
 not_true : (b : Bool) → (b ≡ true → ⊥) → b ≡ false
 not_true true n = absurd (n refl)

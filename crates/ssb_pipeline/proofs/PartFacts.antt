@@ -17,7 +17,7 @@ use Rattle.ssb_pipeline.specs.Part.{Hands, IsLawful, PartState, Returns, has}
 use Rattle.ssb_pipeline.specs.State.{IsOfTicket, PartialState}
 use Rattle.ssb_pipeline.proofs.JoinedFacts.{rows-cons, seen-cons, seen-none}
 use Rattle.ssb_pipeline.proofs.MarkFacts.{distinct-marked, marked-lacks, no-more, one-more, place-of}
-use Rattle.ssb_pipeline.proofs.RangeFacts.{beyond-range, distinct-range, range-has, range-lacks, range-last, within-range}
+use Rattle.ssb_pipeline.proofs.RangeFacts.{IsPlace, beyond-range, distinct-range, range-has, range-lacks, range-last, within-range}
 
 module _ (j : JobShape) (size s k first : ℕ) where
   -- the part that contracts see
@@ -64,8 +64,28 @@ module _ (j : JobShape) (size s k first : ℕ) where
 
   -- ---- a partial that comes back
 
-  module _ (next back : ℕ) (marks : List Bool) (g : GroupMap) (h : IsKept j size s k first next marks back g) (x : PartialState) (p : ℕ) (is : x.ticket.morsel ≡ first + p) (free : slice_get marks p ≡ Some false)
-      (one : AreOneJob x.ticket.job j) (same : x.ticket.size ≡ size) (of : IsOfTicket x) where
+  -- the part waits for it: its morsel was handed out, has the mark at this place, and is not back
+  pub record IsDue (next back : ℕ) (marks : List Bool) (g : GroupMap) (x : PartialState) (p : ℕ) : Type 0 where
+    pub kept : IsKept j size s k first next marks back g
+    pub place : IsPlace first next x.ticket.morsel p
+    pub free : slice_get marks p ≡ Some false
+    pub one : AreOneJob x.ticket.job j
+    pub same : x.ticket.size ≡ size
+    pub of : IsOfTicket x
+
+  module _ (next back : ℕ) (marks : List Bool) (g : GroupMap) (x : PartialState) (p : ℕ) (due : IsDue next back marks g x p) where
+    abbrev h : IsKept j size s k first next marks back g
+    h = due.kept
+
+    abbrev is : x.ticket.morsel ≡ first + p
+    is = due.place.is
+
+    abbrev lt : p < next
+    lt = due.place.below
+
+    abbrev free : slice_get marks p ≡ Some false
+    free = due.free
+
     abbrev pub i : ℕ
     i = x.ticket.morsel
 
@@ -74,10 +94,10 @@ module _ (j : JobShape) (size s k first : ℕ) where
 
     -- the rows of the morsel are those of the part's job
     stands-here : Stands x.groups (seen_in j size (i ∷ []))
-    stands-here = rw (one, same) at of.stands
+    stands-here = rw (due.one, due.same) at due.of.over.stands
 
     few-here : x.groups.counted ≤ length (rows_in j size (i ∷ []))
-    few-here = rw (one, same) at of.few
+    few-here = rw (due.one, due.same) at due.of.over.few
 
     rows-more : length (rows_in j size (marked first marks)) + length (rows_in j size (i ∷ [])) ≡ length (rows_in j size (marked first after))
     rows-more = sym (length-append (rows_in j size (marked first marks)) (rows_in j size (i ∷ []))) ∙ sym (length_permutation _ _ (one-more (rows_in j size) refl (rows-cons j size) first marks p i is free))
@@ -127,9 +147,9 @@ module _ (j : JobShape) (size s k first : ℕ) where
     within (b ∷ bs) (suc q) (suc r) e = elim (within bs q r e) [ inl same ↦ inl (ap (λ n. suc n) same) | inr there ↦ inr there ]
 
     -- the part's fields keep what they keep with one mark more
-    pub kept-more : (n : GroupMap) → p < next → n.job ≡ g.job → n.width ≡ g.width → n.counted ≡ g.counted + x.groups.counted → ((A B : List SeenRow) → Stands g A → Stands x.groups B → Stands n (A ++ B))
+    pub kept-more : (n : GroupMap) → n.job ≡ g.job → n.width ≡ g.width → n.counted ≡ g.counted + x.groups.counted → ((A B : List SeenRow) → Stands g A → Stands x.groups B → Stands n (A ++ B))
         → IsKept j size s k first next after (back + 1) n
-    kept-more n lt job width counted merges =
+    kept-more n job width counted merges =
         let e = still in
         let fits = h.fits in
         let bound = h.bound in
@@ -149,8 +169,8 @@ module _ (j : JobShape) (size s k first : ℕ) where
         }
 
     -- the morsel comes back
-    pub comes-back : (gave : Bool) (n : GroupMap) → p < next → n.job ≡ g.job → ((A B : List SeenRow) → Stands g A → Stands x.groups B → Stands n (A ++ B)) → Returns i (state next marks gave g) (state next after gave n)
-    comes-back gave n lt job merges = record {
+    pub comes-back : (gave : Bool) (n : GroupMap) → n.job ≡ g.job → ((A B : List SeenRow) → Stands g A → Stands x.groups B → Stands n (A ++ B)) → Returns i (state next marks gave g) (state next after gave n)
+    comes-back gave n job merges = record {
       handed = range-has first next i (omega (arith, is)) (omega (arith, is, lt));
       fresh = marked-lacks first marks p i is free;
       returned = perm;

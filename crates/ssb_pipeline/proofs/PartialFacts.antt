@@ -19,10 +19,12 @@ by-rows j size i g stands job width few =
     let from = row_cut (fact_rows j) size i in
     let end = row_cut (fact_rows j) size (i + 1) in
     record {
-      job = job;
+      over = record {
+        job = job;
+        stands = subst (λ rs. Stands g (map (seen j) (joined j rs))) (sym (one-morsel j size i)) stands;
+        few = subst (λ n. g.counted ≤ n) (sym (ap length (one-morsel j size i) ∙ length-range_with_len from (end - from))) few;
+      };
       width = width;
-      stands = subst (λ rs. Stands g (map (seen j) (joined j rs))) (sym (one-morsel j size i)) stands;
-      few = subst (λ n. g.counted ≤ n) (sym (ap length (one-morsel j size i) ∙ length-range_with_len from (end - from))) few;
     }
 
 pub of-ticket : (t : TicketState) (j : JobShape) (from end : ℕ) (g : GroupMap) → t.job ≡ j → from ≡ row_cut (fact_rows j) t.size t.morsel → end ≡ row_cut (fact_rows j) t.size (t.morsel + 1)

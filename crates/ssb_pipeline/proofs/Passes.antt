@@ -42,6 +42,10 @@ now_knows ps i p q w in_ps is same knows =
 pub in_image : {A B : Type 0} (f : A → B) (xs : List A) (ys : List B) (i : ℕ) → map f xs ≡ ys → i < length ys → i < length xs
 in_image f xs ys i e in_ys = let h = ap length e in let k = length-map xs f in omega arith
 
+-- two lists with one image are as long
+pub beside : {A B N : Type 0} (f : A → N) (h : B → N) (xs : List A) (ys : List B) (i : ℕ) → map f xs ≡ map h ys → i < length ys → i < length xs
+beside f h xs ys i e in_ys = let a = ap length e in let b = length-map xs f in let c = length-map ys h in omega arith
+
 -- what holds of each section, and of what is now known of one, holds afterwards
 at_knowing : (F : ℕ → Knows → Type 0) (p : PassState) (i : ℕ) (w : Knows) (s : ℕ) → ((s ≢ i) → F s (known p s)) → F i w → i < length p.views → ((s ≡ i) ⊎ (s ≢ i)) → F s (known (knowing p i w) s)
 at_knowing F p i w s old new in_views (inl e) = subst (λ (y : ℕ × Knows). F y.0 y.1) (λ k. (sym e k, sym (get_or-set_at p.views i s w fresh e in_views) k)) new

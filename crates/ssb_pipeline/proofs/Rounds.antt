@@ -8,7 +8,7 @@ use Rattle.ssb_pipeline.specs.Rule.{Knows, fresh}
 use Rattle.ssb_pipeline.specs.Pass.{AllSections, PassState, known, knowing}
 use Rattle.ssb_pipeline.specs.State.{TicketState}
 use Rattle.ssb_pipeline.specs.Work.{AllBack, Brings, GetsTicket, IsExhausted, IsRound, OnlyIn}
-use Rattle.ssb_pipeline.proofs.Moves.{follows_self, follows_after}
+use Rattle.ssb_pipeline.proofs.Later.{follows_self, follows_after}
 use Rattle.ssb_pipeline.proofs.Passes.{all_knowing, all_but_one}
 
 pub only_self : (s : ℕ) (p : PassState) → OnlyIn s p p

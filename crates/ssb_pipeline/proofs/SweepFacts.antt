@@ -1,11 +1,10 @@
 -- A part whose section is done from its first morsel on.
-use Rattle.std.proofs.Common.{◌≡◌, ◌∙◌, ◌++◌, ◌∷◌, [], ◌≤◌, ◌<◌, ◌+◌, ◌-◌, ℕ, true, nat_eq, inl, inr, refl, sym, ap, subst, arith}
+use Rattle.std.proofs.Common.{◌≡◌, ◌∙◌, ◌≤◌, ◌<◌, ◌+◌, ◌-◌, ℕ, true, inl, inr, refl, sym, ap, subst, arith}
 use Rattle.std.specs.List.{range_with_len}
 use Rattle.std.proofs.lemmas.Bool.{cases_lt}
-use Rattle.std.proofs.lemmas.List.Sorted.{list_any-IsPermutation}
 use Rattle.ssb_pipeline.specs.Part.{Grows, IsLawful, PartState, Returns, has, ours}
+use Rattle.ssb_pipeline.proofs.Later.{all-follows, back-follows, grows-more, is-back}
 use Rattle.ssb_pipeline.proofs.RangeFacts.{range-has, within-range}
-use Rattle.ssb_pipeline.proofs.SetFacts.{has-left, has-right}
 
 -- all is handed out, and what stands before this number came back
 pub record IsSwept (old now : PartState) (first end morsel : ℕ) : Type 0 where
@@ -18,15 +17,7 @@ pub record IsSwept (old now : PartState) (first end morsel : ℕ) : Type 0 where
 -- all of the section is handed out at once
 pub begins : (p q : PartState) (first end : ℕ) → IsLawful p → q ≡ record p { handed = ours p } → IsLawful q → ours q ≡ range_with_len first (end - first) → IsSwept p q first end first
 begins p q first end l e m is = record {
-  grows = record {
-    job = ap (λ (x : PartState). x.job) e;
-    size = ap (λ (x : PartState). x.size) e;
-    section = ap (λ (x : PartState). x.section) e;
-    sections = ap (λ (x : PartState). x.sections) e;
-    gave_up = ap (λ (x : PartState). x.gave_up) e;
-    handed = λ i h. subst (λ (x : PartState). has x.handed i ≡ true) (sym e) (l.within i h);
-    returned = λ i h. subst (λ (x : PartState). has x.returned i ≡ true) (sym e) h;
-  };
+  grows = record { follows = all-follows p q l e; gave_up = ap (λ (x : PartState). x.gave_up) e };
   ours = is;
   handed = subst (λ (x : PartState). x.handed ≡ ours x) (sym e) refl ∙ is;
   done = λ i h k. absurd (omega (arith, h, k));
@@ -41,23 +32,13 @@ passes old now first end morsel s h = record { grows = s.grows; ours = s.ours; h
 pub goes-on : (old now next : PartState) (first end morsel : ℕ) → IsSwept old now first end morsel → Returns morsel now next → IsLawful next → IsSwept old next first end (morsel + 1)
 goes-on old now next first end morsel s r l =
     let e = r.after in
-    let kept : (i : ℕ) → has now.returned i ≡ true → has next.returned i ≡ true = λ i h. sym (list_any-IsPermutation (nat_eq i) (now.returned ++ morsel ∷ []) next.returned r.returned) ∙ has-left now.returned (morsel ∷ []) i h in
-    let new : has next.returned morsel ≡ true = sym (list_any-IsPermutation (nat_eq morsel) (now.returned ++ morsel ∷ []) next.returned r.returned) ∙ has-right now.returned (morsel ∷ []) morsel (range-has morsel 1 morsel (omega arith) (omega arith)) in
-    let g = s.grows in
+    let later = back-follows morsel now next r in
     record {
-      grows = record {
-        job = ap (λ (x : PartState). x.job) e ∙ g.job;
-        size = ap (λ (x : PartState). x.size) e ∙ g.size;
-        section = ap (λ (x : PartState). x.section) e ∙ g.section;
-        sections = ap (λ (x : PartState). x.sections) e ∙ g.sections;
-        gave_up = ap (λ (x : PartState). x.gave_up) e ∙ g.gave_up;
-        handed = λ i h. subst (λ (x : PartState). has x.handed i ≡ true) (sym e) (g.handed i h);
-        returned = λ i h. kept i (g.returned i h);
-      };
+      grows = grows-more old now next s.grows later (ap (λ (x : PartState). x.gave_up) e);
       ours = ap ours e ∙ s.ours;
       handed = ap (λ (x : PartState). x.handed) e ∙ s.handed;
       lawful = l;
-      done = λ i from to. elim (cases_lt i morsel) [ inl b ↦ kept i (s.done i from b) | inr b ↦ let same : morsel ≡ i = omega (arith, to, b) in subst (λ n. has next.returned n ≡ true) same new ];
+      done = λ i from to. elim (cases_lt i morsel) [ inl b ↦ later.returned i (s.done i from b) | inr b ↦ let same : morsel ≡ i = omega (arith, to, b) in subst (λ n. has next.returned n ≡ true) same (is-back morsel now next r) ];
     }
 
 -- the next morsel was handed out

@@ -1,10 +1,10 @@
 -- A part that is worked off: what it hands out comes back before the next.
-use Rattle.std.proofs.Common.{◌≡◌, ◌∙◌, ◌++◌, ◌∷◌, [], ◌<◌, ◌-◌, ℕ, true, false, true≢false, nat_eq, None, inl, inr, length, refl, sym, ap, subst, arith, length-append}
+use Rattle.std.proofs.Common.{◌≡◌, ◌∙◌, ◌++◌, ◌∷◌, [], ◌<◌, ◌-◌, ℕ, true, false, true≢false, None, inl, inr, length, refl, sym, ap, subst, arith, length-append}
 use Rattle.std.proofs.lemmas.Bool.{false_from_ne_true}
-use Rattle.std.proofs.lemmas.List.Sorted.{list_any-IsPermutation}
 use Rattle.ssb_pipeline.specs.Part.{Grows, Hands, HandsOut, IsBack, IsLawful, IsWhole, PartState, Returns, has, ours}
+use Rattle.ssb_pipeline.proofs.Later.{back-follows, follows_after, grows-more, grows_self, hand-follows, is-back}
 use Rattle.ssb_pipeline.proofs.RangeFacts.{range-has}
-use Rattle.ssb_pipeline.proofs.SetFacts.{has-last, has-left, has-right, no-longer}
+use Rattle.ssb_pipeline.proofs.SetFacts.{has-last, has-right, no-longer}
 
 -- nothing is lost, and nothing is out that was not out before
 pub record IsWorked (old now : PartState) : Type 0 where
@@ -13,7 +13,7 @@ pub record IsWorked (old now : PartState) : Type 0 where
   pub lawful : IsLawful now
 
 pub nothing-yet : (p : PartState) → IsLawful p → IsWorked p p
-nothing-yet p l = record { grows = record { job = refl; size = refl; section = refl; sections = refl; gave_up = refl; handed = λ i h. h; returned = λ i h. h }; back = λ b. b; lawful = l }
+nothing-yet p l = record { grows = grows_self p; back = λ b. b; lawful = l }
 
 -- what is handed out is handed out then, and did not come back
 pub is-out : (i : ℕ) (p q : PartState) → Hands i p q → has q.handed i ≡ true
@@ -35,24 +35,14 @@ fewer-left i p q r h l b =
 -- one morsel was handed out and came back
 pub one-more : (i : ℕ) (old now mid next : PartState) → IsWorked old now → Hands i now mid → Returns i mid next → IsLawful next → IsWorked old next
 one-more i old now mid next w h b l =
-    let g = w.grows in
     let e = h.after in
     let f = b.after in
-    let came : (k : ℕ) → has (mid.returned ++ i ∷ []) k ≡ true → has next.returned k ≡ true = λ k there. sym (list_any-IsPermutation (nat_eq k) (mid.returned ++ i ∷ []) next.returned b.returned) ∙ there in
-    let kept : (k : ℕ) → has now.returned k ≡ true → has next.returned k ≡ true = λ k there. came k (has-left mid.returned (i ∷ []) k (subst (λ (x : PartState). has x.returned k ≡ true) (sym e) there)) in
+    let later = follows_after next mid now (back-follows i mid next b) (hand-follows i now mid h) in
     record {
-      grows = record {
-        job = ap (λ (x : PartState). x.job) f ∙ ap (λ (x : PartState). x.job) e ∙ g.job;
-        size = ap (λ (x : PartState). x.size) f ∙ ap (λ (x : PartState). x.size) e ∙ g.size;
-        section = ap (λ (x : PartState). x.section) f ∙ ap (λ (x : PartState). x.section) e ∙ g.section;
-        sections = ap (λ (x : PartState). x.sections) f ∙ ap (λ (x : PartState). x.sections) e ∙ g.sections;
-        gave_up = ap (λ (x : PartState). x.gave_up) f ∙ ap (λ (x : PartState). x.gave_up) e ∙ g.gave_up;
-        handed = λ k there. ap (λ (x : PartState). has x.handed k) f ∙ ap (λ (x : PartState). has x.handed k) e ∙ has-left now.handed (i ∷ []) k (g.handed k there);
-        returned = λ k there. kept k (g.returned k there);
-      };
+      grows = grows-more old now next w.grows later (ap (λ (x : PartState). x.gave_up) f ∙ ap (λ (x : PartState). x.gave_up) e);
       back = λ all k there. elim (has-last now.handed i k (sym (ap (λ (x : PartState). has x.handed k) e) ∙ sym (ap (λ (x : PartState). has x.handed k) f) ∙ there)) [
-        | inl before ↦ kept k (w.back all k before)
-        | inr same ↦ subst (λ n. has next.returned n ≡ true) (sym same) (came i (has-right mid.returned (i ∷ []) i (range-has i 1 i (omega arith) (omega arith))))
+        | inl before ↦ later.returned k (w.back all k before)
+        | inr same ↦ subst (λ n. has next.returned n ≡ true) (sym same) (is-back i mid next b)
       ];
       lawful = l;
     }

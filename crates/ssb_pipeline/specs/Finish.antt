@@ -1,18 +1,11 @@
 -- What finishing gives: the groups over sections, one after the other.
--- Source: own.
-use Rattle.std.specs.Prelude.{◌≡◌, ℕ, ◌≤◌, ◌+◌, ◌++◌, List, length}
-use Rattle.ssb_job.specs.Kept.{AreOneJob, JobShape, fact_rows}
+-- For the contracts inside this crate.
+use Rattle.std.specs.Prelude.{◌≡◌, ℕ, ◌+◌, ◌++◌, List, length}
+use Rattle.ssb_job.specs.Kept.{fact_rows}
 use Rattle.ssb_groups.specs.Rows.{SeenRow}
 use Rattle.ssb_groups.specs.Stands.{GroupMap, Stands}
-use Rattle.ssb_pipeline.specs.Joined.{rows_in, seen_in}
 use Rattle.ssb_pipeline.specs.Morsels.{morsel_count, section}
 use Rattle.ssb_pipeline.specs.Pass.{PartsState}
-
--- groups of this job over these of its morsels: they stand for the kept combinations there, and count no more rows than lie there
-pub record AreOver (j : JobShape) (size : ℕ) (morsels : List ℕ) (g : GroupMap) : Type 0 where
-  pub job : AreOneJob g.job j
-  pub stands : Stands g (seen_in j size morsels)
-  pub few : g.counted ≤ length (rows_in j size morsels)
 
 -- r is g and h merged: it stands for the rows of both
 pub record IsMerged (g h r : GroupMap) : Type 0 where

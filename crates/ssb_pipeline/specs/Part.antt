@@ -83,16 +83,6 @@ pub record Returns (i : ℕ) (p q : PartState) : Type 0 where
 abbrev pub GivesUp : PartState → PartState → Type 0
 GivesUp p q = q ≡ record p { gave_up = true }
 
--- a later state of the same part: nothing that was handed out or came back is lost, and a ticket that was given up stays so
-pub record Grows (p q : PartState) : Type 0 where
-  pub job : q.job ≡ p.job
-  pub size : q.size ≡ p.size
-  pub section : q.section ≡ p.section
-  pub sections : q.sections ≡ p.sections
-  pub gave_up : q.gave_up ≡ p.gave_up
-  pub handed : (i : ℕ) → has p.handed i ≡ true → has q.handed i ≡ true
-  pub returned : (i : ℕ) → has p.returned i ≡ true → has q.returned i ≡ true
-
 -- x is the same part as y, at that time or later: no number that was handed out or came back is lost, and a ticket that was given up stays so
 pub record Follows (x y : PartState) : Type 0 where
   pub job : x.job ≡ y.job
@@ -102,6 +92,11 @@ pub record Follows (x y : PartState) : Type 0 where
   pub handed : (i : ℕ) → has y.handed i ≡ true → has x.handed i ≡ true
   pub returned : (i : ℕ) → has y.returned i ≡ true → has x.returned i ≡ true
   pub gave_up : y.gave_up ≡ true → x.gave_up ≡ true
+
+-- q is a later state of p, and no ticket was given up meanwhile
+pub record Grows (p q : PartState) : Type 0 where
+  pub follows : Follows q p
+  pub gave_up : q.gave_up ≡ p.gave_up
 
 -- the numbers that were handed out between two states
 abbrev pub handed_between : PartState → PartState → List ℕ

@@ -1,6 +1,6 @@
 -- What contracts see of tickets and partial groups.
 -- Source: morsels are those of Leis and others, Morsel-Driven Parallelism, SIGMOD 2014; that work is handed out by tickets is this project's own.
-use Rattle.std.specs.Prelude.{◌≡◌, ℕ, ◌≤◌, ◌∷◌, [], length}
+use Rattle.std.specs.Prelude.{◌≡◌, ℕ, ◌≤◌, List, ◌∷◌, [], length}
 use Rattle.ssb_job.specs.Kept.{AreOneJob, JobShape}
 use Rattle.ssb_groups.specs.Stands.{GroupMap, Stands}
 use Rattle.ssb_pipeline.specs.Joined.{rows_in, seen_in}
@@ -16,9 +16,13 @@ pub record PartialState : Type 0 where
   pub ticket : TicketState
   pub groups : GroupMap
 
--- the groups are of the ticket's job, and stand for the kept combinations of its morsel
+-- groups of this job over these of its morsels: they stand for the kept combinations there, and count no more rows than lie there
+pub record AreOver (j : JobShape) (size : ℕ) (morsels : List ℕ) (g : GroupMap) : Type 0 where
+  pub job : AreOneJob g.job j
+  pub stands : Stands g (seen_in j size morsels)
+  pub few : g.counted ≤ length (rows_in j size morsels)
+
+-- the groups are of the ticket's job, over its morsel
 pub record IsOfTicket (p : PartialState) : Type 0 where
-  pub job : AreOneJob p.groups.job p.ticket.job
+  pub over : AreOver p.ticket.job p.ticket.size (p.ticket.morsel ∷ []) p.groups
   pub width : p.groups.width ≡ length p.ticket.job.query.aggregates
-  pub stands : Stands p.groups (seen_in p.ticket.job p.ticket.size (p.ticket.morsel ∷ []))
-  pub few : p.groups.counted ≤ length (rows_in p.ticket.job p.ticket.size (p.ticket.morsel ∷ []))

@@ -31,11 +31,15 @@ abbrev pub GetsTicket : Option TicketState → Knows → Knows → Type 0
 GetsTicket None v w = (w.mine ≡ v.mine) × Follows w.seen v.seen × IsExhausted w
 GetsTicket (Some t) v w = (w.mine ≡ v.mine ++ t.morsel ∷ []) × Follows w.seen v.seen × (has w.seen.handed t.morsel ≡ true) × AreOneJob t.job w.seen.job × (t.size ≡ w.seen.size)
 
--- what a part is after a partial was brought: the morsel came back, perhaps before, or its ticket is given up; nothing else was handed out
+-- the morsel came back, perhaps before, or a ticket was given up
+abbrev pub IsSettled : ℕ → PartState → Type 0
+IsSettled i p = (p.gave_up ≡ true) ⊎ (has p.returned i ≡ true)
+
+-- what a part is after a partial was brought: its morsel is settled, and nothing else was handed out
 pub record IsBrought (i : ℕ) (p q : PartState) : Type 0 where
   pub handed : q.handed ≡ p.handed
   pub follows : Follows q p
-  pub back : (q.gave_up ≡ true) ⊎ (has q.returned i ≡ true)
+  pub back : IsSettled i q
 
 -- what a part is after it took a partial of a number that it handed out, or noted that a ticket is given up
 abbrev pub TakesBack : Result PartialState TicketState → PartState → PartState → Type 0
@@ -46,7 +50,7 @@ TakesBack (Err t) p q = GivesUp p q
 pub record Brings (i : ℕ) (v w : Knows) : Type 0 where
   pub mine : w.mine ≡ v.mine
   pub follows : Follows w.seen v.seen
-  pub back : (w.seen.gave_up ≡ true) ⊎ (has w.seen.returned i ≡ true)
+  pub back : IsSettled i w.seen
 
 -- after the work: a pass of the parts that holds none; what was handed out to it came back, and each section is exhausted, or a ticket was given up there
 pub record IsWorked (parts : PartsState) (p q : PassState) : Type 0 where

@@ -4,9 +4,10 @@ ghost use Rattle.std.specs.Prelude.{◌≡◌, ◌<◌, ◌+◌, ◌^◌, ℕ, t
 ghost use Rattle.ssb_job.specs.Kept.{AreOneJob, kept};
 ghost use Rattle.ssb_groups.specs.Seen.{seen};
 ghost use Rattle.ssb_groups.specs.Stands.{Stands};
-ghost use Rattle.ssb_pipeline.specs.Finish.{AreOver, IsMerged, section_of};
+ghost use Rattle.ssb_pipeline.specs.Finish.{IsMerged, section_of};
 ghost use Rattle.ssb_pipeline.specs.Part.{IsLawful, ours};
 ghost use Rattle.ssb_pipeline.specs.Pass.{HoldsNone, IsPassOfParts, known};
+ghost use Rattle.ssb_pipeline.specs.State.{AreOver};
 ghost use Rattle.ssb_pipeline.specs.Work.{OnlyIn};
 
 use crate::part::Part;

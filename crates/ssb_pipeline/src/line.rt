@@ -23,11 +23,10 @@ impl Model for Knowledge {
 
     ghost Value = { Knows };
 
-    ghost use Rattle.ssb_bind.specs.contracts.condition.BoundCondition as condition;
-    ghost use Rattle.ssb_bind.specs.contracts.expr.BoundExpr as expr;
+    ghost use Rattle.ssb_pipeline.specs.contracts.part.Part as part_type;
     ghost use Rattle.std.specs.Coded.{codes};
 
-    ghost coded = { Prim.hlevel (codes, condition.the_row.coded, expr.the_row.coded) };
+    ghost coded = { Prim.hlevel (codes, part_type.the_row.coded) };
 
     ghost view = { λ k. fresh };
 }

@@ -44,11 +44,11 @@ impl Model for Part {
 
     ghost Value = { PartState };
 
-    ghost use Rattle.ssb_bind.specs.contracts.condition.BoundCondition as condition;
-    ghost use Rattle.ssb_bind.specs.contracts.expr.BoundExpr as expr;
+    ghost use Rattle.ssb_job.specs.contracts.job.Job as job_type;
+    ghost use Rattle.ssb_groups.specs.contracts.groups.Groups as groups_type;
     ghost use Rattle.std.specs.Coded.{codes};
 
-    ghost coded = { Prim.hlevel (codes, condition.the_row.coded, expr.the_row.coded) };
+    ghost coded = { Prim.hlevel (codes, job_type.the_row.coded, groups_type.the_row.coded) };
 
     ghost view = { λ p. record { job = arc_value p.job; size = p.size; section = p.section; sections = p.sections; handed = range_with_len p.first p.next; returned = marked p.first p.marks.items; gave_up = p.gave_up; groups = p.groups } };
 

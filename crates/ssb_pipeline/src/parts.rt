@@ -35,11 +35,10 @@ impl Model for Parts {
 
     ghost Value = { PartsState };
 
-    ghost use Rattle.ssb_bind.specs.contracts.condition.BoundCondition as condition;
-    ghost use Rattle.ssb_bind.specs.contracts.expr.BoundExpr as expr;
+    ghost use Rattle.ssb_job.specs.contracts.job.Job as job_type;
     ghost use Rattle.std.specs.Coded.{codes};
 
-    ghost coded = { Prim.hlevel (codes, condition.the_row.coded, expr.the_row.coded) };
+    ghost coded = { Prim.hlevel (codes, job_type.the_row.coded) };
 
     ghost view = { λ p. record { queues = map queue_name p.queues.items; job = arc_value p.job; size = p.size } };
 
@@ -58,11 +57,10 @@ impl Model for PartsPass {
 
     ghost Value = { PassState };
 
-    ghost use Rattle.ssb_bind.specs.contracts.condition.BoundCondition as condition;
-    ghost use Rattle.ssb_bind.specs.contracts.expr.BoundExpr as expr;
+    ghost use Rattle.ssb_pipeline.specs.contracts.line.Knowledge as knowledge_type;
     ghost use Rattle.std.specs.Coded.{codes};
 
-    ghost coded = { Prim.hlevel (codes, condition.the_row.coded, expr.the_row.coded) };
+    ghost coded = { Prim.hlevel (codes, knowledge_type.the_row.coded) };
 
     ghost view = { λ p. record { queues = map pass_name p.passes.items; views = map pass_view p.passes.items } };
 

@@ -20,11 +20,10 @@ impl Model for Ticket {
 
     ghost Value = { TicketState };
 
-    ghost use Rattle.ssb_bind.specs.contracts.condition.BoundCondition as condition;
-    ghost use Rattle.ssb_bind.specs.contracts.expr.BoundExpr as expr;
+    ghost use Rattle.ssb_job.specs.contracts.job.Job as job_type;
     ghost use Rattle.std.specs.Coded.{codes};
 
-    ghost coded = { Prim.hlevel (codes, condition.the_row.coded, expr.the_row.coded) };
+    ghost coded = { Prim.hlevel (codes, job_type.the_row.coded) };
 
     ghost view = { λ t. record { job = t.job.value; size = t.size; morsel = t.morsel } };
 }

@@ -11,7 +11,7 @@ pub returns-clause-stands : goal.returns-clause-stands
 returns-clause-stands c =
     let j = arc_value c.args.job.now in
     let begins = subst (λ (x : JobShape). IsOpening x c.args.morsel_size 0 1 c.in_ok-part.part) c.in_ok-try_clone.ensures c.in_ok-part.ensures.opening in
-    let fact = subst (λ (x : JobShape). x.query.fact < length x.query.from) c.deref.ensures c.query-query.ensures.fact in
+    let named = subst (λ (x : JobShape). x.query.fact < length x.query.from) c.deref.ensures c.query-query.ensures.fact in
     let w = c.in_ok-work_off.ensures in
     subst (λ (g : GroupMap). Stands g (seen_rows j)) (sym c.into_groups.ensures.groups)
-    (worked-off c.morsels_in_sections.ensures.all c.rows_in_morsels.ensures.all c.core_runs.ensures.whole j c.args.morsel_size c.requires c.in_ok-part.part c.work_off.new.self begins w.grows w.lawful w.whole fact)
+    (worked-off c.every_run.ensures.all j c.args.morsel_size c.in_ok-part.part c.work_off.new.self c.requires named begins w.grows w.lawful w.whole)

@@ -2,31 +2,24 @@ use Rattle.std.proofs.Common.{◌≡◌, ◌<◌, ap, ◌∙◌, sym, subst, len
 use Rattle.std.proofs.lemmas.List.{length-map}
 use Rattle.ssb_pipeline.specs.Rule.{Knows}
 use Rattle.ssb_pipeline.specs.Pass.{queue_name, pass_name, known, IsAtRest}
-use Rattle.ssb_pipeline.proofs.Passes.{image_at, each_at, in_image, known_at, unchanged, twin_step}
+use Rattle.ssb_pipeline.proofs.Passes.{beside, image_at, each_at, known_at, unchanged, twin_step}
 use Rattle.ssb_pipeline.proofs.parts.Parts.another.Goals as goal
 
 pub another_one-requires-clause-queue : goal.another_one-requires-clause-queue
 another_one-requires-clause-queue c =
-    let i = c.loop-section.invariant in
-    let s = c.loop-section.section in
-    let queues = ap (λ p. p.queues) c.self.view_is in
-    let names = ap (λ p. p.queues) i.same ∙ c.requires.pass.queues in
-    let in_queues : s < length c.self.inside.queues.items = (let h = c.loop-section-test.true in let k = c.len-section-end.ensures in omega arith) in
-    let in_parts = subst (λ l. s < l) (sym (length-map c.self.inside.queues.items queue_name) ∙ ap length queues) in_queues in
-    let in_passes = in_image pass_name c.loop-section.pass-inside.passes.items _ s names in_parts in
-    (image_at pass_name queue_name _ _ _ _ _ (names ∙ sym queues) in_passes in_queues c.index_mut.ensures.value c.index.ensures, each_at IsAtRest _ _ _ i.rest in_passes c.index_mut.ensures.value)
+    let names = ap (λ p. p.queues) c.loop-section.invariant.same ∙ c.requires.pass.queues ∙ sym (ap (λ p. p.queues) c.self.view_is) in
+    let in_queues : c.loop-section.section < length c.self.inside.queues.items = (let h = c.loop-section-test.true in let k = c.len-section-end.ensures in omega arith) in
+    let in_passes = beside pass_name queue_name c.loop-section.pass-inside.passes.items c.self.inside.queues.items c.loop-section.section names in_queues in
+    (image_at pass_name queue_name _ _ _ _ _ names in_passes in_queues c.index_mut.ensures.value c.index.ensures, each_at IsAtRest _ _ _ c.loop-section.invariant.rest in_passes c.index_mut.ensures.value)
 
 pub another_one-requires-clause-opened : goal.another_one-requires-clause-opened
 another_one-requires-clause-opened c =
-    let i = c.loop-section.invariant in
+    let names = ap (λ p. p.queues) c.loop-section.invariant.same ∙ c.requires.pass.queues ∙ sym (ap (λ p. p.queues) c.self.view_is) in
+    let in_queues : c.loop-section.section < length c.self.inside.queues.items = (let h = c.loop-section-test.true in let k = c.len-section-end.ensures in omega arith) in
+    let in_passes = beside pass_name queue_name c.loop-section.pass-inside.passes.items c.self.inside.queues.items c.loop-section.section names in_queues in
     let s = c.loop-section.section in
-    let queues = ap (λ p. p.queues) c.self.view_is in
-    let names = ap (λ p. p.queues) i.same ∙ c.requires.pass.queues in
-    let in_queues : s < length c.self.inside.queues.items = (let h = c.loop-section-test.true in let k = c.len-section-end.ensures in omega arith) in
-    let in_parts = subst (λ l. s < l) (sym (length-map c.self.inside.queues.items queue_name) ∙ ap length queues) in_queues in
-    let in_passes = in_image pass_name c.loop-section.pass-inside.passes.items _ s names in_parts in
-    let in_views = subst (λ l. s < l) (sym c.requires.pass.count) in_parts in
-    let is = ap (λ p. known p s) (sym i.same) ∙ known_at c.loop-section.pass-inside.passes.items s c.index_mut.result.now in_passes c.index_mut.ensures.value in
+    let in_views = subst (λ l. s < l) (sym (length-map c.self.inside.queues.items queue_name) ∙ ap (λ p. length p.queues) c.self.view_is ∙ sym c.requires.pass.count) in_queues in
+    let is = ap (λ p. known p s) (sym c.loop-section.invariant.same) ∙ known_at c.loop-section.pass-inside.passes.items s c.index_mut.result.now in_passes c.index_mut.ensures.value in
     subst (λ (v : Knows). (v.opened ≡ true) × (v.holds ≡ false)) is ((c.requires.pass.each s in_views).opened, c.requires.none s in_views)
 
 pub returns-in_err-push-clause-same : goal.returns-in_err-push-clause-same
@@ -35,14 +28,10 @@ returns-in_err-push-clause-same c =
 
 pub loop-section-preserved : goal.loop-section-preserved
 loop-section-preserved c =
-    let i = c.loop-section.invariant in
-    let s = c.loop-section.section in
-    let queues = ap (λ p. p.queues) c.self.view_is in
-    let names = ap (λ p. p.queues) i.same ∙ c.requires.pass.queues in
-    let in_queues : s < length c.self.inside.queues.items = (let h = c.loop-section-test.true in let k = c.len-section-end.ensures in omega arith) in
-    let in_parts = subst (λ l. s < l) (sym (length-map c.self.inside.queues.items queue_name) ∙ ap length queues) in_queues in
-    let in_passes = in_image pass_name c.loop-section.pass-inside.passes.items _ s names in_parts in
-    let named = image_at pass_name queue_name _ _ _ _ _ (names ∙ sym queues) in_passes in_queues c.index_mut.ensures.value c.index.ensures in
+    let names = ap (λ p. p.queues) c.loop-section.invariant.same ∙ c.requires.pass.queues ∙ sym (ap (λ p. p.queues) c.self.view_is) in
+    let in_queues : c.loop-section.section < length c.self.inside.queues.items = (let h = c.loop-section-test.true in let k = c.len-section-end.ensures in omega arith) in
+    let in_passes = beside pass_name queue_name c.loop-section.pass-inside.passes.items c.self.inside.queues.items c.loop-section.section names in_queues in
+    let named = image_at pass_name queue_name _ _ _ _ _ names in_passes in_queues c.index_mut.ensures.value c.index.ensures in
     let e = c.another_one.ensures in
-    rw c.in_ok-push.ensures.items (twin_step c.loop-section.pass-inside.passes.items c.loop-section.passes.items c.args.pass.now s c.index_mut.result.now c.another_one.new.pass c.another_one.result i in_passes c.index_mut.ensures.value
-    e.queue.0.0 e.queue.0.2 e.same (e.queue.1.0 ∙ sym named) e.queue.1.1 e.new)
+    rw c.in_ok-push.ensures.items (twin_step c.loop-section.pass-inside.passes.items c.loop-section.passes.items c.args.pass.now c.loop-section.section c.index_mut.result.now c.another_one.new.pass c.another_one.result c.loop-section.invariant in_passes
+    c.index_mut.ensures.value e.queue.0.0 e.queue.0.2 e.same (e.queue.1.0 ∙ sym named) e.queue.1.1 e.new)

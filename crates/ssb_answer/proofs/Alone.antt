@@ -1,5 +1,6 @@
 -- One part of all of a job's morsels, worked off.
 use Rattle.std.proofs.Common.{◌≡◌, ◌∙◌, ◌∷◌, [], ◌<◌, ℕ, zero, suc, List, length, map, sym, ap, subst, arith, false, true≢false}
+use Rattle.std.proofs.lemmas.List.{length-map}
 use Rattle.ssb_job.specs.Kept.{JobShape}
 use Rattle.ssb_groups.specs.Seen.{seen}
 use Rattle.ssb_groups.specs.Stands.{Stands}

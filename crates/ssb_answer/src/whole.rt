@@ -4,6 +4,8 @@ ghost use Rattle.std.specs.Prelude.{◌≡◌, ◌<◌, Err, IfErr, IfOk, length
 ghost use Rattle.std.specs.Arc.{arc_value};
 ghost use Rattle.ssb_load.specs.Catalog.{IsCatalog};
 ghost use Rattle.ssb_answer.specs.Asking.{Asked, AnswersText};
+ghost use Rattle.ssb_groups.specs.Stands.{Stands};
+ghost use Rattle.ssb_job.specs.Kept.{AreOneJob};
 ghost use Rattle.ssb_job.specs.Loaded.{AreLoaded};
 ghost use Rattle.ssb_load.specs.Files.{AreLawful};
 ghost use Rattle.ssb_answer.specs.Reply.{Asks, seen_rows};
@@ -20,6 +22,7 @@ use crate::sink::Sink;
 use crate::write::write_answer;
 use ssb_bind::{Query, bind};
 use ssb_cells::Table;
+use ssb_groups::Groups;
 use ssb_job::Job;
 use ssb_load::{Catalog, PIECE_SIZE, Source, load_all};
 use ssb_pipeline::Gate;
@@ -37,6 +40,15 @@ pub(crate) fn query_of(alloc: Global, catalog: &Catalog, text: &str) -> Result<Q
     Ok(query)
 }
 
+// The rows of a job's answer, of the groups over all that its query keeps.
+fn answer_of_groups(alloc: Global, job: &Job, groups: Groups) -> Result<Answer, AnswerFault>
+    requires stands { Stands groups (seen_rows job.now) }
+    requires job { AreOneJob groups.job job.now }
+    ensures { Answers job.now.query (seen_rows job.now) result }
+{
+    rows(alloc, groups, job.query())
+}
+
 /// What a job's query answers: its rows are grouped in the caller's thread, in morsels of
 /// `morsel_size` rows of the fact table, from 1 on. Their size changes no answer.
 ///
@@ -51,10 +63,10 @@ pub fn answer_job(
     requires { 0 < morsel_size }
     ensures { Answers (arc_value job.now).query (seen_rows (arc_value job.now)) result }
 {
-    let Ok(groups) = group_alone(alloc, job, morsel_size) else {
-        return Err(AnswerFault::Memory);
-    };
-    rows(alloc, groups, job.query())
+    match group_alone(alloc, job, morsel_size) {
+        Ok(groups) => answer_of_groups(alloc, job, groups),
+        Err(_) => Err(AnswerFault::Memory),
+    }
 }
 
 /// What a job's query answers: its rows are grouped by workers in threads of their own, which may wait
@@ -72,10 +84,10 @@ pub fn answer_shared<R: Threads + Wait + Sync, G: Gate + Sync>(
 ) -> Result<Answer, AnswerFault>
     ensures { Answers (arc_value job.now).query (seen_rows (arc_value job.now)) result }
 {
-    let Ok(groups) = group_shared(rt, alloc, job, settings, gate) else {
-        return Err(AnswerFault::Memory);
-    };
-    rows(alloc, groups, job.query())
+    match group_shared(rt, alloc, job, settings, gate) {
+        Ok(groups) => answer_of_groups(alloc, job, groups),
+        Err(_) => Err(AnswerFault::Memory),
+    }
 }
 
 // The job of a query over these tables, shared.

@@ -1,8 +1,7 @@
 -- A part that takes a partial back, or notes that a ticket is given up.
-use Rattle.std.proofs.Common.{◌≡◌, ◌++◌, ◌∷◌, [], ℕ, true, false, nat_eq, Result, Ok, Err, inl, inr, sym, ap, ◌∙◌, subst, arith}
+use Rattle.std.proofs.Common.{◌≡◌, ◌++◌, ℕ, true, false, Result, Ok, Err, inl, inr, sym, ap, ◌∙◌, subst}
 use Rattle.std.specs.Prelude.{IfOk}
 use Rattle.std.proofs.lemmas.List.{append-nil}
-use Rattle.std.proofs.lemmas.List.Sorted.{list_any-IsPermutation}
 use Rattle.ssb_job.specs.Kept.{AreOneJob, JobShape}
 use Rattle.ssb_pipeline.specs.Part.{Follows, PartState, Returns, handed_between, has}
 use Rattle.ssb_pipeline.specs.Rule.{Knows, knows}
@@ -10,8 +9,6 @@ use Rattle.ssb_pipeline.specs.State.{PartialState, TicketState}
 use Rattle.ssb_pipeline.specs.Work.{Brings, IsBrought, TakesBack}
 use Rattle.ssb_pipeline.proofs.Holds.{same-none}
 use Rattle.ssb_pipeline.proofs.Later.{back-follows, follows_after, give-up-follows, is-back}
-use Rattle.ssb_pipeline.proofs.RangeFacts.{range-has}
-use Rattle.ssb_pipeline.proofs.SetFacts.{has-left, has-right}
 
 pub back-brought : (i : ℕ) (x q : PartState) → Returns i x q → IsBrought i x q
 back-brought i x q r = record { handed = ap (λ (y : PartState). y.handed) r.after; follows = back-follows i x q r; back = inr (is-back i x q r) }

@@ -64,8 +64,7 @@ module _ (E S : RattleType) (e : Crosses E) (s : Crosses S) where
   expr_parts =
       let inner = as_row_crosses (row_field (Boxed.the_row E)) (boxed E e) in
       let steps = as_row_crosses (row_field (Items.the_row S)) (items S s) in
-      let factors = as_row_crosses (row_field (Items.the_row E)) (items E e) in
-      (
+      let factors = as_row_crosses (row_field (Items.the_row E)) (items E e) in (
         ((search (as_row_send, crosses, sendable) depth 20, search (as_row_sync, crosses, sendable) depth 20), tt),
         (((search (as_row_send, crosses, sendable) depth 20, search (as_row_sync, crosses, sendable) depth 20), tt), ((inner, tt), ((inner, tt), ((inner, (steps, tt)), ((factors, tt), tt))))),
       )
@@ -91,8 +90,7 @@ module _ (C : RattleType) (c : Crosses C) where
       let several = as_row_crosses (row_field (Items.the_row C)) (items C c) in
       let inner = as_row_crosses (row_field (Boxed.the_row C)) (boxed C c) in
       let literals = items Literal.the_row literal in
-      let o = operand in
-      (
+      let o = operand in (
         (several, tt),
         (
           (several, tt),

@@ -3,7 +3,7 @@ use Rattle.std.proofs.Common.{◌≡◌, ◌<◌, ◌++◌, ◌∷◌, [], ℕ, 
 use Rattle.std.specs.List.{filter}
 use Rattle.std.proofs.lemmas.List.{append-nil, set-set}
 use Rattle.std.proofs.lemmas.Grind.{get_or-set_at}
-use Rattle.ssb_pipeline.specs.Part.{Follows, Hands, HandsOut, PartState, handed_between, has, ours}
+use Rattle.ssb_pipeline.specs.Part.{Follows, HandsOut, PartState, handed_between, has, ours}
 use Rattle.ssb_pipeline.specs.Pass.{HoldsNone, PassState, known, knowing}
 use Rattle.ssb_pipeline.specs.Rule.{Knows, fresh, knows, putter, taker}
 use Rattle.ssb_pipeline.specs.State.{TicketState}

@@ -1,5 +1,5 @@
 -- A later state of the same part.
-use Rattle.std.proofs.Common.{◌≡◌, ◌∙◌, ◌++◌, ◌∷◌, [], ℕ, Bool, true, List, nat_eq, refl, sym, ap, subst, arith}
+use Rattle.std.proofs.Common.{◌≡◌, ◌∙◌, ◌++◌, ◌∷◌, [], ℕ, Bool, true, List, nat_eq, refl, sym, subst, arith}
 use Rattle.std.proofs.lemmas.List.Sorted.{list_any-IsPermutation}
 use Rattle.ssb_groups.specs.Stands.{GroupMap}
 use Rattle.ssb_pipeline.specs.Part.{Follows, GivesUp, Grows, Hands, IsLawful, PartState, Returns, has, ours}

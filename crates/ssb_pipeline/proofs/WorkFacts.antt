@@ -1,5 +1,5 @@
 -- A part that is worked off: what it hands out comes back before the next.
-use Rattle.std.proofs.Common.{◌≡◌, ◌∙◌, ◌++◌, ◌∷◌, [], ◌<◌, ◌-◌, ℕ, true, false, true≢false, None, inl, inr, length, refl, sym, ap, subst, arith, length-append}
+use Rattle.std.proofs.Common.{◌≡◌, ◌∙◌, ◌∷◌, [], ◌<◌, ◌-◌, ℕ, true, false, true≢false, None, inl, inr, length, sym, ap, subst, arith, length-append}
 use Rattle.std.proofs.lemmas.Bool.{false_from_ne_true}
 use Rattle.ssb_pipeline.specs.Part.{Grows, Hands, HandsOut, IsBack, IsLawful, IsWhole, PartState, Returns, has, ours}
 use Rattle.ssb_pipeline.proofs.Later.{back-follows, follows_after, grows-more, grows_self, hand-follows, is-back}

@@ -22,6 +22,10 @@ pub record IsRound (v w : Knows) : Type 0 where
 abbrev pub IsExhausted : Knows → Type 0
 IsExhausted w = (w.seen.gave_up ≡ true) ⊎ ((i : ℕ) → has (ours w.seen) i ≡ true → has w.seen.handed i ≡ true)
 
+-- one number more was handed out to it
+abbrev pub IsOneMore : Knows → Knows → Type 0
+IsOneMore v w = (i : ℕ) × (w.mine ≡ v.mine ++ i ∷ [])
+
 -- only what it knows of this section has changed
 abbrev pub OnlyIn : ℕ → PassState → PassState → Type 0
 OnlyIn s p q = q ≡ knowing p s (known q s)

@@ -38,6 +38,7 @@ pub struct Part {
 
 impl Model for Part {
     ghost use Rattle.std.specs.Arc.{arc_value};
+    ghost use Rattle.std.specs.Coded.{codes};
     ghost use Rattle.std.specs.List.{range_with_len};
     ghost use Rattle.ssb_pipeline.specs.Marks.{IsKept, marked};
     ghost use Rattle.ssb_pipeline.specs.Part.{PartState};
@@ -46,7 +47,6 @@ impl Model for Part {
 
     ghost use Rattle.ssb_job.specs.contracts.job.Job as job_type;
     ghost use Rattle.ssb_groups.specs.contracts.groups.Groups as groups_type;
-    ghost use Rattle.std.specs.Coded.{codes};
 
     ghost coded = { Prim.hlevel (codes, job_type.the_row.coded, groups_type.the_row.coded) };
 

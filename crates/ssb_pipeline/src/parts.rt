@@ -67,13 +67,12 @@ impl Model for PartsPass {
     ghost invariant = { λ p. All IsAtRest p.passes.items };
 }
 
-/// A part that was taken, and its section.
+/// A part that was taken, and its section. Contracts see both; [`Held::part`] lends the part.
 #[derive(Drop)]
 pub struct Held {
-    /// The number of its section, from 0.
-    pub section: u32,
-    /// The part.
-    pub part: Part,
+    // The number of its section, from 0.
+    pub(crate) section: u32,
+    pub(crate) part: Part,
 }
 
 impl Held {

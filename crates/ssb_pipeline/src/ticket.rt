@@ -16,12 +16,12 @@ pub struct Ticket {
 }
 
 impl Model for Ticket {
+    ghost use Rattle.std.specs.Coded.{codes};
     ghost use Rattle.ssb_pipeline.specs.State.{TicketState};
 
     ghost Value = { TicketState };
 
     ghost use Rattle.ssb_job.specs.contracts.job.Job as job_type;
-    ghost use Rattle.std.specs.Coded.{codes};
 
     ghost coded = { Prim.hlevel (codes, job_type.the_row.coded) };
 

@@ -1,10 +1,10 @@
 // A worker: it goes round the sections, and does morsel after morsel.
 
-ghost use Rattle.std.specs.Prelude.{◌≡◌, ◌<◌, ℕ, true, length, slice_index_or, All, IfOk, IsFalse};
+ghost use Rattle.std.specs.Prelude.{◌≡◌, ◌<◌, ℕ, true, length, slice_index_or, All, IfOk, IsFalse, IsTrue};
 ghost use Rattle.ssb_job.specs.Kept.{AreOneJob};
 ghost use Rattle.ssb_pipeline.specs.Part.{has};
 ghost use Rattle.ssb_pipeline.specs.Pass.{HoldsNone, IsPassOfParts, PassState, known};
-ghost use Rattle.ssb_pipeline.specs.Work.{Brings, GetsTicket, IsExhausted, IsRound, IsWorked, OnlyIn, TakesBack};
+ghost use Rattle.ssb_pipeline.specs.Work.{Brings, GetsTicket, IsExhausted, IsOneMore, IsRound, IsWorked, OnlyIn, TakesBack};
 
 use crate::fault::ReturnFault;
 use crate::gate::Gate;
@@ -96,6 +96,7 @@ fn turn<R: Wait, G: Gate>(
     ensures pass { IsPassOfParts parts.now pass.new }
     ensures none { HoldsNone pass.new }
     ensures round { IsRound (known pass.old section) (known pass.new section) }
+    ensures more { IsTrue result → IsOneMore (known pass.old section) (known pass.new section) }
     ensures ended { IsFalse result → IsExhausted (known pass.new section) }
 {
     let Some(ticket) = get_ticket(rt, parts, section, pass, gate) else {

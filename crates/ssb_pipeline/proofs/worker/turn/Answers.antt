@@ -1,4 +1,4 @@
-use Rattle.std.proofs.Common.{◌<◌, sym, subst}
+use Rattle.std.proofs.Common.{◌∙◌, ◌<◌, sym, subst}
 use Rattle.ssb_pipeline.specs.Pass.{known}
 use Rattle.ssb_pipeline.specs.Work.{Brings}
 use Rattle.ssb_pipeline.proofs.Rounds.{only_more, round-of}
@@ -14,3 +14,6 @@ returns-clause-round g c =
     let m = known c.get_ticket.new.pass c.args.section in
     let w = known c.bring_back.new.pass c.args.section in
     round-of c.in-Some.ticket (known c.args.pass.now c.args.section) m w c.in-Some.ensures.gets (subst (λ n. Brings n m w) c.morsel-morsel.ensures c.bring_back.ensures.brings)
+
+pub returns-clause-more : goal.returns-clause-more
+returns-clause-more g c = λ _. (c.in-Some.ticket.morsel, c.bring_back.ensures.brings.mine ∙ c.in-Some.ensures.gets.0)

@@ -66,6 +66,5 @@ pub returns-in-Err : goal.returns-in-Err
 returns-in-Err c =
     let known : has c.args.self.now.handed c.args.partial.ticket.morsel ≡ true = search rules in
     let size : c.args.partial.ticket.size ≡ c.args.self.now.size = search rules in
-    let p = c.self.inside in
     let clear = mark c.self.inside c.self.invariant c.args.partial.ticket.morsel c.morsel-morsel.result c.morsel-morsel.ensures.morsel (rw (← c.self.view_is) at known) c.index.result.now false c.index.ensures c.if-index.false in
-    ((size, known), rw (← c.self.view_is) (marked-lacks p.first p.marks.items (c.morsel-morsel.result - p.first) c.args.partial.ticket.morsel (at c.self.inside c.self.invariant c.args.partial.ticket.morsel c.morsel-morsel.result c.morsel-morsel.ensures.morsel (rw (← c.self.view_is) at known)).is clear), c.in-Err.ensures.partial, search rules)
+    ((size, known), rw (← c.self.view_is) (marked-lacks c.self.inside.first c.self.inside.marks.items (c.morsel-morsel.result - c.self.inside.first) c.args.partial.ticket.morsel (at c.self.inside c.self.invariant c.args.partial.ticket.morsel c.morsel-morsel.result c.morsel-morsel.ensures.morsel (rw (← c.self.view_is) at known)).is clear), c.in-Err.ensures.partial, search rules)

@@ -1,9 +1,13 @@
 pub mod Cell
+pub mod Codes
 pub mod Compare
+pub mod Flags
 pub mod Keywords
 pub mod Names
+pub mod Narrow
+pub mod NarrowCodes
 pub mod Order
-pub mod Packed
+pub mod Spelling
 pub mod Stored
 pub mod Tables
 pub mod Truth

@@ -1,22 +1,37 @@
 // A column: its type, and its values in order.
 
-ghost use Rattle.std.specs.Prelude.{◌≡◌, ◌<◌, ℕ, [], ◌∷◌, ◌++◌, length, OnOk, OnErr, IfOk, slice_get, Some, ◌==◌};
-ghost use Rattle.ssb_cells.specs.Cell.{Filled, null};
+ghost use Rattle.std.specs.Prelude.{◌≡◌, ◌<◌, ◌↔◌, ℕ, List, [], ◌∷◌, ◌++◌, length, Contains, OnOk, OnErr, IfOk, slice_get, None, Some, ◌==◌};
+ghost use Rattle.std.specs.Option.{IsSome};
+ghost use Rattle.ssb_cells.specs.Cell.{Cell, Filled, null, text};
+ghost use Rattle.ssb_cells.specs.Codes.{code_at, code_of, texts_of};
+ghost use Rattle.ssb_cells.specs.Stored.{HasRoom, kind_of, with_value};
 ghost use Rattle.ssb_cells.specs.Values.{cell_of, IsOfType};
+ghost use Rattle.ssb_cells.specs.declared.column.Stored.TheVariants as kept;
+ghost use Rattle.ssb_cells.specs.declared.value.ColType.TheVariants as kinds;
 
+use crate::nulls::Nulls;
+use crate::numbers::Numbers;
 use crate::texts::Texts;
 use crate::value::{ColType, Value};
 use std::alloc::{AllocError, Global};
 use std::marker::Model;
 
-/// A list of values of one type, some of them null, seen as its type and that list. Numbers and texts
-/// are packed: no value has memory of its own.
+// Values of one type. Where one is null, a 0 stands for it.
+#[derive(Drop)]
+pub(crate) enum Stored {
+    Int(Numbers),
+    Text(Texts),
+}
+
+/// A list of values of one type, some of them null, seen as its type and that list.
+///
+/// Numbers are kept in the least of 1, 2, 4 or 8 bytes that holds them all. Of texts each different one
+/// is kept once, and each row has its code, in 1, 2 or 4 bytes. Nulls take no memory until there is one,
+/// and then a bit for each row.
 #[derive(Drop)]
 pub struct Column {
-    kind: ColType,
-    nulls: Vec<bool>,
-    numbers: Vec<i64>,
-    texts: Texts,
+    nulls: Nulls,
+    stored: Stored,
 }
 
 impl Model for Column {
@@ -31,16 +46,41 @@ impl Model for Column {
     ghost invariant = { IsWhole };
 }
 
+// Adds what a value stores. An `Err` changes nothing.
+fn store(stored: &mut Stored, value: Value<'_>) -> Result<(), AllocError>
+    requires { HasRoom stored.old }
+    ensures ok { OnOk result (stored.new ≡ with_value stored.old value.entry) }
+    ensures err { OnErr result (stored.new ≡ stored.old) }
+{
+    match stored {
+        Stored::Int(numbers) => numbers.push(value.number()),
+        Stored::Text(texts) => texts.push(value),
+    }
+}
+
+// The texts of a text column.
+fn texts_in(stored: &Stored) -> &Texts
+    requires { kind_of stored.now ≡ kinds.Text }
+    ensures { stored.now ≡ kept.Text result.now }
+{
+    match stored {
+        Stored::Int(_) => unreachable!(),
+        Stored::Text(texts) => texts,
+    }
+}
+
 impl Column {
     /// A column with no value. An empty column takes no memory yet, so this never fails today.
     pub fn new(alloc: Global, kind: ColType) -> Result<Column, AllocError>
         ensures { IfOk result (λ c. c ≡ record { kind = kind; values = [] }) }
     {
+        let stored = match kind {
+            ColType::Int => Stored::Int(Numbers::new(alloc)),
+            ColType::Text => Stored::Text(Texts::new(alloc)),
+        };
         Ok(Column {
-            kind,
-            nulls: Vec::new(alloc),
-            numbers: Vec::new(alloc),
-            texts: Texts::new(alloc),
+            nulls: Nulls::new(alloc),
+            stored,
         })
     }
 
@@ -51,14 +91,14 @@ impl Column {
         ensures ok { OnOk result (self.new ≡ record self.old { values = self.old.values ++ cell_of value.entry ∷ [] }) }
         ensures err { OnErr result (self.new ≡ self.old) }
     {
-        let is_null = value.is_null();
-        self.nulls.try_reserve(1)?;
-        match self.kind {
-            ColType::Int => self.numbers.push(value.number())?,
-            ColType::Text => self.texts.push(value.text())?,
+        self.nulls.push(value.is_null())?;
+        match store(&mut self.stored, value) {
+            Ok(()) => Ok(()),
+            Err(refused) => {
+                self.nulls.pop();
+                Err(refused)
+            }
         }
-        self.nulls.push(is_null).unwrap();
-        Ok(())
     }
 
     /// The value of a row, counted from 0.
@@ -66,16 +106,56 @@ impl Column {
         requires { row < length self.now.values }
         ensures { slice_get self.now.values row ≡ Some (cell_of result) }
     {
-        let row = row as usize;
-        if self.nulls[row] {
+        if self.nulls.get(row) {
             return Value::Null;
         }
-        match self.kind {
-            ColType::Int => {
-                let number = self.numbers[row];
-                Value::Int(number)
-            }
-            ColType::Text => Value::Text(self.texts.get(row)),
+        match &self.stored {
+            Stored::Int(numbers) => Value::Int(numbers.get(row as usize)),
+            Stored::Text(texts) => Value::Text(texts.get(row)),
+        }
+    }
+
+    /// The code of a row, counted from 0, in a text column: its text's place among the column's different
+    /// texts, which stand in the order of their first rows. None exactly for a null. It takes no memory.
+    pub fn code(&self, row: u32) -> Option<u32>
+        requires kind { self.now.kind ≡ kinds.Text }
+        requires row { row < length self.now.values }
+        ensures code { result ≡ code_at self.now.values row }
+        ensures none { (result ≡ None) ↔ (slice_get self.now.values row ≡ Some null) }
+    {
+        let texts = texts_in(&self.stored);
+        if self.nulls.get(row) {
+            None
+        } else {
+            Some(texts.codes.get(row as usize))
+        }
+    }
+
+    /// The code of a text in a text column, None exactly where no row has it. It takes no memory.
+    pub fn find(&self, letters: &str) -> Option<u32>
+        requires kind { self.now.kind ≡ kinds.Text }
+        ensures code { result ≡ code_of self.now.values letters.now }
+        ensures found { IsSome result ↔ Contains self.now.values (text letters.now) }
+    {
+        texts_in(&self.stored).dictionary.find(letters)
+    }
+
+    /// The text of a code of this text column. It takes no memory.
+    pub fn spelt(&self, code: u32) -> &str
+        requires kind { self.now.kind ≡ kinds.Text }
+        requires code { code < length (texts_of self.now.values) }
+        ensures { slice_get (texts_of self.now.values) code ≡ Some result.now }
+    {
+        texts_in(&self.stored).dictionary.spelt(code)
+    }
+
+    /// The type of its values.
+    pub fn kind(&self) -> ColType
+        ensures { result ≡ self.now.kind }
+    {
+        match self.stored {
+            Stored::Int(_) => ColType::Int,
+            Stored::Text(_) => ColType::Text,
         }
     }
 
@@ -83,7 +163,7 @@ impl Column {
     pub fn len(&self) -> u32
         ensures { result ≡ length self.now.values }
     {
-        self.nulls.len() as u32
+        self.nulls.len()
     }
 
     /// Whether there is no value.
@@ -93,3 +173,8 @@ impl Column {
         self.len() == 0
     }
 }
+
+/// A law: in one column two codes are equal exactly where the texts are.
+pub fn codes_tell_texts()
+    ensures { (values : List Cell) (i j a b : ℕ) → code_at values i ≡ Some a → code_at values j ≡ Some b → (a ≡ b) ↔ (slice_get values i ≡ slice_get values j) }
+{}

@@ -1,7 +1,8 @@
 //! Values, columns and tables: what every other layer computes with.
 //!
 //! A column is its type and the list of its values; a table is its columns, all of one length. Both
-//! keep numbers and texts packed, and both are seen in contracts as those lists alone.
+//! are seen in contracts as those lists alone. A column keeps its numbers in as few bytes as hold them
+//! all, and of its texts each different one once: a row has the text's code.
 //!
 //! What a comparison says of two values, True, False or Unknown, and which of two comes first, stands
 //! here once for all conditions and orders. What a name of a table or column looks like, and which
@@ -9,9 +10,13 @@
 //! each reserved word is written.
 #![tactic(auto)]
 
+mod codes;
 pub mod column;
+mod dictionary;
 pub mod keyword;
 pub mod name;
+mod nulls;
+mod numbers;
 pub mod order;
 pub mod owned;
 pub mod table;
@@ -20,7 +25,7 @@ mod texts;
 pub mod truth;
 pub mod value;
 
-pub use column::Column;
+pub use column::{Column, codes_tell_texts};
 pub use keyword::{Keyword, keyword_of, spelling};
 pub use name::{Name, is_name, is_reserved, is_word_byte};
 pub use order::{compare, sort_cmp};

@@ -1,6 +1,6 @@
 // A table: columns of one length.
 
-ghost use Rattle.std.specs.Prelude.{◌≡◌, ◌<◌, length, vec_len, Some};
+ghost use Rattle.std.specs.Prelude.{◌≡◌, ◌<◌, length, slice_get, vec_len, Some};
 ghost use Rattle.ssb_cells.specs.Tables.{rows_in, AreLong, cell_at};
 ghost use Rattle.ssb_cells.specs.Values.{cell_of};
 
@@ -54,13 +54,21 @@ impl Table {
         first.len()
     }
 
+    /// A column, by its place from 0.
+    pub fn column(&self, at: usize) -> &Column
+        requires { at < length self.now }
+        ensures column { slice_get self.now at ≡ Some result.now }
+        ensures long { length result.now.values ≡ rows_in self.now }
+    {
+        &self.columns[at]
+    }
+
     /// The value of a column in a row.
     pub fn cell(&self, column: usize, row: u32) -> Value<'_>
         requires column { column < length self.now }
         requires row { row < rows_in self.now }
         ensures { cell_at self.now column row ≡ Some (cell_of result) }
     {
-        let found = &self.columns[column];
-        found.get(row)
+        self.column(column).get(row)
     }
 }

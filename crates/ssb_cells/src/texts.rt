@@ -1,78 +1,74 @@
-// Texts, one after the other in one buffer.
+// The texts of a column, as codes of a dictionary.
 
-ghost use Rattle.std.specs.Prelude.{◌≡◌, ◌<◌, ℕ, List, [], ◌∷◌, ◌++◌, length, OnOk, OnErr, slice_get, Some};
-ghost use Rattle.std.specs.Prelude.{get_or};
-ghost use Rattle.csv.specs.Records.{prev};
+ghost use Rattle.std.specs.Prelude.{◌≡◌, ◌<◌, ◌≤◌, [], ◌∷◌, ◌++◌, length, get_or, OnOk, OnErr};
+ghost use Rattle.ssb_cells.specs.Cell.{text};
+ghost use Rattle.ssb_cells.specs.Codes.{with_text};
+ghost use Rattle.ssb_cells.specs.Stored.{code_for};
+ghost use Rattle.ssb_cells.specs.Values.{cell_of};
 
+use crate::codes::Codes;
+use crate::dictionary::Dictionary;
+use crate::value::Value;
 use std::alloc::{AllocError, Global};
-use std::marker::Model;
 
-/// A list of texts.
+/// The code of each value, and the texts that have one. Where a value is null, a 0 stands for it.
 #[derive(Drop)]
-pub struct Texts {
-    bytes: Vec<u8>,
-    ends: Vec<usize>,
-}
-
-impl Model for Texts {
-    ghost use Rattle.std.specs.Prelude.{List, ℕ};
-
-    ghost Value = { List (List ℕ) };
-
-    ghost use Rattle.ssb_cells.specs.Packed.{texts_of, IsPacked};
-
-    ghost view = { texts_of };
-
-    ghost invariant = { IsPacked };
-}
-
-// Where the text at this place starts and ends.
-fn bounds(ends: &Vec<usize>, i: usize) -> (usize, usize)
-    requires { i < length ends.now.items }
-    ensures start { result.0 ≡ prev 0 ends.now.items i }
-    ensures end { result.1 ≡ get_or ends.now.items i 0 }
-{
-    let start = if i == 0 { 0 } else { ends[i - 1] };
-    (start, ends[i])
+pub(crate) struct Texts {
+    pub dictionary: Dictionary,
+    pub codes: Codes,
 }
 
 impl Texts {
-    /// No text.
-    pub fn new(alloc: Global) -> Texts
-        ensures { result ≡ [] }
+    // No text.
+    pub(crate) fn new(alloc: Global) -> Texts
+        ensures dictionary { result.dictionary ≡ [] }
+        ensures codes { result.codes ≡ [] }
     {
         Texts {
-            bytes: Vec::new(alloc),
-            ends: Vec::new(alloc),
+            dictionary: Dictionary::new(alloc),
+            codes: Codes::new(alloc),
         }
     }
 
-    /// How many texts there are.
-    pub fn len(&self) -> usize
-        ensures { result ≡ length self.now }
-    {
-        self.ends.len()
-    }
-
-    /// Adds a text. An `Err` changes nothing.
-    pub fn push(&mut self, text: &str) -> Result<(), AllocError>
-        ensures ok { OnOk result (self.new ≡ self.old ++ text.now ∷ []) }
+    // Adds a text that the dictionary lacks. Its code comes first, since it can be taken back.
+    fn push_new(&mut self, letters: &str) -> Result<(), AllocError>
+        requires { length self.old.dictionary < 4294967295 }
+        ensures dictionary { OnOk result (self.new.dictionary ≡ with_text self.old.dictionary (text letters.now)) }
+        ensures codes { OnOk result (self.new.codes ≡ self.old.codes ++ length self.old.dictionary ∷ []) }
         ensures err { OnErr result (self.new ≡ self.old) }
     {
-        self.ends.try_reserve(1)?;
-        self.bytes.extend_from_slice(text.as_bytes())?;
-        let end = self.bytes.len();
-        self.ends.push(end).unwrap();
-        Ok(())
+        self.codes.push(self.dictionary.len())?;
+        match self.dictionary.add(letters) {
+            Ok(()) => Ok(()),
+            Err(refused) => {
+                self.codes.pop();
+                Err(refused)
+            }
+        }
     }
 
-    /// The text at a place.
-    pub fn get(&self, i: usize) -> &str
-        requires { i < length self.now }
-        ensures { slice_get self.now i ≡ Some result.now }
+    /// Adds the code of a value, and its text where it is new. An `Err` changes nothing.
+    pub(crate) fn push(&mut self, value: Value<'_>) -> Result<(), AllocError>
+        requires { length self.old.dictionary < 4294967295 }
+        ensures dictionary { OnOk result (self.new.dictionary ≡ with_text self.old.dictionary (cell_of value.entry)) }
+        ensures codes { OnOk result (self.new.codes ≡ self.old.codes ++ code_for self.old.dictionary value.entry ∷ []) }
+        ensures err { OnErr result (self.new ≡ self.old) }
     {
-        let (start, end) = bounds(&self.ends, i);
-        let bytes = &self.bytes.as_slice()[start..end];
-        unsafe { str::from_utf8_unchecked(bytes) }
+        let Value::Text(letters) = value else {
+            return self.codes.push(0);
+        };
+        match self.dictionary.find(letters) {
+            Some(code) => self.codes.push(code),
+            None => self.push_new(letters),
+        }
+    }
+
+    // The text of a row that is no null.
+    pub(crate) fn get(&self, row: u32) -> &str
+        requires row { row < length self.now.codes }
+        requires code { get_or self.now.codes row 0 < length self.now.dictionary }
+        ensures { result.now ≡ get_or self.now.dictionary (get_or self.now.codes row 0) [] }
+    {
+        self.dictionary.spelt(self.codes.get(row as usize))
     }
 }

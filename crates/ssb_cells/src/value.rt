@@ -40,7 +40,7 @@ pub enum Value<'a> {
 }
 
 impl<'a> Value<'a> {
-    ghost use Rattle.ssb_cells.specs.Stored.{number_in, text_in};
+    ghost use Rattle.ssb_cells.specs.Stored.{number_in};
     ghost use Rattle.ssb_cells.specs.Values.{is_null_value};
 
     /// Whether there is no value.
@@ -60,16 +60,6 @@ impl<'a> Value<'a> {
         match self {
             Value::Int(number) => number,
             _ => 0,
-        }
-    }
-
-    // The text that it is, or the empty one where it is none.
-    pub(crate) fn text(self) -> &'a str
-        ensures { result.now ≡ text_in self.entry }
-    {
-        match self {
-            Value::Text(text) => text,
-            _ => "",
         }
     }
 }

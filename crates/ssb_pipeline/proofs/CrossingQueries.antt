@@ -10,7 +10,19 @@ use Rattle.sqlite_items.specs.contracts.boxed.Boxed as Boxed
 use Rattle.sqlite_items.specs.contracts.boxed.Boxed.TheInside as InBoxed
 use Rattle.sqlite_items.specs.contracts.items.Items as Items
 use Rattle.sqlite_items.specs.contracts.items.Items.TheInside as InItems
+use Rattle.ssb_cells.specs.contracts.codes.Codes as Codes
+use Rattle.ssb_cells.specs.contracts.codes.Codes.TheInside as InCodes
+use Rattle.ssb_cells.specs.contracts.codes.Packed as Packed
 use Rattle.ssb_cells.specs.contracts.column.Column as Column
+use Rattle.ssb_cells.specs.contracts.column.Column.TheInside as InColumn
+use Rattle.ssb_cells.specs.contracts.column.Stored as Stored
+use Rattle.ssb_cells.specs.contracts.dictionary.Dictionary as Dictionary
+use Rattle.ssb_cells.specs.contracts.dictionary.Dictionary.TheInside as InDictionary
+use Rattle.ssb_cells.specs.contracts.nulls.Nulls as Nulls
+use Rattle.ssb_cells.specs.contracts.numbers.Kept as Kept
+use Rattle.ssb_cells.specs.contracts.numbers.Numbers as Numbers
+use Rattle.ssb_cells.specs.contracts.numbers.Numbers.TheInside as InNumbers
+use Rattle.ssb_cells.specs.contracts.texts.Texts as Texts
 use Rattle.ssb_cells.specs.contracts.name.Name as Name
 use Rattle.ssb_cells.specs.contracts.table.Table as Table
 use Rattle.ssb_cells.specs.contracts.table.Table.TheInside as InTable
@@ -30,8 +42,53 @@ use Rattle.ssb_bind.specs.declared.condition.BoundCondition.TheBlock.{member-Bou
 use Rattle.ssb_bind.specs.declared.expr.BoundExpr.TheBlock.{member-BoundExpr, member-BoundStep}
 use Rattle.ssb_pipeline.proofs.Crossing.{Crosses, as_row_crosses, declared_crosses, fix_crosses, variants_crosses, vec, view_crosses}
 
-pub column : Crosses Column.the_row
-column = (search (crosses, sendable) depth 20, search (crosses, sendable) depth 20)
+packed : Crosses Packed.the_row
+packed =
+    variants_crosses Packed.enum (
+      ((search (as_row_send, crosses, sendable) depth 20, search (as_row_sync, crosses, sendable) depth 20), tt),
+      (
+        ((search (as_row_send, crosses, sendable) depth 20, search (as_row_sync, crosses, sendable) depth 20), tt),
+        (((search (as_row_send, crosses, sendable) depth 20, search (as_row_sync, crosses, sendable) depth 20), tt), tt),
+      ),
+    )
+
+codes : Crosses Codes.the_row
+codes = view_crosses InCodes.the_row _ _ _ _ (declared_crosses InCodes.the_type ((search (as_row_send, crosses, sendable) depth 20, search (as_row_sync, crosses, sendable) depth 20), (packed, tt)))
+
+dictionary : Crosses Dictionary.the_row
+dictionary =
+    view_crosses InDictionary.the_row _ _ _ _ (declared_crosses InDictionary.the_type (
+      (search (as_row_send, crosses, sendable) depth 20, search (as_row_sync, crosses, sendable) depth 20),
+      ((search (crosses, sendable) depth 20, search (crosses, sendable) depth 20), tt),
+    ))
+
+texts : Crosses Texts.the_row
+texts = declared_crosses Texts.the_type (dictionary, (codes, tt))
+
+kept : Crosses Kept.the_row
+kept =
+    variants_crosses Kept.enum (
+      ((search (as_row_send, crosses, sendable) depth 20, search (as_row_sync, crosses, sendable) depth 20), tt),
+      (
+        ((search (as_row_send, crosses, sendable) depth 20, search (as_row_sync, crosses, sendable) depth 20), tt),
+        (
+          ((search (as_row_send, crosses, sendable) depth 20, search (as_row_sync, crosses, sendable) depth 20), tt),
+          (((search (as_row_send, crosses, sendable) depth 20, search (as_row_sync, crosses, sendable) depth 20), tt), tt),
+        ),
+      ),
+    )
+
+numbers : Crosses Numbers.the_row
+numbers = view_crosses InNumbers.the_row _ _ _ _ (declared_crosses InNumbers.the_type ((search (as_row_send, crosses, sendable) depth 20, search (as_row_sync, crosses, sendable) depth 20), (kept, tt)))
+
+nulls : Crosses Nulls.the_row
+nulls = (search (crosses, sendable) depth 20, search (crosses, sendable) depth 20)
+
+stored : Crosses Stored.the_row
+stored = variants_crosses Stored.enum ((numbers, tt), ((texts, tt), tt))
+
+column : Crosses Column.the_row
+column = view_crosses InColumn.the_row _ _ _ _ (declared_crosses InColumn.the_type (nulls, (stored, tt)))
 
 pub table : Crosses Table.the_row
 table = view_crosses InTable.the_row _ _ _ _ (declared_crosses InTable.the_type (vec Column.the_row column, tt))

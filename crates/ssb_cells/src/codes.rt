@@ -1,0 +1,123 @@
+// Codes of texts, in as few bytes as the greatest of them needs.
+
+ghost use Rattle.std.specs.Prelude.{◌≡◌, ◌<◌, ◌-◌, List, [], ◌∷◌, ◌++◌, length, true, if◌then◌else◌, IfOk, OnOk, OnErr, slice_get, Some, take};
+ghost use Rattle.ssb_cells.specs.NarrowCodes.{codes_of, left};
+
+use std::alloc::{AllocError, Global};
+use std::marker::Model;
+
+// The codes, each in so many bytes.
+#[derive(Drop)]
+pub(crate) enum Packed {
+    One(Vec<u8>),
+    Two(Vec<u16>),
+    Four(Vec<u32>),
+}
+
+/// A list of codes, seen as that list. Each takes 1, 2 or 4 bytes, the least that hold all of them.
+#[derive(Drop)]
+pub struct Codes {
+    alloc: Global,
+    packed: Packed,
+}
+
+impl Model for Codes {
+    ghost use Rattle.std.specs.Prelude.{List, ℕ};
+
+    ghost Value = { List ℕ };
+
+    ghost use Rattle.ssb_cells.specs.NarrowCodes.{listed};
+
+    ghost view = { listed };
+}
+
+// The same codes, each in the next more bytes.
+fn widened(alloc: Global, packed: &Packed) -> Result<Packed, AllocError>
+    requires { 0 < left packed.now }
+    ensures same { IfOk result (λ p. codes_of p ≡ codes_of packed.now) }
+    ensures less { IfOk result (λ p. left p < left packed.now) }
+{
+    match packed {
+        Packed::One(codes) => {
+            let wider = codes.iter().map(|code| u16::from(*code));
+            Ok(Packed::Two(wider.collect(alloc)?))
+        }
+        Packed::Two(codes) => {
+            let wider = codes.iter().map(|code| u32::from(*code));
+            Ok(Packed::Four(wider.collect(alloc)?))
+        }
+        Packed::Four(_) => unreachable!(),
+    }
+}
+
+// Adds a code, if it fits.
+fn try_add(packed: &mut Packed, code: u32) -> Result<bool, AllocError>
+    ensures ok { IfOk result (λ added. codes_of packed.new ≡ (if added then codes_of packed.old ++ code ∷ [] else codes_of packed.old)) }
+    ensures err { OnErr result (codes_of packed.new ≡ codes_of packed.old) }
+    ensures left { left packed.new ≡ left packed.old }
+    ensures widest { IfOk result (λ added. left packed.old ≡ 0 → added ≡ true) }
+{
+    match packed {
+        Packed::One(codes) => {
+            let Ok(code) = u8::try_from(code) else {
+                return Ok(false);
+            };
+            codes.push(code)?;
+        }
+        Packed::Two(codes) => {
+            let Ok(code) = u16::try_from(code) else {
+                return Ok(false);
+            };
+            codes.push(code)?;
+        }
+        Packed::Four(codes) => codes.push(code)?,
+    }
+    Ok(true)
+}
+
+impl Codes {
+    /// No code.
+    pub fn new(alloc: Global) -> Codes
+        ensures { result ≡ [] }
+    {
+        Codes {
+            alloc,
+            packed: Packed::One(Vec::new(alloc)),
+        }
+    }
+
+    /// Adds a code at the end, and widens all where it asks for more bytes. An `Err` changes nothing.
+    pub fn push(&mut self, code: u32) -> Result<(), AllocError>
+        ensures ok { OnOk result (self.new ≡ self.old ++ code ∷ []) }
+        ensures err { OnErr result (self.new ≡ self.old) }
+    {
+        while !try_add(&mut self.packed, code)? {
+            self.packed = widened(self.alloc, &self.packed)?;
+        }
+        Ok(())
+    }
+
+    /// Takes the last code away.
+    pub fn pop(&mut self)
+        requires { 0 < length self.old }
+        ensures { self.new ≡ take (length self.old - 1) self.old }
+    {
+        match &mut self.packed {
+            Packed::One(codes) => codes.truncate(codes.len() - 1),
+            Packed::Two(codes) => codes.truncate(codes.len() - 1),
+            Packed::Four(codes) => codes.truncate(codes.len() - 1),
+        }
+    }
+
+    /// The code at a place.
+    pub fn get(&self, i: usize) -> u32
+        requires { i < length self.now }
+        ensures { slice_get self.now i ≡ Some result }
+    {
+        match &self.packed {
+            Packed::One(codes) => u32::from(codes[i]),
+            Packed::Two(codes) => u32::from(codes[i]),
+            Packed::Four(codes) => codes[i],
+        }
+    }
+}

@@ -1,0 +1,82 @@
+// Different texts, and the place of each.
+
+ghost use Rattle.std.specs.Prelude.{◌≡◌, ◌<◌, [], length, position, is_some, OnOk, OnErr, slice_get, Some};
+ghost use Rattle.std.specs.List.{list_any};
+ghost use Rattle.std.specs.Str.{bytes_eq};
+ghost use Rattle.ssb_cells.specs.Cell.{text};
+ghost use Rattle.ssb_cells.specs.Codes.{with_text};
+
+use indexmap::IndexSet;
+use std::alloc::{AllocError, Global};
+use std::marker::Model;
+
+/// Different texts in the order in which they came, seen as their list. There may be 4,294,967,295.
+#[derive(Drop)]
+pub struct Dictionary {
+    alloc: Global,
+    texts: IndexSet<String>,
+}
+
+impl Model for Dictionary {
+    ghost use Rattle.std.specs.Prelude.{List, ℕ};
+
+    ghost Value = { List (List ℕ) };
+
+    ghost use Rattle.ssb_cells.specs.Spelling.{spellings, IsCounted};
+
+    ghost view = { spellings };
+
+    ghost invariant = { IsCounted };
+}
+
+impl Dictionary {
+    /// No text.
+    pub fn new(alloc: Global) -> Dictionary
+        ensures { result ≡ [] }
+    {
+        Dictionary {
+            alloc,
+            texts: IndexSet::new(alloc),
+        }
+    }
+
+    /// How many texts there are.
+    pub fn len(&self) -> u32
+        ensures { result ≡ length self.now }
+    {
+        self.texts.len() as u32
+    }
+
+    /// The place of a text, if it is there.
+    pub fn find(&self, letters: &str) -> Option<u32>
+        ensures place { result ≡ position (bytes_eq letters.now) self.now }
+        ensures found { is_some result ≡ list_any (bytes_eq letters.now) self.now }
+    {
+        match self.texts.get_index_of(letters) {
+            Some(place) => Some(place as u32),
+            None => None,
+        }
+    }
+
+    /// The text at a place.
+    pub fn spelt(&self, place: u32) -> &str
+        requires { place < length self.now }
+        ensures { slice_get self.now place ≡ Some result.now }
+    {
+        let Some(text) = self.texts.get_index(place as usize) else {
+            unreachable!()
+        };
+        text.as_str()
+    }
+
+    /// Puts a text behind the others, where it is not among them. An `Err` changes nothing.
+    pub fn add(&mut self, letters: &str) -> Result<(), AllocError>
+        requires { length self.old < 4294967295 }
+        ensures ok { OnOk result (self.new ≡ with_text self.old (text letters.now)) }
+        ensures err { OnErr result (self.new ≡ self.old) }
+    {
+        let text = String::from_str(self.alloc, letters)?;
+        self.texts.insert(text)?;
+        Ok(())
+    }
+}

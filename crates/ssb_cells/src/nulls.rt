@@ -1,0 +1,109 @@
+// Which values of a list are null, a bit each.
+
+ghost use Rattle.std.specs.Prelude.{◌≡◌, ◌<◌, ◌-◌, ◌==◌, ℕ, [], ◌∷◌, ◌++◌, length, true, false, if◌then◌else◌, OnOk, OnErr, slice_get, Some, take};
+ghost use Rattle.ssb_cells.specs.Flags.{flag_at};
+
+use std::alloc::{AllocError, Global};
+use std::marker::Model;
+
+/// A list of flags, seen as that list. It has words of 64 flags up to the last that is set, and none
+/// before one is.
+#[derive(Drop)]
+pub struct Nulls {
+    len: u32,
+    words: Vec<u64>,
+}
+
+impl Model for Nulls {
+    ghost use Rattle.std.specs.Prelude.{List, Bool};
+
+    ghost Value = { List Bool };
+
+    ghost use Rattle.ssb_cells.specs.Flags.{flags_of, IsClear};
+
+    ghost view = { flags_of };
+
+    ghost invariant = { IsClear };
+}
+
+// The flag at a place.
+fn flag_at(words: &[u64], place: u32) -> bool
+    ensures { result ≡ flag_at words.now place }
+{
+    match words.get((place / 64) as usize) {
+        Some(word) => (*word >> (place % 64)) & 1 == 1,
+        None => false,
+    }
+}
+
+// Sets the flag at a place. An `Err` changes nothing.
+fn set_flag(words: &mut Vec<u64>, place: u32) -> Result<(), AllocError>
+    ensures ok { OnOk result ((i : ℕ) → flag_at words.new.items i ≡ (if i == place then true else flag_at words.old.items i)) }
+    ensures err { OnErr result (words.new.items ≡ words.old.items) }
+{
+    let word = (place / 64) as usize;
+    if word >= words.len() {
+        words.resize(word + 1, 0)?;
+    }
+    words[word] |= 1 << (place % 64);
+    Ok(())
+}
+
+// Clears the flag at a place.
+fn clear_flag(words: &mut Vec<u64>, place: u32)
+    ensures { (i : ℕ) → flag_at words.new.items i ≡ (if i == place then false else flag_at words.old.items i) }
+{
+    let word = (place / 64) as usize;
+    if word < words.len() {
+        words[word] &= !(1 << (place % 64));
+    }
+}
+
+impl Nulls {
+    /// No flag.
+    pub fn new(alloc: Global) -> Nulls
+        ensures { result ≡ [] }
+    {
+        Nulls {
+            len: 0,
+            words: Vec::new(alloc),
+        }
+    }
+
+    /// How many flags there are.
+    pub fn len(&self) -> u32
+        ensures { result ≡ length self.now }
+    {
+        self.len
+    }
+
+    /// Adds a flag at the end. An `Err` changes nothing, and comes only where the flag is set.
+    pub fn push(&mut self, flag: bool) -> Result<(), AllocError>
+        requires { length self.old < 4294967295 }
+        ensures ok { OnOk result (self.new ≡ self.old ++ flag ∷ []) }
+        ensures err { OnErr result ((self.new ≡ self.old) × (flag ≡ true)) }
+    {
+        if flag {
+            set_flag(&mut self.words, self.len)?;
+        }
+        self.len += 1;
+        Ok(())
+    }
+
+    /// Takes the last flag away.
+    pub fn pop(&mut self)
+        requires { 0 < length self.old }
+        ensures { self.new ≡ take (length self.old - 1) self.old }
+    {
+        self.len -= 1;
+        clear_flag(&mut self.words, self.len);
+    }
+
+    /// The flag at a place.
+    pub fn get(&self, place: u32) -> bool
+        requires { place < length self.now }
+        ensures { slice_get self.now place ≡ Some result }
+    {
+        flag_at(self.words.as_slice(), place)
+    }
+}

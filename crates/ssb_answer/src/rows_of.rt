@@ -3,7 +3,7 @@
 ghost use Rattle.std.specs.Prelude.{◌≡◌, ◌<◌, IfOk, IfErr, List, true, false, length, map, slice_get, unwrap_or};
 ghost use Rattle.std.specs.List.{list_any, range_with_len};
 ghost use Rattle.ssb_cells.specs.Cell as Cell;
-ghost use Rattle.ssb_cells.specs.Values.{owned_cell};
+ghost use Rattle.ssb_cells.specs.Values.{cell_of, owned_cell};
 ghost use Rattle.ssb_groups.specs.Rows.{SeenRow};
 ghost use Rattle.ssb_groups.specs.Stands.{Stands};
 ghost use Rattle.ssb_groups.specs.Value.{in_range};
@@ -14,8 +14,8 @@ use crate::answer::{Answer, AnswerRow};
 use crate::fault::AnswerFault;
 use crate::order::sort_rows;
 use ssb_bind::{Aggregate, Origin, Query, QueryParts};
-use ssb_cells::OwnedValue;
-use ssb_groups::{Accumulator, GroupKey, Groups, Totals};
+use ssb_cells::{OwnedValue, Value};
+use ssb_groups::{Accumulator, Groups, Totals};
 use std::alloc::{AllocError, Global};
 
 fn is_in_range(number: i128) -> bool
@@ -86,11 +86,11 @@ fn total_value_at(parts: &QueryParts, totals: &[Accumulator], at: usize) -> Owne
     }
 }
 
-fn key_value_at(alloc: Global, key: &[OwnedValue], at: usize) -> Result<OwnedValue, AllocError>
-    ensures { IfOk result (λ v. owned_cell v ≡ unwrap_or (slice_get (map owned_cell key.now) at) Cell.null) }
+fn key_value_at(alloc: Global, key: &[Value<'_>], at: usize) -> Result<OwnedValue, AllocError>
+    ensures { IfOk result (λ v. owned_cell v ≡ unwrap_or (slice_get (map cell_of key.now) at) Cell.null) }
 {
     match key.get(at) {
-        Some(value) => value.copy(alloc),
+        Some(value) => OwnedValue::of(alloc, *value),
         None => Ok(OwnedValue::Null),
     }
 }
@@ -99,12 +99,12 @@ fn key_value_at(alloc: Global, key: &[OwnedValue], at: usize) -> Result<OwnedVal
 fn item_value(
     alloc: Global,
     parts: &QueryParts,
-    key: &[OwnedValue],
+    key: &[Value<'_>],
     totals: &[Accumulator],
     origin: Origin,
 ) -> Result<OwnedValue, AllocError>
-    requires { spec.entry_beyond parts.now (map owned_cell key.now, totals.now) ≡ false }
-    ensures { IfOk result (λ v. owned_cell v ≡ spec.entry_cell parts.now (map owned_cell key.now, totals.now) origin) }
+    requires { spec.entry_beyond parts.now (map cell_of key.now, totals.now) ≡ false }
+    ensures { IfOk result (λ v. owned_cell v ≡ spec.entry_cell parts.now (map cell_of key.now, totals.now) origin) }
 {
     match origin {
         Origin::Group(at) => key_value_at(alloc, key, at),
@@ -116,11 +116,11 @@ fn item_value(
 fn entry_row(
     alloc: Global,
     parts: &QueryParts,
-    key: &[OwnedValue],
+    key: &[Value<'_>],
     totals: &[Accumulator],
 ) -> Result<AnswerRow, AllocError>
-    requires { spec.entry_beyond parts.now (map owned_cell key.now, totals.now) ≡ false }
-    ensures { IfOk result (λ row. row ≡ spec.entry_row parts.now (map owned_cell key.now, totals.now)) }
+    requires { spec.entry_beyond parts.now (map cell_of key.now, totals.now) ≡ false }
+    ensures { IfOk result (λ row. row ≡ spec.entry_row parts.now (map cell_of key.now, totals.now)) }
 {
     let mut fields = Vec::with_capacity(alloc, parts.items.len())?;
     for item in parts.items.as_slice() {
@@ -133,11 +133,11 @@ fn entry_row(
 fn judged_row(
     alloc: Global,
     parts: &QueryParts,
-    key: &[OwnedValue],
+    key: &[Value<'_>],
     totals: &[Accumulator],
 ) -> Result<AnswerRow, AnswerFault>
-    ensures ok { IfOk result (λ row. (spec.entry_beyond parts.now (map owned_cell key.now, totals.now) ≡ false) × (row ≡ spec.entry_row parts.now (map owned_cell key.now, totals.now))) }
-    ensures err { IfErr result (spec.IsBeyondFault (spec.entry_beyond parts.now (map owned_cell key.now, totals.now))) }
+    ensures ok { IfOk result (λ row. (spec.entry_beyond parts.now (map cell_of key.now, totals.now) ≡ false) × (row ≡ spec.entry_row parts.now (map cell_of key.now, totals.now))) }
+    ensures err { IfErr result (spec.IsBeyondFault (spec.entry_beyond parts.now (map cell_of key.now, totals.now))) }
 {
     if has_beyond(parts, totals) {
         return Err(AnswerFault::SumOutOfRange);
@@ -157,10 +157,10 @@ fn group_row(
     requires { at < length groups.now.entries }
     ensures { spec.JudgesEntry parts.now (slice_get groups.now.entries at) result }
 {
-    let Some((key, totals)) = groups.group(at) else {
-        unreachable!()
+    let Ok((key, totals)) = groups.group(alloc, at) else {
+        return Err(AnswerFault::Memory);
     };
-    judged_row(alloc, parts, key.cells(), totals.as_slice())
+    judged_row(alloc, parts, &key, totals.as_slice())
 }
 
 // The rows of all groups, in no order.

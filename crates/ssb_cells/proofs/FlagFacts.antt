@@ -11,7 +11,7 @@ use Rattle.std.proofs.lemmas.Nat.Bits.{bit_at-zero}
 use Rattle.std.specs.Prelude.{replicate, slice_get}
 use Rattle.std.proofs.lemmas.List.{length-map}
 use Rattle.std.proofs.lemmas.List.FromFn.{length-range_with_len}
-use Rattle.ssb_cells.specs.Flags.{flag_at}
+use Rattle.ssb_cells.specs.Lent.{flag_at}
 
 -- a word with one flag changed
 module _ (words : List ℕ) (p v : ℕ) (b : Bool) (within : p / 64 < length words) (here : nat_eq (bit_at v (p % 64)) 1 ≡ b)

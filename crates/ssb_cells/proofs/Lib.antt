@@ -1,6 +1,7 @@
 pub mod CodeFacts
 pub mod ColumnFacts
 pub mod FlagFacts
+pub mod LentFacts
 pub mod LowerFacts
 pub mod NameFacts
 pub mod OrderLaws

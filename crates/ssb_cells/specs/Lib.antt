@@ -3,6 +3,7 @@ pub mod Codes
 pub mod Compare
 pub mod Flags
 pub mod Keywords
+pub mod Lent
 pub mod Names
 pub mod Narrow
 pub mod NarrowCodes

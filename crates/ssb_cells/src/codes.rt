@@ -1,8 +1,10 @@
 // Codes of texts, in as few bytes as the greatest of them needs.
 
 ghost use Rattle.std.specs.Prelude.{◌≡◌, ◌<◌, ◌-◌, List, [], ◌∷◌, ◌++◌, length, true, if◌then◌else◌, IfOk, OnOk, OnErr, slice_get, Some, take};
+ghost use Rattle.ssb_cells.specs.Lent.{codes_in};
 ghost use Rattle.ssb_cells.specs.NarrowCodes.{codes_of, left};
 
+use crate::lent::CodeSlice;
 use std::alloc::{AllocError, Global};
 use std::marker::Model;
 
@@ -109,15 +111,22 @@ impl Codes {
         }
     }
 
+    /// The codes.
+    pub fn as_slice(&self) -> CodeSlice<'_>
+        ensures { codes_in result ≡ self.now }
+    {
+        match &self.packed {
+            Packed::One(codes) => CodeSlice::One(codes.as_slice()),
+            Packed::Two(codes) => CodeSlice::Two(codes.as_slice()),
+            Packed::Four(codes) => CodeSlice::Four(codes.as_slice()),
+        }
+    }
+
     /// The code at a place.
     pub fn get(&self, i: usize) -> u32
         requires { i < length self.now }
         ensures { slice_get self.now i ≡ Some result }
     {
-        match &self.packed {
-            Packed::One(codes) => u32::from(codes[i]),
-            Packed::Two(codes) => u32::from(codes[i]),
-            Packed::Four(codes) => codes[i],
-        }
+        self.as_slice().get(i)
     }
 }

@@ -4,11 +4,13 @@ ghost use Rattle.std.specs.Prelude.{◌≡◌, ◌<◌, ◌↔◌, ℕ, List, []
 ghost use Rattle.std.specs.Option.{IsSome};
 ghost use Rattle.ssb_cells.specs.Cell.{Cell, Filled, null, text};
 ghost use Rattle.ssb_cells.specs.Codes.{code_at, code_of, texts_of};
+ghost use Rattle.ssb_cells.specs.Lent.{AreCodes, AreNulls, AreNumbers, codes_in, numbers_in};
 ghost use Rattle.ssb_cells.specs.Stored.{HasRoom, kind_of, with_value};
 ghost use Rattle.ssb_cells.specs.Values.{cell_of, IsOfType};
 ghost use Rattle.ssb_cells.specs.declared.column.Stored.TheVariants as kept;
 ghost use Rattle.ssb_cells.specs.declared.value.ColType.TheVariants as kinds;
 
+use crate::lent::{CodeSlice, NumberSlice};
 use crate::nulls::Nulls;
 use crate::numbers::Numbers;
 use crate::texts::Texts;
@@ -66,6 +68,17 @@ fn texts_in(stored: &Stored) -> &Texts
     match stored {
         Stored::Int(_) => unreachable!(),
         Stored::Text(texts) => texts,
+    }
+}
+
+// The numbers of an int column.
+fn numbers_in(stored: &Stored) -> &Numbers
+    requires { kind_of stored.now ≡ kinds.Int }
+    ensures { stored.now ≡ kept.Int result.now }
+{
+    match stored {
+        Stored::Int(numbers) => numbers,
+        Stored::Text(_) => unreachable!(),
     }
 }
 
@@ -149,6 +162,32 @@ impl Column {
         texts_in(&self.stored).dictionary.spelt(code)
     }
 
+    /// The numbers of an int column, for code that goes over many rows: each row has its own, and a null
+    /// has some number. It takes no memory.
+    pub fn numbers(&self) -> NumberSlice<'_>
+        requires { self.now.kind ≡ kinds.Int }
+        ensures { AreNumbers self.now.values (numbers_in result) }
+    {
+        numbers_in(&self.stored).as_slice()
+    }
+
+    /// The codes of a text column, for code that goes over many rows: each row has that of
+    /// [`code`](Self::code), and a null has some code. It takes no memory.
+    pub fn codes(&self) -> CodeSlice<'_>
+        requires { self.now.kind ≡ kinds.Text }
+        ensures { AreCodes self.now.values (codes_in result) }
+    {
+        texts_in(&self.stored).codes.as_slice()
+    }
+
+    /// The words whose bits tell which rows are null, as [`flag_at`](crate::flag_at) reads them: as many
+    /// as there are up to the last null, so none without a null. It takes no memory.
+    pub fn null_words(&self) -> &[u64]
+        ensures { AreNulls self.now.values result.now }
+    {
+        self.nulls.words()
+    }
+
     /// The type of its values.
     pub fn kind(&self) -> ColType
         ensures { result ≡ self.now.kind }
@@ -178,3 +217,11 @@ impl Column {
 pub fn codes_tell_texts()
     ensures { (values : List Cell) (i j a b : ℕ) → code_at values i ≡ Some a → code_at values j ≡ Some b → (a ≡ b) ↔ (slice_get values i ≡ slice_get values j) }
 {}
+
+/// A law: a column of numbers has no text.
+pub fn numbers_have_no_text(column: &Column)
+    requires { column.now.kind ≡ kinds.Int }
+    ensures { texts_of column.now.values ≡ [] }
+{
+    let _ = &column.nulls;
+}

@@ -14,6 +14,7 @@ mod codes;
 pub mod column;
 mod dictionary;
 pub mod keyword;
+pub mod lent;
 pub mod name;
 mod nulls;
 mod numbers;
@@ -25,8 +26,9 @@ mod texts;
 pub mod truth;
 pub mod value;
 
-pub use column::{Column, codes_tell_texts};
+pub use column::{Column, codes_tell_texts, numbers_have_no_text};
 pub use keyword::{Keyword, keyword_of, spelling};
+pub use lent::{CodeSlice, NumberSlice, flag_at};
 pub use name::{Name, is_name, is_reserved, is_word_byte};
 pub use order::{compare, sort_cmp};
 pub use owned::OwnedValue;

@@ -1,8 +1,9 @@
 // Which values of a list are null, a bit each.
 
-ghost use Rattle.std.specs.Prelude.{◌≡◌, ◌<◌, ◌-◌, ◌==◌, ℕ, [], ◌∷◌, ◌++◌, length, true, false, if◌then◌else◌, OnOk, OnErr, slice_get, Some, take};
-ghost use Rattle.ssb_cells.specs.Flags.{flag_at};
+ghost use Rattle.std.specs.Prelude.{◌≡◌, ◌↔◌, ◌<◌, ◌-◌, ◌==◌, ℕ, [], ◌∷◌, ◌++◌, length, true, false, if◌then◌else◌, OnOk, OnErr, slice_get, Some, take};
+ghost use Rattle.ssb_cells.specs.Lent.{flag_at};
 
+use crate::lent::flag_at;
 use std::alloc::{AllocError, Global};
 use std::marker::Model;
 
@@ -24,16 +25,6 @@ impl Model for Nulls {
     ghost view = { flags_of };
 
     ghost invariant = { IsClear };
-}
-
-// The flag at a place.
-fn flag_at(words: &[u64], place: u32) -> bool
-    ensures { result ≡ flag_at words.now place }
-{
-    match words.get((place / 64) as usize) {
-        Some(word) => (*word >> (place % 64)) & 1 == 1,
-        None => false,
-    }
 }
 
 // Sets the flag at a place. An `Err` changes nothing.
@@ -105,5 +96,12 @@ impl Nulls {
         ensures { slice_get self.now place ≡ Some result }
     {
         flag_at(self.words.as_slice(), place)
+    }
+
+    /// The words of the flags.
+    pub fn words(&self) -> &[u64]
+        ensures { (i : ℕ) → (flag_at result.now i ≡ true) ↔ (slice_get self.now i ≡ Some true) }
+    {
+        self.words.as_slice()
     }
 }

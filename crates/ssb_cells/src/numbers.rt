@@ -1,8 +1,10 @@
 // Whole numbers in as few bytes as the widest of them needs.
 
 ghost use Rattle.std.specs.Prelude.{◌≡◌, ◌<◌, List, [], ◌∷◌, ◌++◌, length, true, map, if◌then◌else◌, IfOk, OnOk, OnErr, slice_get, Some};
+ghost use Rattle.ssb_cells.specs.Lent.{numbers_in};
 ghost use Rattle.ssb_cells.specs.Narrow.{left, numbers_of};
 
+use crate::lent::NumberSlice;
 use std::alloc::{AllocError, Global};
 use std::marker::Model;
 
@@ -121,16 +123,23 @@ impl Numbers {
         Ok(())
     }
 
+    /// The numbers.
+    pub fn as_slice(&self) -> NumberSlice<'_>
+        ensures { numbers_in result ≡ self.now }
+    {
+        match &self.kept {
+            Kept::One(numbers) => NumberSlice::One(numbers.as_slice()),
+            Kept::Two(numbers) => NumberSlice::Two(numbers.as_slice()),
+            Kept::Four(numbers) => NumberSlice::Four(numbers.as_slice()),
+            Kept::Eight(numbers) => NumberSlice::Eight(numbers.as_slice()),
+        }
+    }
+
     /// The number at a place.
     pub fn get(&self, i: usize) -> i64
         requires { i < length self.now }
         ensures { slice_get self.now i ≡ Some result }
     {
-        match &self.kept {
-            Kept::One(numbers) => i64::from(numbers[i]),
-            Kept::Two(numbers) => i64::from(numbers[i]),
-            Kept::Four(numbers) => i64::from(numbers[i]),
-            Kept::Eight(numbers) => numbers[i],
-        }
+        self.as_slice().get(i)
     }
 }

@@ -6,7 +6,7 @@ ghost use Rattle.ssb_cells.specs.Values.{cell_of, owned_cell};
 use crate::value::Value;
 use std::alloc::{AllocError, Global};
 
-/// A value that is kept: of a group column, or of a row of an answer.
+/// A value that is kept, of a row of an answer.
 #[derive(PartialEq, Eq, Hash, Drop, Debug)]
 pub enum OwnedValue {
     /// No value.

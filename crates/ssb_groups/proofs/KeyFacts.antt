@@ -1,17 +1,21 @@
 -- Keys are equal where their values are.
-use Rattle.std.proofs.Common.{◌≡◌, Bool, true, true≢false, ◌&&◌, List, [], ◌∷◌, map, refl, sym, ap₂}
+use Rattle.std.proofs.Common.{◌≡◌, ◌∙◌, ◌<◌, ℕ, nat_eq, bytes_eq, Bool, true, false, true≢false, ◌&&◌, List, [], ◌∷◌, length, get_or, refl, sym, ap, ap₂}
 use Rattle.std.specs.Cmp.{IsEquivalence}
 use Rattle.std.specs.Cmp.Lexicographic.{pointwise}
+use Rattle.std.proofs.lemmas.Bool.{eq-eqb, eqb-true}
 use Rattle.std.proofs.lemmas.Cmp.{lists_equiv, int_eq_equiv, nat_list_eq_equiv}
+use Rattle.std.proofs.lemmas.Option.{same_Some}
+use Rattle.std.specs.Cmp.Lexicographic.{bytes_decides}
 use Rattle.ssb_cells.specs.Cell.{Cell, null, number, text}
-use Rattle.ssb_cells.specs.Values.{owned_cell}
-use Rattle.ssb_groups.specs.Keys.{cells_in}
+use Rattle.ssb_cells.specs.Codes.{code_of, texts_of}
+use Rattle.ssb_cells.proofs.CodeFacts.{code-of}
+use Rattle.ssb_groups.specs.Keys.{AreKept, IsKept, IsKey, cells_in, spelt, spelt_cell}
 use Rattle.ssb_groups.specs.Rows.{cell_eq, key_eq}
 use Rattle.ssb_groups.specs.contracts.key.GroupKeyPartialEq.TheImpl as group_keys
-use Rattle.ssb_cells.specs.contracts.owned.OwnedValuePartialEq.TheImpl as key_cells
+use Rattle.ssb_groups.specs.contracts.key.KeyCellPartialEq.TheImpl as key_cells
 use Rattle.ssb_groups.specs.declared.key.GroupKey.{GroupKey}
-use Rattle.ssb_cells.specs.declared.owned.OwnedValue.{OwnedValue}
-use Rattle.ssb_cells.specs.declared.owned.OwnedValue.TheVariants as cells
+use Rattle.ssb_groups.specs.declared.key.KeyCell.{KeyCell}
+use Rattle.ssb_groups.specs.declared.key.KeyCell.TheVariants as kept
 
 cell_itself : (a : Cell) → cell_eq a a ≡ true
 cell_itself null = refl
@@ -52,32 +56,47 @@ key_eq_laws = lists_equiv cell_eq_laws
 
 -- ---- the derived comparisons
 
-abbrev pub cells_equal : OwnedValue → OwnedValue → Bool
+abbrev pub cells_equal : KeyCell → KeyCell → Bool
 cells_equal = key_cells.eq-value.it
 
 abbrev pub keys_equal : GroupKey → GroupKey → Bool
 keys_equal = group_keys.eq-value.it
 
-cell_same : (a b : OwnedValue) → cells_equal a b ≡ cell_eq (owned_cell a) (owned_cell b)
-cell_same cells.Null cells.Null = refl
-cell_same cells.Null (cells.Number b) = refl
-cell_same cells.Null (cells.Text b) = refl
-cell_same (cells.Number a) cells.Null = refl
-cell_same (cells.Number a) (cells.Number b) = refl
-cell_same (cells.Number a) (cells.Text b) = refl
-cell_same (cells.Text a) cells.Null = refl
-cell_same (cells.Text a) (cells.Number b) = refl
-cell_same (cells.Text a) (cells.Text b) = refl
+-- codes of one column are equal exactly where their texts are
+codes_same : (values : List Cell) (a b : ℕ) → a < length (texts_of values) → b < length (texts_of values) → nat_eq a b ≡ bytes_eq (get_or (texts_of values) a []) (get_or (texts_of values) b [])
+codes_same values a b p q = by (nat_eq a b) (bytes_eq (letters a) (letters b)) refl refl
+  where
+    letters : ℕ → List ℕ
+    letters code = get_or (texts_of values) code []
 
-list_same : (xs ys : List OwnedValue) → pointwise cells_equal xs ys ≡ pointwise cell_eq (map owned_cell xs) (map owned_cell ys)
-list_same [] [] = refl
-list_same [] (y ∷ ys) = refl
-list_same (x ∷ xs) [] = refl
-list_same (x ∷ xs) (y ∷ ys) = ap₂ (λ a b. a && b) (cell_same x y) (list_same xs ys)
+    same : bytes_eq (letters a) (letters b) ≡ true → a ≡ b
+    same e = same_Some a b (sym (code-of values a p) ∙ ap (code_of values) ((bytes_decides (letters a) (letters b)).0 e) ∙ code-of values b q)
 
-pub key_same : (x y : GroupKey) → keys_equal x y ≡ key_eq (cells_in x) (cells_in y)
-key_same x y = list_same x.cells.items y.cells.items
+    by : (x y : Bool) → nat_eq a b ≡ x → bytes_eq (letters a) (letters b) ≡ y → x ≡ y
+    by true true e h = refl
+    by true false e h = absurd (true≢false (sym (nat_list_eq_equiv.refl (letters a)) ∙ ap (λ c. bytes_eq (letters a) (letters c)) (eqb-true a b e) ∙ h))
+    by false true e h = absurd (true≢false (sym (eq-eqb a b (same h)) ∙ e))
+    by false false e h = refl
 
--- the derived comparison is that of the values
-pub tests_same : keys_equal ≡ (λ x y. key_eq (cells_in x) (cells_in y))
-tests_same = λ j x y. key_same x y j
+cell_same : (values : List Cell) (a b : KeyCell) → IsKept values a → IsKept values b → cells_equal a b ≡ cell_eq (spelt_cell values a) (spelt_cell values b)
+cell_same values kept.Null kept.Null p q = refl
+cell_same values kept.Null (kept.Number b) p q = refl
+cell_same values kept.Null (kept.Code b) p q = refl
+cell_same values (kept.Number a) kept.Null p q = refl
+cell_same values (kept.Number a) (kept.Number b) p q = refl
+cell_same values (kept.Number a) (kept.Code b) p q = refl
+cell_same values (kept.Code a) kept.Null p q = refl
+cell_same values (kept.Code a) (kept.Number b) p q = refl
+cell_same values (kept.Code a) (kept.Code b) p q = codes_same values a b p q
+
+cells_same : (columns : List (List Cell)) (xs ys : List KeyCell) → AreKept columns xs → AreKept columns ys → pointwise cells_equal xs ys ≡ key_eq (spelt columns xs) (spelt columns ys)
+cells_same [] [] [] p q = refl
+cells_same [] [] (y ∷ ys) p q = absurd q
+cells_same [] (x ∷ xs) ys p q = absurd p
+cells_same (v ∷ vs) [] ys p q = absurd p
+cells_same (v ∷ vs) (x ∷ xs) [] p q = absurd q
+cells_same (v ∷ vs) (x ∷ xs) (y ∷ ys) p q = ap₂ (λ a b. a && b) (cell_same v x y p.0 q.0) (cells_same vs xs ys p.1 q.1)
+
+-- keys of one job are equal exactly where their values are
+pub key_same : (columns : List (List Cell)) (x y : GroupKey) → IsKey columns x → IsKey columns y → keys_equal x y ≡ key_eq (cells_in columns x) (cells_in columns y)
+key_same columns x y p q = cells_same columns x.cells.items y.cells.items p.kept q.kept

@@ -1,6 +1,6 @@
 pub mod AddFacts
 pub mod Bounds
-pub mod CellFacts
+pub mod ColumnFacts
 pub mod JoinedFront
 pub mod KeyFacts
 mod MergeFacts

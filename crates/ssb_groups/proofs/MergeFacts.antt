@@ -9,7 +9,8 @@ use Rattle.ssb_groups.specs.declared.key.GroupKey.{GroupKey}
 use Rattle.ssb_groups.specs.Rows.{Key, key_eq, SeenRow}
 use Rattle.ssb_groups.specs.Stands.{GroupMap, Stands, group, totals}
 use Rattle.ssb_groups.specs.Joining.{FitEach, JoinsAt, JoinsEach, option_joined}
-use Rattle.ssb_groups.specs.Keys.{cells_in, entries_of}
+use Rattle.ssb_cells.specs.Cell.{Cell}
+use Rattle.ssb_groups.specs.Keys.{AreKeys, IsKey, cells_in, entries_of}
 use Rattle.ssb_groups.proofs.Bounds.{fit_rows, summary_is}
 use Rattle.ssb_groups.proofs.KeyFacts.{key_eq_laws, keys_equal}
 use Rattle.ssb_groups.proofs.TableFacts.{keys_distinct, option_joined-none}
@@ -52,10 +53,16 @@ absent (x ∷ es) rest k m h =
     let other = key_eq_laws.symm k x.0 ∙ at-later (λ y. key_eq x.0 y ≡ false) es rest k m h.0 in
     ap (λ b. cond b (Some x.1) (lookup (key_eq k) es)) other ∙ absent es rest k m h.1
 
-pub not-yet : (front rest : List (GroupKey × List Accumulator)) (g : GroupKey) (m : List Accumulator) → IsDistinct keys_equal (keys_of (front ++ (g, m) ∷ rest)) → lookup (key_eq (cells_in g)) (entries_of front) ≡ None
-not-yet front rest g m h =
-    absent (entries_of front) (entries_of rest) (cells_in g) m
-    (rw (map-append {B = Key × List Accumulator} (λ (e : GroupKey × List Accumulator). (cells_in e.0, e.1)) front ((g, m) ∷ rest)) at (keys_distinct (front ++ (g, m) ∷ rest) h))
+pub not-yet : (columns : List (List Cell)) (front rest : List (GroupKey × List Accumulator)) (g : GroupKey) (m : List Accumulator) → AreKeys columns (front ++ (g, m) ∷ rest) → IsDistinct keys_equal (keys_of (front ++ (g, m) ∷ rest))
+    → lookup (key_eq (cells_in columns g)) (entries_of columns front) ≡ None
+not-yet columns front rest g m are h =
+    absent (entries_of columns front) (entries_of columns rest) (cells_in columns g) m
+    (rw (map-append {B = Key × List Accumulator} (λ (e : GroupKey × List Accumulator). (cells_in columns e.0, e.1)) front ((g, m) ∷ rest)) at (keys_distinct columns (front ++ (g, m) ∷ rest) are h))
+
+-- each key of a list is one of the columns
+pub key-at : (columns : List (List Cell)) (front rest : List (GroupKey × List Accumulator)) (g : GroupKey) (m : List Accumulator) → AreKeys columns (front ++ (g, m) ∷ rest) → IsKey columns g
+key-at columns [] rest g m h = h.0
+key-at columns (e ∷ front) rest g m h = key-at columns front rest g m h.1
 
 -- ---- one entry more
 

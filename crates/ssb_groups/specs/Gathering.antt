@@ -1,8 +1,7 @@
 -- What is gathered of a row, and what adding it does.
 -- For the contracts inside this crate.
-use Rattle.std.specs.Prelude.{◌≡◌, ℕ, zero, suc, Bool, true, false, List, [], ◌∷◌, ◌++◌, map}
+use Rattle.std.specs.Prelude.{◌≡◌, ℕ, Bool, true, false, List, [], ◌∷◌, ◌++◌, map}
 use Rattle.std.specs.List.{list_any}
-use Rattle.ssb_cells.specs.Cell.{Cell}
 use Rattle.ssb_groups.specs.Rows.{Key, SeenRow}
 use Rattle.ssb_groups.specs.Stands.{GroupMap, Stands, accumulated, has_over, is_over, totals, EachRanged}
 use Rattle.ssb_groups.specs.Value.{Outcome}
@@ -17,12 +16,6 @@ pub record IsGathered (found : Bool) (os : List Outcome) (more : List Accumulato
   pub over : found ≡ list_any is_over os
   pub alone : more ≡ each_alone os
   pub ranged : EachRanged os
-
--- a value at a place, or behind the last
-abbrev pub set_or_push : List Cell → ℕ → Cell → List Cell
-set_or_push [] at c = c ∷ []
-set_or_push (x ∷ xs) zero c = c ∷ xs
-set_or_push (x ∷ xs) (suc at) c = x ∷ set_or_push xs at c
 
 -- a row of this fact row at which an argument is Over
 pub record IsOverAt (n : ℕ) (r : SeenRow) : Type 0 where

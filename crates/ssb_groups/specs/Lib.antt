@@ -2,6 +2,7 @@ pub mod Gathering
 pub mod Joining
 pub mod Keys
 pub mod Outcomes
+pub mod Places
 pub mod Rows
 pub mod Seen
 pub mod Stands

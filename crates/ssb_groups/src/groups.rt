@@ -1,19 +1,20 @@
 // The groups over the rows that were added.
 
-ghost use Rattle.std.specs.Prelude.{◌≡◌, ◌+◌, ◌<◌, ◌^◌, ◌∷◌, ◌++◌, [], ◌↔◌, List, length, Some, slice_get, IfErr, IfSome, OnOk, OnErr};
-ghost use Rattle.std.specs.Option.{IsSome};
+ghost use Rattle.std.specs.Prelude.{◌≡◌, ◌+◌, ◌<◌, ◌^◌, ◌∷◌, ◌++◌, [], List, length, map, Some, slice_get, IfErr, IfOk, OnOk, OnErr};
+ghost use Rattle.ssb_cells.specs.Values.{cell_of};
 ghost use Rattle.ssb_job.specs.Kept.{AreOneJob, IsCombination, from_tables};
-ghost use Rattle.ssb_groups.specs.Keys.{cells_in};
 ghost use Rattle.ssb_groups.specs.Rows.{SeenRow};
 ghost use Rattle.ssb_groups.specs.Seen.{seen};
 ghost use Rattle.ssb_groups.specs.Stands.{GroupMap, Stands};
 ghost use Rattle.std.specs.List.Sorted.{IsPermutation};
 
 use crate::accumulator::Accumulator;
-use crate::gather::{fact_of, fill_key, gather};
+use crate::columns::KeyColumns;
+use crate::gather::{fact_of, gather};
 use crate::key::GroupKey;
 use crate::store::Store;
 use crate::totals::Totals;
+use ssb_cells::Value;
 use ssb_job::{Job, JoinedRow};
 use std::alloc::{AllocError, Global};
 use std::marker::Model;
@@ -25,6 +26,8 @@ use std::marker::Model;
 #[derive(Drop)]
 pub struct Groups {
     alloc: Global,
+    // Where the job's group columns stand, in tables that are the job's own.
+    columns: KeyColumns,
     store: Store,
     // The key and the accumulators of the row that is added, whose room is used again for the next.
     key: GroupKey,
@@ -44,23 +47,29 @@ impl Model for Groups {
 
     ghost use Rattle.std.specs.Prelude.{◌≡◌, length};
 
-    ghost invariant = { λ g. g.store.width ≡ length g.store.job.query.aggregates };
+    ghost invariant = { λ g. (g.columns ≡ g.store.job) × (g.store.width ≡ length g.store.job.query.aggregates) };
 }
 
 impl Groups {
-    /// The groups over no row of a job. They take no memory.
-    pub fn empty(alloc: Global, job: &Job) -> Groups
-        ensures stands { Stands result [] }
-        ensures job { AreOneJob result.job job.now }
-        ensures width { result.width ≡ length job.now.query.aggregates }
-        ensures counted { result.counted ≡ 0 }
+    /// The groups over no row of a job.
+    ///
+    /// # Errors
+    ///
+    /// Only where a growth was refused.
+    pub fn empty(alloc: Global, job: &Job) -> Result<Groups, AllocError>
+        ensures stands { IfOk result (λ g. Stands g []) }
+        ensures job { IfOk result (λ g. AreOneJob g.job job.now) }
+        ensures width { IfOk result (λ g. g.width ≡ length job.now.query.aggregates) }
+        ensures counted { IfOk result (λ g. g.counted ≡ 0) }
     {
-        Groups {
+        let columns = KeyColumns::of(alloc, job)?;
+        Ok(Groups {
             alloc,
+            columns,
             store: Store::new(alloc, job),
             key: GroupKey::new(alloc),
             more: Vec::new(alloc),
-        }
+        })
     }
 
     /// Adds a combination of rows of the groups' own job, as [`Job::probe`] gives it. Where an
@@ -85,7 +94,7 @@ impl Groups {
             self.store.add_over(fact_of(job, row));
             return Ok(());
         }
-        fill_key(self.alloc, job, row, parts.groups.as_slice(), &mut self.key)?;
+        self.columns.fill(row, &mut self.key)?;
         self.store
             .add_plain(self.alloc, &self.key, self.more.as_slice())?;
         Ok(())
@@ -109,6 +118,7 @@ impl Groups {
     {
         let Groups {
             alloc,
+            columns,
             store,
             key,
             more,
@@ -118,6 +128,7 @@ impl Groups {
             Err((store, refused)) => Err((
                 Groups {
                     alloc,
+                    columns,
                     store,
                     key,
                     more,
@@ -156,13 +167,20 @@ impl Groups {
         self.store.group_count()
     }
 
-    /// The key and the accumulators of a group, by its number from 0, or none beyond the last. Groups
-    /// stand in the order of their first rows.
-    pub fn group(&self, at: usize) -> Option<(&GroupKey, &Totals)>
-        ensures found { IsSome result ↔ (at < length self.now.entries) }
-        ensures entry { IfSome result (λ e. slice_get self.now.entries at ≡ Some (cells_in e.0.now, e.1.now)) }
+    /// The values of a group's key, and its accumulators, by the group's number from 0. Groups stand in
+    /// the order of their first rows.
+    ///
+    /// # Errors
+    ///
+    /// Only where a growth was refused.
+    pub fn group(&self, alloc: Global, at: usize) -> Result<(Vec<Value<'_>>, &Totals), AllocError>
+        requires { at < length self.now.entries }
+        ensures { IfOk result (λ e. slice_get self.now.entries at ≡ Some (map cell_of e.0.items, e.1.now)) }
     {
-        self.store.group(at)
+        let Some((key, totals)) = self.store.group(at) else {
+            unreachable!()
+        };
+        Ok((self.columns.spell(alloc, key)?, totals))
     }
 }
 

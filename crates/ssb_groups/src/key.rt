@@ -1,21 +1,31 @@
 // The key of a group.
 
 ghost use Rattle.std.specs.Prelude.{◌≡◌, [], IfOk};
-ghost use Rattle.ssb_groups.specs.Keys.{cells_in};
 
-use ssb_cells::OwnedValue;
 use std::alloc::{AllocError, Global};
 
-/// The values of the group columns, in their order.
+/// What stands for a value of a group column.
+#[derive(Clone, Copy, PartialEq, Eq, Hash)]
+pub(crate) enum KeyCell {
+    /// No value.
+    Null,
+    /// A number.
+    Number(i64),
+    /// A text, by its code in its column.
+    Code(u32),
+}
+
+/// What stands for the values of the group columns, in their order. Two keys of one job are equal
+/// exactly where their values are.
 #[derive(PartialEq, Eq, Hash, Drop)]
-pub struct GroupKey {
-    pub(crate) cells: Vec<OwnedValue>,
+pub(crate) struct GroupKey {
+    pub cells: Vec<KeyCell>,
 }
 
 impl GroupKey {
     // Of no column.
     pub(crate) fn new(alloc: Global) -> GroupKey
-        ensures { cells_in result ≡ [] }
+        ensures { result.cells.items ≡ [] }
     {
         GroupKey {
             cells: Vec::new(alloc),
@@ -24,19 +34,10 @@ impl GroupKey {
 
     // A copy for a new group.
     pub(crate) fn copy(&self, alloc: Global) -> Result<GroupKey, AllocError>
-        ensures { IfOk result (λ k. cells_in k ≡ cells_in self.now) }
+        ensures { IfOk result (λ k. k.cells.items ≡ self.now.cells.items) }
     {
         let mut cells = Vec::with_capacity(alloc, self.cells.len())?;
-        for cell in &self.cells {
-            cells.push(cell.copy(alloc)?)?;
-        }
+        cells.extend_from_slice(&self.cells)?;
         Ok(GroupKey { cells })
-    }
-
-    /// The values.
-    pub fn cells(&self) -> &[OwnedValue]
-        ensures { result.now ≡ self.now.cells.items }
-    {
-        self.cells.as_slice()
     }
 }

@@ -4,10 +4,11 @@
 #![tactic(auto)]
 
 pub mod accumulator;
+mod columns;
 mod evaluate;
 mod gather;
 pub mod groups;
-pub mod key;
+mod key;
 mod outcome;
 mod store;
 mod table;
@@ -15,5 +16,4 @@ pub mod totals;
 
 pub use accumulator::Accumulator;
 pub use groups::{Groups, any_order};
-pub use key::GroupKey;
 pub use totals::Totals;

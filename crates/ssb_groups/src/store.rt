@@ -2,7 +2,8 @@
 
 ghost use Rattle.std.specs.Prelude.{◌≡◌, ◌+◌, ◌<◌, ◌^◌, [], ◌++◌, ◌↔◌, List, length, Some, slice_get, IfErr, IfSome, OnOk, OnErr};
 ghost use Rattle.std.specs.Option.{IsSome};
-ghost use Rattle.ssb_groups.specs.Keys.{cells_in};
+ghost use Rattle.ssb_groups.specs.Keys.{IsKey, cells_in, key_columns};
+ghost use Rattle.ssb_job.specs.Kept.{AreOneJob};
 ghost use Rattle.ssb_groups.specs.Gathering.{AddsRow, IsOverAt, IsPlain};
 ghost use Rattle.ssb_groups.specs.Rows.{SeenRow};
 ghost use Rattle.ssb_groups.specs.Stands.{Stands, least_of};
@@ -30,7 +31,7 @@ pub(crate) struct Store {
 
 impl Model for Store {
     ghost use Rattle.indexmap.specs.IndexMap.{IsUnique};
-    ghost use Rattle.ssb_groups.specs.Keys.{entries_of};
+    ghost use Rattle.ssb_groups.specs.Keys.{AreKeys, entries_of, key_columns};
     ghost use Rattle.ssb_groups.specs.Stands.{GroupMap};
     ghost use Rattle.ssb_groups.specs.contracts.key.GroupKeyPartialEq.TheImpl as keys;
 
@@ -41,9 +42,9 @@ impl Model for Store {
 
     ghost coded = { Prim.hlevel (codes, job_type.the_row.coded) };
 
-    ghost view = { λ s. record { job = s.job.value; width = s.width; entries = entries_of s.table.entries; overflow = s.overflow; counted = s.counted } };
+    ghost view = { λ s. record { job = s.job.value; width = s.width; entries = entries_of (key_columns s.job.value) s.table.entries; overflow = s.overflow; counted = s.counted } };
 
-    ghost invariant = { λ s. IsUnique keys.eq-value.it s.table };
+    ghost invariant = { λ s. IsUnique keys.eq-value.it s.table × AreKeys (key_columns s.job.value) s.table.entries };
 }
 
 // The lesser of two numbers, either of which may be missing.
@@ -94,8 +95,9 @@ impl Store {
         key: &GroupKey,
         more: &[Accumulator],
     ) -> Result<(), AllocError>
-        requires { self.old.counted + 1 < 2 ^ 32 }
-        ensures stands { OnOk result (AddsRow (IsPlain self.old.width (cells_in key.now) more.now) self.old self.new) }
+        requires few { self.old.counted + 1 < 2 ^ 32 }
+        requires key { IsKey (key_columns self.old.job) key.now }
+        ensures stands { OnOk result (AddsRow (IsPlain self.old.width (cells_in (key_columns self.old.job) key.now) more.now) self.old self.new) }
         ensures job { OnOk result (self.new.job ≡ self.old.job) }
         ensures width { OnOk result (self.new.width ≡ self.old.width) }
         ensures counted { OnOk result (self.new.counted ≡ self.old.counted + 1) }
@@ -112,6 +114,7 @@ impl Store {
     // sum is asked for where a row overflowed, so the tables are joined only where none did.
     pub(crate) fn merge(&mut self, other: Store) -> Result<(), (Store, AllocError)>
         requires few { self.old.counted + other.counted < 2 ^ 32 }
+        requires one_job { AreOneJob self.old.job other.job }
         requires width { other.width ≡ self.old.width }
         ensures stands { OnOk result ((A B : List SeenRow) → Stands self.old A → Stands other B → Stands self.new (A ++ B)) }
         ensures job { self.new.job ≡ self.old.job }
@@ -157,9 +160,11 @@ impl Store {
         self.table.len()
     }
 
+    // The key and the totals of a group.
     pub(crate) fn group(&self, at: usize) -> Option<(&GroupKey, &Totals)>
         ensures found { IsSome result ↔ (at < length self.now.entries) }
-        ensures entry { IfSome result (λ e. slice_get self.now.entries at ≡ Some (cells_in e.0.now, e.1.now)) }
+        ensures key { IfSome result (λ e. IsKey (key_columns self.now.job) e.0.now) }
+        ensures entry { IfSome result (λ e. slice_get self.now.entries at ≡ Some (cells_in (key_columns self.now.job) e.0.now, e.1.now)) }
     {
         self.table.get_index(at)
     }

@@ -16,6 +16,9 @@ use Rattle.crossbeam_queue.specs.contracts.array_queue.Doing as Doing
 use Rattle.crossbeam_queue.specs.contracts.array_queue.Slotted as Slotted
 use Rattle.crossbeam_queue.specs.contracts.array_queue.Turns as Turns
 use Rattle.crossbeam_queue.specs.contracts.array_queue.TurnsTableRuleOptionDoingUnit.TheImpl as turns
+use Rattle.ssb_groups.specs.contracts.columns.KeyColumns as Columns
+use Rattle.ssb_groups.specs.contracts.columns.KeyColumns.TheInside as InColumns
+use Rattle.ssb_groups.specs.contracts.columns.Place as Place
 use Rattle.ssb_groups.specs.contracts.groups.Groups as Groups
 use Rattle.ssb_groups.specs.contracts.groups.Groups.TheInside as InGroups
 use Rattle.ssb_groups.specs.contracts.key.GroupKey as Key
@@ -32,7 +35,7 @@ use Rattle.ssb_pipeline.specs.contracts.parts.Parts as Parts
 use Rattle.ssb_pipeline.specs.contracts.parts.Parts.TheInside as InParts
 use Rattle.ssb_pipeline.specs.contracts.parts.PartsPass as PartsPass
 use Rattle.ssb_pipeline.specs.contracts.parts.PartsPass.TheInside as InPass
-use Rattle.ssb_pipeline.proofs.CrossingJobs.{job}
+use Rattle.ssb_pipeline.proofs.CrossingJobs.{job, tables}
 
 key_send : IsSend Key.the_row
 key_send = search (crosses, sendable) depth 20
@@ -53,9 +56,16 @@ store_send =
       ),
     ))
 
+place_send : IsSend Place.the_row
+place_send = search (crosses, sendable) depth 20
+
+columns_send : IsSend Columns.the_row
+columns_send =
+    view_send InColumns.the_row _ _ _ _ (declared_send InColumns.the_type (search (crosses, sendable) depth 20, (tables.0, (search (place_send, as_row_send, crosses, sendable) depth 20, tt))))
+
 groups_send : IsSend Groups.the_row
 groups_send =
-    view_send InGroups.the_row _ _ _ _ (declared_send InGroups.the_type (search (as_row_send, crosses, sendable) depth 20, (store_send, (key_send, (search (as_row_send, crosses, sendable) depth 20, tt)))))
+    view_send InGroups.the_row _ _ _ _ (declared_send InGroups.the_type (search (as_row_send, crosses, sendable) depth 20, (columns_send, (store_send, (key_send, (search (as_row_send, crosses, sendable) depth 20, tt))))))
 
 pub part_send : IsSend Part.the_row
 part_send =

@@ -2,6 +2,7 @@ pub mod Morsels
 pub mod Joined
 pub mod State
 pub mod Part
+pub mod Probed
 pub mod Marks
 pub mod Rule
 pub mod Pass

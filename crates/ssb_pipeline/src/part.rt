@@ -87,7 +87,7 @@ impl Part {
         let first = morsel_cut(morsels, sections, section);
         let end = morsel_cut(morsels, sections, section + 1);
         let marks = Vec::from_elem(alloc, false, (end - first) as usize)?;
-        let groups = Groups::empty(alloc, &job);
+        let groups = Groups::empty(alloc, &job)?;
         Ok(Part {
             alloc,
             job,

@@ -3,7 +3,7 @@ use Rattle.std.specs.Prelude.{replicate}
 use Rattle.std.specs.Int.{bit_at}
 use Rattle.std.proofs.lemmas.List.{get_or_default, take_all}
 use Rattle.std.proofs.lemmas.Nat.Bits.{bit_at_set_same, bit_at_set_other}
-use Rattle.ssb_cells.specs.Flags.{flag_at}
+use Rattle.ssb_cells.specs.Lent.{flag_at}
 use Rattle.ssb_cells.proofs.FlagFacts.{more-words, one-changed}
 use Rattle.ssb_cells.proofs.nulls.set_flag.Goals as goal
 use Rattle.ssb_cells.proofs.nulls.set_flag.Goals.{then-word-len+in_ok-resize, else-word-len}

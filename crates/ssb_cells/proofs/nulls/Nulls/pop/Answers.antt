@@ -1,6 +1,6 @@
 use Rattle.std.proofs.Common.{◌≡◌, ◌∙◌, ◌<◌, ◌+◌, ◌-◌, false, map, take, ap, arith}
 use Rattle.std.specs.List.{range_with_len}
-use Rattle.ssb_cells.specs.Flags.{flag_at}
+use Rattle.ssb_cells.specs.Lent.{flag_at}
 use Rattle.ssb_cells.proofs.FlagFacts.{length-flags, pop-flag}
 use Rattle.ssb_cells.proofs.nulls.Nulls.pop.Goals as goal
 

@@ -1,5 +1,5 @@
 use Rattle.std.proofs.Common.{◌≡◌, ◌<◌, ◌∙◌, nat_eq, if◌then◌else◌, sym, ap, arith}
-use Rattle.ssb_cells.specs.Flags.{flag_at}
+use Rattle.ssb_cells.specs.Lent.{flag_at}
 use Rattle.ssb_cells.specs.declared.nulls.Nulls.TheInside.{Inside}
 use Rattle.ssb_cells.proofs.FlagFacts.{Writes, length-flags, push-flag, unset}
 use Rattle.ssb_cells.proofs.nulls.Nulls.push.Goals as goal

@@ -17,8 +17,8 @@ invariant_of-result c =
     let free : (i : ℕ) → slice_get c.in_ok-marks.marks.items i ≡ Some true → ⊥ = free-all _ c.in_ok-marks.marks.items (c.in_ok-marks.ensures.items_if_clones_equal (λ b e. e)) in
     let bound : c.morsel_cut-end.result < 2 ^ 32 = search rules in
     let rows : fact_rows j < 2 ^ 32 = search rules in
-    let g = c.empty-groups.ensures in
-    opens j c.args.morsel_size c.args.section c.args.sections c.morsel_cut-first.result c.morsel_cut-end.result c.in_ok-marks.marks.items c.empty-groups.result (omega (arith, section)) begins ends many free bound rows g.stands (search rules) (search rules) g.counted
+    let g = c.in_ok-groups.ensures in
+    opens j c.args.morsel_size c.args.section c.args.sections c.morsel_cut-first.result c.morsel_cut-end.result c.in_ok-marks.marks.items c.in_ok-groups.groups (omega (arith, section)) begins ends many free bound rows g.stands (search rules) (search rules) g.counted
 
 pub returns-clause-opening : goal.returns-clause-opening
 returns-clause-opening c =
@@ -27,4 +27,4 @@ returns-clause-opening c =
 
 pub returns-clause-lawful : goal.returns-clause-lawful
 returns-clause-lawful c =
-    lawful-of (arc_value c.args.job) c.args.morsel_size c.args.section c.args.sections c.morsel_cut-first.result 0 0 c.in_ok-marks.marks.items false c.empty-groups.result (invariant_of-result c)
+    lawful-of (arc_value c.args.job) c.args.morsel_size c.args.section c.args.sections c.morsel_cut-first.result 0 0 c.in_ok-marks.marks.items false c.in_ok-groups.groups (invariant_of-result c)

@@ -1,6 +1,6 @@
 // Values that are kept.
 
-ghost use Rattle.std.specs.Prelude.{◌≡◌, IfOk, OnOk};
+ghost use Rattle.std.specs.Prelude.{◌≡◌, IfOk};
 ghost use Rattle.ssb_cells.specs.Values.{cell_of, owned_cell};
 
 use crate::value::Value;
@@ -27,28 +27,6 @@ impl OwnedValue {
             Value::Int(number) => Ok(OwnedValue::Number(number)),
             Value::Text(text) => Ok(OwnedValue::Text(String::from_str(alloc, text)?)),
         }
-    }
-
-    /// Becomes a value; a text takes the room of the one before. A refused growth leaves another
-    /// value, or a part of this one's text.
-    pub fn set(&mut self, alloc: Global, value: Value<'_>) -> Result<(), AllocError>
-        ensures { OnOk result (owned_cell self.new ≡ cell_of value.entry) }
-    {
-        if let OwnedValue::Text(text) = self {
-            if let Value::Text(new) = value {
-                text.clear();
-                return text.push_str(new);
-            }
-        }
-        *self = OwnedValue::of(alloc, value)?;
-        Ok(())
-    }
-
-    /// A copy.
-    pub fn copy(&self, alloc: Global) -> Result<OwnedValue, AllocError>
-        ensures { IfOk result (λ c. owned_cell c ≡ owned_cell self.now) }
-    {
-        OwnedValue::of(alloc, self.value())
     }
 
     /// The value.

@@ -37,14 +37,14 @@ length-with texts (text t) = by (list_any (bytes_eq t) texts) refl
     by true e = rw (with-known texts t e) (omega arith)
     by false e = let n = length-append texts (t ∷ []) in rw (with-new texts t e) (omega arith)
 
-pub length-texts : (values : List Cell) → length (texts_of values) ≤ length values
-length-texts values = let n = more [] values in omega (arith, n)
-  where
-    more : (texts : List (List ℕ)) (values : List Cell) → length (fold with_text texts values) ≤ length texts + length values
-    more texts [] = omega arith
-    more texts (v ∷ values) = let one = length-with texts v in let rest = more (with_text texts v) values in omega (arith, one, rest)
+pub length-fold : (texts : List (List ℕ)) (values : List Cell) → length (fold with_text texts values) ≤ length texts + length values
+length-fold texts [] = omega arith
+length-fold texts (v ∷ values) = let one = length-with texts v in let rest = length-fold (with_text texts v) values in omega (arith, one, rest)
 
-same : (a b : List ℕ) → bytes_eq a b ≡ true → a ≡ b
+pub length-texts : (values : List Cell) → length (texts_of values) ≤ length values
+length-texts values = let n = length-fold [] values in omega (arith, n)
+
+pub same : (a b : List ℕ) → bytes_eq a b ≡ true → a ≡ b
 same a b e = (bytes_decides a b).0 e
 
 -- a list has a text exactly where its first place is in the list
@@ -158,7 +158,7 @@ any-from texts (text u) t e = by (list_any (bytes_eq u) texts) refl
     by false h = ⊎_elim inl (λ last. inr (ap text (sym (same t u (single (bytes_eq t u) last)))))
         (or_cases (list_any (bytes_eq t) texts) _ (sym (list_any-append (bytes_eq t) texts (u ∷ [])) ∙ ap (list_any (bytes_eq t)) (sym (with-new texts u h)) ∙ e))
 
-any-kept : (texts : List (List ℕ)) (c : Cell) (t : List ℕ) → list_any (bytes_eq t) texts ≡ true → list_any (bytes_eq t) (with_text texts c) ≡ true
+pub any-kept : (texts : List (List ℕ)) (c : Cell) (t : List ℕ) → list_any (bytes_eq t) texts ≡ true → list_any (bytes_eq t) (with_text texts c) ≡ true
 any-kept texts null t e = e
 any-kept texts (number n) t e = e
 any-kept texts (text u) t e = by (list_any (bytes_eq u) texts) refl
@@ -167,8 +167,12 @@ any-kept texts (text u) t e = by (list_any (bytes_eq u) texts) refl
     by true h = rw (with-known texts u h) e
     by false h = rw (with-new texts u h) (list_any-append (bytes_eq t) texts (u ∷ []) ∙ ap (λ b. b || list_any (bytes_eq t) (u ∷ [])) e)
 
-any-own : (texts : List (List ℕ)) (t : List ℕ) → list_any (bytes_eq t) (with_text texts (text t)) ≡ true
+pub any-own : (texts : List (List ℕ)) (t : List ℕ) → list_any (bytes_eq t) (with_text texts (text t)) ≡ true
 any-own texts t = let p = own-code texts t in list_any_at (bytes_eq t) (with_text texts (text t)) (position_or_len (bytes_eq t) texts) [] p.0 (ap (bytes_eq t) p.1 ∙ nat_list_eq_equiv.refl t)
+
+pub stays : (t : List ℕ) (texts : List (List ℕ)) (values : List Cell) → list_any (bytes_eq t) texts ≡ true → list_any (bytes_eq t) (fold with_text texts values) ≡ true
+stays t texts [] e = e
+stays t texts (v ∷ values) e = stays t (with_text texts v) values (any-kept texts v t e)
 
 pub among : (values : List Cell) (t : List ℕ) → (list_any (bytes_eq t) (texts_of values) ≡ true) ↔ Contains values (text t)
 among values t = (λ e. ⊎_elim (λ none. absurd (true≢false (sym none))) (λ c. c) (from [] values e), to [] values)
@@ -177,11 +181,7 @@ among values t = (λ e. ⊎_elim (λ none. absurd (true≢false (sym none))) (λ
     from texts [] e = inl e
     from texts (v ∷ values) e = ⊎_elim (λ more. ⊎_elim inl (λ at. inr (0, omega arith, at)) (any-from texts v t more)) (λ c. inr (suc c.0, omega arith, c.2)) (from (with_text texts v) values e)
 
-    stays : (texts : List (List ℕ)) (values : List Cell) → list_any (bytes_eq t) texts ≡ true → list_any (bytes_eq t) (fold with_text texts values) ≡ true
-    stays texts [] e = e
-    stays texts (v ∷ values) e = stays (with_text texts v) values (any-kept texts v t e)
-
     to : (texts : List (List ℕ)) (values : List Cell) → Contains values (text t) → list_any (bytes_eq t) (fold with_text texts values) ≡ true
     to texts [] (k, lt, e) = absurd (omega arith)
-    to texts (v ∷ values) (zero, lt, e) = stays (with_text texts v) values (ap (λ c. list_any (bytes_eq t) (with_text texts c)) e ∙ any-own texts t)
+    to texts (v ∷ values) (zero, lt, e) = stays t (with_text texts v) values (ap (λ c. list_any (bytes_eq t) (with_text texts c)) e ∙ any-own texts t)
     to texts (v ∷ values) (suc k, lt, e) = to (with_text texts v) values (k, omega arith, e)

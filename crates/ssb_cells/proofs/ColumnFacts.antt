@@ -56,7 +56,7 @@ below-at n (b ∷ bs) (c ∷ cs) zero below at lt = below.0 (same_Some b false a
 below-at n (b ∷ bs) (c ∷ cs) (suc i) below at lt = below-at n bs cs i below.1 at (omega arith)
 
 -- where texts get one more, each code spells what it did
-stay : (texts : List (List ℕ)) (v : Cell) (bs : List Bool) (codes : List ℕ) → AreBelow (length texts) bs codes
+pub stay : (texts : List (List ℕ)) (v : Cell) (bs : List Bool) (codes : List ℕ) → AreBelow (length texts) bs codes
     → AreBelow (length (with_text texts v)) bs codes × (cells_by (spelt (with_text texts v)) bs codes ≡ cells_by (spelt texts) bs codes)
 stay texts v [] codes below = (tt, refl)
 stay texts v (b ∷ bs) [] below = (tt, refl)

@@ -113,3 +113,28 @@ clear-popped words after n w clear i from = elim (cases_eq i n) [
   | inl same ↦ w i ∙ ap (λ t. if t then false else flag_at words i) (eq-eqb i n same)
   | inr apart ↦ w i ∙ ap (λ t. if t then false else flag_at words i) (ne_eqb i n apart) ∙ clear i (omega (arith, from, apart))
 ]
+
+-- ---- flags that are not set
+
+module _ (words : List ℕ) where
+  unset-from : (a n : ℕ) → ((i : ℕ) → a ≤ i → flag_at words i ≡ false) → map (flag_at words) (range_with_len a n) ≡ replicate n false
+  unset-from a zero clear = refl
+  unset-from a (suc n) clear = rw (clear a (omega arith)) (ap (λ bs. false ∷ bs) (unset-from (a + 1) n (λ i from. clear i (omega (arith, from)))))
+
+  split-flags : (a m n : ℕ) → map (flag_at words) (range_with_len a (m + n)) ≡ map (flag_at words) (range_with_len a m) ++ map (flag_at words) (range_with_len (a + m) n)
+  split-flags a zero n =
+      let e : zero + n ≡ n = omega arith in
+      let same : a ≡ a + zero = omega arith in
+      ap (λ k. map (flag_at words) (range_with_len a k)) e ∙ ap (λ k. map (flag_at words) (range_with_len k n)) same
+  split-flags a (suc m) n =
+      let e : suc m + n ≡ suc (m + n) = omega arith in
+      let same : a + 1 + m ≡ a + suc m = omega arith in
+      ap (λ k. map (flag_at words) (range_with_len a k)) e ∙ ap (λ bs. flag_at words a ∷ bs) (split-flags (a + 1) m n ∙ ap (λ k. map (flag_at words) (range_with_len (a + 1) m) ++ map (flag_at words) (range_with_len k n)) same)
+
+-- a list that gets flags behind its words has them unset
+pub skip-flags : (words : List ℕ) (len n : ℕ) → ((i : ℕ) → len ≤ i → flag_at words i ≡ false) → map (flag_at words) (range_with_len 0 (len + n)) ≡ map (flag_at words) (range_with_len 0 len) ++ replicate n false
+skip-flags words len n clear = split-flags words 0 len n ∙ ap (λ bs. map (flag_at words) (range_with_len 0 len) ++ bs) (unset-from words (0 + len) n (λ i from. clear i (omega (arith, from))))
+
+-- and without words all are
+pub all-unset : (words : List ℕ) (len : ℕ) → words ≡ [] → map (flag_at words) (range_with_len 0 len) ≡ replicate len false
+all-unset words len none = unset-from words 0 len (λ i from. ap (λ ws. flag_at ws i) none ∙ no-flag i)

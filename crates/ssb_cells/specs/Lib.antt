@@ -2,12 +2,14 @@ pub mod Cell
 pub mod Codes
 pub mod Compare
 pub mod Flags
+pub mod Joined
 pub mod Keywords
 pub mod Lent
 pub mod Names
 pub mod Narrow
 pub mod NarrowCodes
 pub mod Order
+pub mod Parts
 pub mod Spelling
 pub mod Stored
 pub mod Tables

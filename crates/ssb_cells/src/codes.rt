@@ -1,10 +1,12 @@
 // Codes of texts, in as few bytes as the greatest of them needs.
 
-ghost use Rattle.std.specs.Prelude.{◌≡◌, ◌<◌, ◌-◌, List, [], ◌∷◌, ◌++◌, length, true, if◌then◌else◌, IfOk, OnOk, OnErr, slice_get, Some, take};
+ghost use Rattle.std.specs.Prelude.{◌≡◌, ◌<◌, ◌-◌, List, [], ◌∷◌, ◌++◌, length, true, if◌then◌else◌, IfOk, OnOk, OnErr, slice_get, Some, take, map, get_or};
+ghost use Rattle.ssb_cells.specs.Joined.{recoded};
 ghost use Rattle.ssb_cells.specs.Lent.{codes_in};
 ghost use Rattle.ssb_cells.specs.NarrowCodes.{codes_of, left};
 
 use crate::lent::CodeSlice;
+use crate::width::Width;
 use std::alloc::{AllocError, Global};
 use std::marker::Model;
 
@@ -77,6 +79,38 @@ fn try_add(packed: &mut Packed, code: u32) -> Result<bool, AllocError>
     Ok(true)
 }
 
+// No code yet, in this width, with memory for so many. No code asks for eight bytes.
+fn with_room(alloc: Global, width: Width, room: usize) -> Result<Packed, AllocError>
+    ensures { IfOk result (λ p. codes_of p ≡ []) }
+{
+    match width {
+        Width::One => Ok(Packed::One(Vec::with_capacity(alloc, room)?)),
+        Width::Two => Ok(Packed::Two(Vec::with_capacity(alloc, room)?)),
+        Width::Four | Width::Eight => Ok(Packed::Four(Vec::with_capacity(alloc, room)?)),
+    }
+}
+
+// Asks for memory for so many more.
+fn make_room(packed: &mut Packed, additional: usize) -> Result<(), AllocError>
+    ensures { codes_of packed.new ≡ codes_of packed.old }
+{
+    match packed {
+        Packed::One(codes) => codes.reserve_exact(additional),
+        Packed::Two(codes) => codes.reserve_exact(additional),
+        Packed::Four(codes) => codes.reserve_exact(additional),
+    }
+}
+
+// What a table has for a code, or 0, as for that of a null where there is no text at all.
+fn recode(table: &[u32], code: u32) -> u32
+    ensures { result ≡ recoded table.now code }
+{
+    match table.get(code as usize) {
+        Some(new) => *new,
+        None => 0,
+    }
+}
+
 impl Codes {
     /// No code.
     pub fn new(alloc: Global) -> Codes
@@ -88,6 +122,26 @@ impl Codes {
         }
     }
 
+    /// How many codes there are.
+    pub fn len(&self) -> usize
+        ensures { result ≡ length self.now }
+    {
+        match &self.packed {
+            Packed::One(codes) => codes.len(),
+            Packed::Two(codes) => codes.len(),
+            Packed::Four(codes) => codes.len(),
+        }
+    }
+
+    /// In how many bytes each is kept.
+    pub(crate) fn width(&self) -> Width {
+        match self.packed {
+            Packed::One(_) => Width::One,
+            Packed::Two(_) => Width::Two,
+            Packed::Four(_) => Width::Four,
+        }
+    }
+
     /// Adds a code at the end, and widens all where it asks for more bytes. An `Err` changes nothing.
     pub fn push(&mut self, code: u32) -> Result<(), AllocError>
         ensures ok { OnOk result (self.new ≡ self.old ++ code ∷ []) }
@@ -95,6 +149,36 @@ impl Codes {
     {
         while !try_add(&mut self.packed, code)? {
             self.packed = widened(self.alloc, &self.packed)?;
+        }
+        Ok(())
+    }
+
+    /// Asks for memory for so many more codes, each in this width at least. The codes stay.
+    pub(crate) fn reserve(&mut self, width: Width, additional: usize) -> Result<(), AllocError>
+        ensures { self.new ≡ self.old }
+    {
+        if width <= self.width() {
+            return make_room(&mut self.packed, additional);
+        }
+        let room = self.len().saturating_add(additional);
+        let mut wider = Codes {
+            alloc: self.alloc,
+            packed: with_room(self.alloc, width, room)?,
+        };
+        for i in 0..self.len() {
+            wider.push(self.get(i))?;
+        }
+        self.packed = wider.packed;
+        Ok(())
+    }
+
+    /// Adds all codes of another list at the end, each as a table has it. An `Err` leaves the first of
+    /// them added.
+    pub fn append(&mut self, other: &Codes, table: &[u32]) -> Result<(), AllocError>
+        ensures { OnOk result (self.new ≡ self.old ++ map (recoded table.now) other.now) }
+    {
+        for i in 0..other.len() {
+            self.push(recode(table, other.get(i)))?;
         }
         Ok(())
     }

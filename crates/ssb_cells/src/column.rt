@@ -1,9 +1,10 @@
 // A column: its type, and its values in order.
 
-ghost use Rattle.std.specs.Prelude.{◌≡◌, ◌<◌, ◌↔◌, ℕ, List, [], ◌∷◌, ◌++◌, length, Contains, OnOk, OnErr, IfOk, slice_get, None, Some, ◌==◌};
+ghost use Rattle.std.specs.Prelude.{◌≡◌, ◌<◌, ◌≤◌, ◌+◌, ◌↔◌, ℕ, List, [], ◌∷◌, ◌++◌, length, Contains, OnOk, OnErr, IfOk, slice_get, None, Some, ◌==◌};
 ghost use Rattle.std.specs.Option.{IsSome};
 ghost use Rattle.ssb_cells.specs.Cell.{Cell, Filled, null, text};
 ghost use Rattle.ssb_cells.specs.Codes.{code_at, code_of, texts_of};
+ghost use Rattle.ssb_cells.specs.Joined.{HasRoomFor, IsJoined};
 ghost use Rattle.ssb_cells.specs.Lent.{AreCodes, AreNulls, AreNumbers, codes_in, numbers_in};
 ghost use Rattle.ssb_cells.specs.Stored.{HasRoom, kind_of, with_value};
 ghost use Rattle.ssb_cells.specs.Values.{cell_of, IsOfType};
@@ -15,6 +16,7 @@ use crate::nulls::Nulls;
 use crate::numbers::Numbers;
 use crate::texts::Texts;
 use crate::value::{ColType, Value};
+use crate::width::Width;
 use std::alloc::{AllocError, Global};
 use std::marker::Model;
 
@@ -57,6 +59,22 @@ fn store(stored: &mut Stored, value: Value<'_>) -> Result<(), AllocError>
     match stored {
         Stored::Int(numbers) => numbers.push(value.number()),
         Stored::Text(texts) => texts.push(value),
+    }
+}
+
+// Adds what another of the same type stores, with memory for so many rows asked for before. An `Err`
+// leaves some of it added.
+fn append(stored: &mut Stored, other: &Stored, width: Width, rows: usize) -> Result<(), AllocError>
+    requires kind { kind_of other.now ≡ kind_of stored.old }
+    requires room { HasRoomFor stored.old other.now }
+    ensures { OnOk result (IsJoined stored.old other.now stored.new) }
+{
+    match stored {
+        Stored::Int(numbers) => {
+            numbers.reserve(width, rows)?;
+            numbers.append(numbers_in(other))
+        }
+        Stored::Text(texts) => texts.append(texts_in(other), width, rows),
     }
 }
 
@@ -112,6 +130,31 @@ impl Column {
                 Err(refused)
             }
         }
+    }
+
+    /// The values of this column and then those of another of its type. Memory for `rows` more, each in
+    /// this width at least, is asked for once; an empty column is left for the other one. On an `Err` both
+    /// are gone.
+    pub(crate) fn append(
+        self,
+        other: Column,
+        width: Width,
+        rows: usize,
+    ) -> Result<Column, AllocError>
+        requires of_type { other.kind ≡ self.kind }
+        requires room { length self.values + length other.values ≤ 4294967295 }
+        ensures { IfOk result (λ c. c ≡ record self { values = self.values ++ other.values }) }
+    {
+        if self.is_empty() {
+            return Ok(other);
+        }
+        let Column {
+            mut nulls,
+            mut stored,
+        } = self;
+        nulls.append(&other.nulls)?;
+        append(&mut stored, &other.stored, width, rows)?;
+        Ok(Column { nulls, stored })
     }
 
     /// The value of a row, counted from 0.
@@ -186,6 +229,14 @@ impl Column {
         ensures { AreNulls self.now.values result.now }
     {
         self.nulls.words()
+    }
+
+    /// In how many bytes each number or code is kept.
+    pub(crate) fn width(&self) -> Width {
+        match &self.stored {
+            Stored::Int(numbers) => numbers.width(),
+            Stored::Text(texts) => texts.codes.width(),
+        }
     }
 
     /// The type of its values.

@@ -1,10 +1,11 @@
 // Different texts, and the place of each.
 
-ghost use Rattle.std.specs.Prelude.{◌≡◌, ◌<◌, [], length, position, is_some, OnOk, OnErr, slice_get, Some};
-ghost use Rattle.std.specs.List.{list_any};
+ghost use Rattle.std.specs.Prelude.{◌≡◌, ◌<◌, ◌+◌, ◌≤◌, [], length, position, is_some, IfOk, OnOk, OnErr, slice_get, Some};
+ghost use Rattle.std.specs.List.{list_any, position_or_len};
 ghost use Rattle.std.specs.Str.{bytes_eq};
 ghost use Rattle.ssb_cells.specs.Cell.{text};
 ghost use Rattle.ssb_cells.specs.Codes.{with_text};
+ghost use Rattle.ssb_cells.specs.Joined.{Recodes, with_texts};
 
 use indexmap::IndexSet;
 use std::alloc::{AllocError, Global};
@@ -78,5 +79,33 @@ impl Dictionary {
         let text = String::from_str(self.alloc, letters)?;
         self.texts.insert(text)?;
         Ok(())
+    }
+
+    // The place of a text, which is put behind the others where it is not among them.
+    fn place_of(&mut self, letters: &str) -> Result<u32, AllocError>
+        requires { length self.old < 4294967295 }
+        ensures texts { OnOk result (self.new ≡ with_text self.old (text letters.now)) }
+        ensures place { IfOk result (λ place. place ≡ position_or_len (bytes_eq letters.now) self.old) }
+    {
+        if let Some(place) = self.find(letters) {
+            return Ok(place);
+        }
+        let place = self.len();
+        self.add(letters)?;
+        Ok(place)
+    }
+
+    /// Puts the texts of another dictionary behind the others, each where it is not among them, and gives
+    /// the place here of each. An `Err` leaves some of them added.
+    pub fn add_all(&mut self, other: &Dictionary) -> Result<Vec<u32>, AllocError>
+        requires { length self.old + length other.now ≤ 4294967295 }
+        ensures texts { OnOk result (self.new ≡ with_texts self.old other.now) }
+        ensures places { IfOk result (λ places. Recodes places.items other.now self.new) }
+    {
+        let mut places = Vec::with_capacity(self.alloc, other.len() as usize)?;
+        for place in 0..other.len() {
+            places.push(self.place_of(other.spelt(place))?)?;
+        }
+        Ok(places)
     }
 }

@@ -1,6 +1,6 @@
 // Which values of a list are null, a bit each.
 
-ghost use Rattle.std.specs.Prelude.{◌≡◌, ◌↔◌, ◌<◌, ◌-◌, ◌==◌, ℕ, [], ◌∷◌, ◌++◌, length, true, false, if◌then◌else◌, OnOk, OnErr, slice_get, Some, take};
+ghost use Rattle.std.specs.Prelude.{◌≡◌, ◌↔◌, ◌<◌, ◌-◌, ◌+◌, ◌≤◌, ◌==◌, ℕ, [], ◌∷◌, ◌++◌, length, true, false, if◌then◌else◌, OnOk, OnErr, slice_get, Some, take, replicate};
 ghost use Rattle.ssb_cells.specs.Lent.{flag_at};
 
 use crate::lent::flag_at;
@@ -78,6 +78,37 @@ impl Nulls {
             set_flag(&mut self.words, self.len)?;
         }
         self.len += 1;
+        Ok(())
+    }
+
+    // Whether no flag is set.
+    fn is_clear(&self) -> bool
+        ensures { result ≡ true → self.now ≡ replicate (length self.now) false }
+    {
+        self.words.is_empty()
+    }
+
+    // Adds so many flags that are not set.
+    fn skip(&mut self, count: u32)
+        requires { length self.old + count ≤ 4294967295 }
+        ensures { self.new ≡ self.old ++ replicate count false }
+    {
+        self.len += count;
+    }
+
+    /// Adds all flags of another list at the end. Where none of those is set they are only counted. An
+    /// `Err` leaves the first of them added.
+    pub fn append(&mut self, other: &Nulls) -> Result<(), AllocError>
+        requires { length self.old + length other.now ≤ 4294967295 }
+        ensures { OnOk result (self.new ≡ self.old ++ other.now) }
+    {
+        if other.is_clear() {
+            self.skip(other.len());
+            return Ok(());
+        }
+        for place in 0..other.len() {
+            self.push(other.get(place))?;
+        }
         Ok(())
     }
 

@@ -5,6 +5,7 @@ ghost use Rattle.ssb_cells.specs.Lent.{numbers_in};
 ghost use Rattle.ssb_cells.specs.Narrow.{left, numbers_of};
 
 use crate::lent::NumberSlice;
+use crate::width::Width;
 use std::alloc::{AllocError, Global};
 use std::marker::Model;
 
@@ -89,6 +90,44 @@ fn try_add(kept: &mut Kept, number: i64) -> Result<bool, AllocError>
     Ok(true)
 }
 
+// No number yet, in this width, with memory for so many.
+fn with_room(alloc: Global, width: Width, room: usize) -> Result<Kept, AllocError>
+    ensures { IfOk result (λ k. numbers_of k ≡ []) }
+{
+    match width {
+        Width::One => Ok(Kept::One(Vec::with_capacity(alloc, room)?)),
+        Width::Two => Ok(Kept::Two(Vec::with_capacity(alloc, room)?)),
+        Width::Four => Ok(Kept::Four(Vec::with_capacity(alloc, room)?)),
+        Width::Eight => Ok(Kept::Eight(Vec::with_capacity(alloc, room)?)),
+    }
+}
+
+// Asks for memory for so many more.
+fn make_room(kept: &mut Kept, additional: usize) -> Result<(), AllocError>
+    ensures { numbers_of kept.new ≡ numbers_of kept.old }
+{
+    match kept {
+        Kept::One(numbers) => numbers.reserve_exact(additional),
+        Kept::Two(numbers) => numbers.reserve_exact(additional),
+        Kept::Four(numbers) => numbers.reserve_exact(additional),
+        Kept::Eight(numbers) => numbers.reserve_exact(additional),
+    }
+}
+
+// Adds numbers of the same width, all in one copy, and none of another.
+fn add_alike(kept: &mut Kept, numbers: NumberSlice<'_>) -> Result<bool, AllocError>
+    ensures { IfOk result (λ added. numbers_of kept.new ≡ (if added then numbers_of kept.old ++ numbers_in numbers.entry else numbers_of kept.old)) }
+{
+    match (kept, numbers) {
+        (Kept::One(to), NumberSlice::One(from)) => to.extend_from_slice(from)?,
+        (Kept::Two(to), NumberSlice::Two(from)) => to.extend_from_slice(from)?,
+        (Kept::Four(to), NumberSlice::Four(from)) => to.extend_from_slice(from)?,
+        (Kept::Eight(to), NumberSlice::Eight(from)) => to.extend_from_slice(from)?,
+        _ => return Ok(false),
+    }
+    Ok(true)
+}
+
 impl Numbers {
     /// No number.
     pub fn new(alloc: Global) -> Numbers
@@ -119,6 +158,45 @@ impl Numbers {
     {
         while !try_add(&mut self.kept, number)? {
             self.kept = widened(self.alloc, &self.kept)?;
+        }
+        Ok(())
+    }
+
+    /// In how many bytes each is kept.
+    pub(crate) fn width(&self) -> Width {
+        match self.kept {
+            Kept::One(_) => Width::One,
+            Kept::Two(_) => Width::Two,
+            Kept::Four(_) => Width::Four,
+            Kept::Eight(_) => Width::Eight,
+        }
+    }
+
+    /// Asks for memory for so many more numbers, each in this width at least. The numbers stay.
+    pub(crate) fn reserve(&mut self, width: Width, additional: usize) -> Result<(), AllocError>
+        ensures { self.new ≡ self.old }
+    {
+        if width <= self.width() {
+            return make_room(&mut self.kept, additional);
+        }
+        let room = self.len().saturating_add(additional);
+        let mut wider = Numbers {
+            alloc: self.alloc,
+            kept: with_room(self.alloc, width, room)?,
+        };
+        wider.append(self)?;
+        self.kept = wider.kept;
+        Ok(())
+    }
+
+    /// Adds all numbers of another list at the end. An `Err` leaves the first of them added.
+    pub fn append(&mut self, other: &Numbers) -> Result<(), AllocError>
+        ensures { OnOk result (self.new ≡ self.old ++ other.now) }
+    {
+        if !add_alike(&mut self.kept, other.as_slice())? {
+            for i in 0..other.len() {
+                self.push(other.get(i))?;
+            }
         }
         Ok(())
     }

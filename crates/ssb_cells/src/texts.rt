@@ -1,14 +1,16 @@
 // The texts of a column, as codes of a dictionary.
 
-ghost use Rattle.std.specs.Prelude.{◌≡◌, ◌<◌, ◌≤◌, [], ◌∷◌, ◌++◌, length, get_or, OnOk, OnErr};
+ghost use Rattle.std.specs.Prelude.{◌≡◌, ◌<◌, ◌≤◌, ◌+◌, [], ◌∷◌, ◌++◌, length, get_or, OnOk, OnErr};
 ghost use Rattle.ssb_cells.specs.Cell.{text};
 ghost use Rattle.ssb_cells.specs.Codes.{with_text};
+ghost use Rattle.ssb_cells.specs.Joined.{AreJoined};
 ghost use Rattle.ssb_cells.specs.Stored.{code_for};
 ghost use Rattle.ssb_cells.specs.Values.{cell_of};
 
 use crate::codes::Codes;
 use crate::dictionary::Dictionary;
 use crate::value::Value;
+use crate::width::Width;
 use std::alloc::{AllocError, Global};
 
 /// The code of each value, and the texts that have one. Where a value is null, a 0 stands for it.
@@ -61,6 +63,24 @@ impl Texts {
             Some(code) => self.codes.push(code),
             None => self.push_new(letters),
         }
+    }
+
+    /// Adds the codes of other texts, and the texts that are new. It looks for each text of the other
+    /// dictionary, and for none of a row. Before it adds codes it asks for memory for `rows` of them, each
+    /// in this width or in the one that all texts need. An `Err` leaves some of it added.
+    pub(crate) fn append(
+        &mut self,
+        other: &Texts,
+        width: Width,
+        rows: usize,
+    ) -> Result<(), AllocError>
+        requires { length self.old.dictionary + length other.now.dictionary ≤ 4294967295 }
+        ensures { OnOk result (AreJoined self.old other.now self.new) }
+    {
+        let places = self.dictionary.add_all(&other.dictionary)?;
+        let width = width.max(Width::of_codes(self.dictionary.len()));
+        self.codes.reserve(width, rows)?;
+        self.codes.append(&other.codes, places.as_slice())
     }
 
     // The text of a row that is no null.

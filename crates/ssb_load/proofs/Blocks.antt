@@ -225,3 +225,7 @@ records-of-append a b lf =
 pub no-records : records_of [] ≡ []
 unfolding strip_bom records_from next_record
 no-records = refl
+
+-- a line feed alone is no record
+pub no-lines : records_of (10 ∷ []) ≡ []
+no-lines = ap (records bar_config) (strip-lf []) ∙ line-alone

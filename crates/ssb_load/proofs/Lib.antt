@@ -1,3 +1,5 @@
+mod AssemblyFacts
+mod AssemblyLines
 pub mod Blocks
 pub mod BuiltInFacts
 pub mod CatalogFaults
@@ -13,16 +15,21 @@ pub mod FieldFacts
 pub mod GroupFacts
 mod Handing
 pub mod HoldsFacts
+pub mod JoinedFacts
 mod KeyFacts
 pub mod LawfulFacts
 mod Left
 pub mod LineFacts
+mod LaneFacts
 mod LineRecords
 pub mod ListFacts
 mod LoadingAll
 mod Looking
+mod MovedFacts
 pub mod NumberFacts
 pub mod OneKey
+mod PartReading
+mod PartTaking
 pub mod PlaceFacts
 pub mod Reading
 pub mod RuleFacts

@@ -1,3 +1,4 @@
+pub mod Assembly
 pub mod BuiltIn
 pub mod Catalog
 pub mod CatalogIntake
@@ -7,12 +8,18 @@ pub mod Drafting
 pub mod Files
 pub mod Giving
 pub mod Intake
+pub mod Joined
+pub mod JoinedLaws
+pub mod Lane
+pub mod Lanes
 pub mod Lawful
 pub mod Lines
 pub mod Listing
 pub mod Loader
 pub mod Loading
+pub mod Moved
 pub mod Numbers
+pub mod Part
 pub mod Pieces
 pub mod Records
 pub mod Rules

@@ -41,7 +41,7 @@ pub(crate) trait Intake {
 }
 
 // Takes the records of a text, with these bytes before it.
-fn take_text<T: Intake>(
+pub(crate) fn take_text<T: Intake>(
     alloc: Global,
     before: &[u8],
     text: &[u8],

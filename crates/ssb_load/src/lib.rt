@@ -7,6 +7,7 @@
 #![tactic(auto)]
 
 mod all_tables;
+mod assembly;
 mod bars;
 mod benchmark;
 mod built_in;
@@ -18,9 +19,14 @@ pub mod fault;
 mod field;
 pub mod history;
 mod intake;
+pub mod joined;
 mod judge;
+mod lane;
+mod lanes;
 mod loader;
+mod moved;
 mod number;
+mod part;
 mod pieces;
 mod read_catalog;
 mod read_table;
@@ -35,6 +41,7 @@ pub use bars::bar_reader;
 pub use catalog::{Catalog, ColumnDef, TableDef};
 pub use fault::{CatalogFault, FileFault, LoadFault, RecordFault};
 pub use history::History;
+pub use joined::Joined;
 pub use read_table::{PIECE_SIZE, load, load_from, load_in_pieces};
 pub use reader::In;
 pub use rule::{Role, Rule};

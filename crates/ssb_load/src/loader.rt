@@ -129,6 +129,12 @@ impl Loader {
         Table::new(self.columns)
     }
 
+    pub(crate) fn into_columns(self) -> Vec<Column>
+        ensures { result ≡ self.columns }
+    {
+        self.columns
+    }
+
     // Takes one more record after so many good ones, or says why not.
     pub(crate) fn accept(
         &mut self,

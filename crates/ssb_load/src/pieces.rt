@@ -1,7 +1,7 @@
 // The pieces of a source's bytes.
 
 ghost use Rattle.std.specs.Prelude.{◌≡◌, ◌+◌, ◌≤◌, ◌<◌, ◌++◌, [], length, take, drop, true, false, vec_len, OnOk, OnErr, IfOk, IfNone, IfSome};
-ghost use Rattle.ssb_load.specs.Lines.{EndsInLf, IsPartOfLine};
+ghost use Rattle.ssb_load.specs.Lines.{EndsInLf, IsCutAtLf, IsPartOfLine};
 
 use crate::history::History;
 use crate::source::Source;
@@ -75,12 +75,31 @@ fn last_line(bytes: &[u8]) -> Option<usize>
     ensures inside { IfSome result (λ end. end ≤ length bytes.now) }
     ensures some { IfSome result (λ end. 0 < end) }
     ensures lines { IfSome result (λ end. EndsInLf (take end bytes.now)) }
+    ensures rest { IfSome result (λ end. IsPartOfLine (drop end bytes.now)) }
     ensures none { IfNone result (IsPartOfLine bytes.now) }
 {
     match memrchr(LF, bytes) {
         Some(at) => Some(at + 1),
         None => None,
     }
+}
+
+// The place behind the last whole line of a text.
+fn lines_end(text: &[u8]) -> usize
+    ensures inside { result ≤ length text.now }
+    ensures cut { IsCutAtLf text.now (take result text.now) (drop result text.now) }
+{
+    match last_line(text) {
+        Some(end) => end,
+        None => 0,
+    }
+}
+
+// The whole lines of a text, and the part of a line behind them.
+pub(crate) fn split_lines(text: &[u8]) -> (&[u8], &[u8])
+    ensures { IsCutAtLf text.now result.0.now result.1.now }
+{
+    text.split_at(lines_end(text))
 }
 
 impl<S> Pieces<S> {
@@ -189,10 +208,7 @@ impl<S> Pieces<S> {
         if !self.failed {
             return self.filled;
         }
-        match last_line(&self.buffer[..self.filled]) {
-            Some(end) => end,
-            None => 0,
-        }
+        lines_end(&self.buffer[..self.filled])
     }
 }
 

@@ -8,7 +8,7 @@ use crate::judge::key_place;
 use crate::loader::Loader;
 use crate::rule::Rule;
 use csv::ByteRecord;
-use ssb_cells::Table;
+use ssb_cells::{Column, Table};
 use std::alloc::{AllocError, Global};
 
 // The rules, how many rows there may be, and the rows so far.
@@ -16,8 +16,8 @@ use std::alloc::{AllocError, Global};
 pub(crate) struct TableIntake {
     rules: Vec<Rule>,
     key: Option<usize>,
-    max_rows: u32,
-    accepted: u64,
+    pub max_rows: u32,
+    pub accepted: u64,
     loader: Loader,
 }
 
@@ -55,6 +55,13 @@ impl TableIntake {
         ensures { (good : List Fields) → IsLoading self good → result ≡ columns_of self.rules.items good }
     {
         self.loader.into_table()
+    }
+
+    // The columns of the records that were taken.
+    pub(crate) fn into_columns(self) -> Vec<Column>
+        ensures { (good : List Fields) → IsLoading self good → result.items ≡ columns_of self.rules.items good }
+    {
+        self.loader.into_columns()
     }
 }
 

@@ -1,0 +1,34 @@
+use Rattle.std.proofs.Common.{◌++◌, ◌∙◌, Bool, ap, subst, sym}
+use Rattle.std.proofs.lemmas.Result.{err_from_is_err_and}
+use Rattle.ssb_load.specs.Part.{IsPart}
+use Rattle.ssb_load.specs.Pieces.{Hands, handed, rest_of}
+use Rattle.ssb_load.proofs.PartReading.{halts-given, read-never, tail-next}
+use Rattle.ssb_load.proofs.part.Part.read.Goals as goal
+
+pub returns-in_err-take_piece-clause-halts : goal.returns-in_err-take_piece-clause-halts
+returns-in_err-take_piece-clause-halts g c =
+    let inv = c.loop.invariant in
+    let q = c.fill.new.self in
+    let begun = ap (λ s. s.value) c.fill.ensures.begun ∙ inv.begun in
+    let told = c.fill.ensures.follows.told ∙ ap (λ s. g.S.Source.given s ++ (handed q ++ rest_of q)) begun in
+    let out = err_from_is_err_and c.from_residual.result c.from_residual.ensures.1 in
+    rw (out.1, out.2) (halts-given _ c.loop.pieces q _ _ _ c.fill.ensures.handed told (rw c.piece.ensures at (c.in_err-take_piece.ensures.refused (handed c.loop.pieces) inv.part)))
+
+pub returns-in_err-take_piece-clause-broken : goal.returns-in_err-take_piece-clause-broken
+returns-in_err-take_piece-clause-broken g c =
+    let out = err_from_is_err_and c.from_residual.result c.from_residual.ensures.1 in
+    rw (out.1, out.2) (read-never _ _ c.in_err-take_piece.field-0.0 _ (c.in_err-take_piece.ensures.refused (handed c.loop.pieces) c.loop.invariant.part))
+
+pub loop-preserved : goal.loop-preserved
+loop-preserved g c =
+    let inv = c.loop.invariant in
+    let q = c.fill.new.self in
+    let hands = let P : Bool → Type 0 = λ b. Hands b q in subst P c.in-Ok-true.field-0-test c.in-Ok-true.ensures.hands in
+    record {
+      follows = c.fill.ensures.follows;
+      whole = c.fill.ensures.whole ∙ inv.whole;
+      begun = ap (λ s. s.value) c.fill.ensures.begun ∙ inv.begun;
+      same = c.take_piece.ensures.subject ∙ inv.same;
+      part = subst (IsPart c.take_piece.new.self) (sym c.fill.ensures.handed) (rw c.piece.ensures at (c.in_ok-take_piece.ensures.taken (handed c.loop.pieces) inv.part));
+      tail = tail-next c.take_piece.new.self q hands (rw c.piece.ensures at c.in_ok-take_piece.ensures.lines);
+    }

@@ -1,0 +1,23 @@
+use Rattle.std.proofs.Common.{◌++◌, ◌∙◌, ap, append_assoc, refl, sym, subst}
+use Rattle.ssb_load.specs.Part.{RefusesPart, IsPart}
+use Rattle.ssb_load.proofs.PartTaking.{back-lines, cut-head, if-err, on-ok}
+use Rattle.ssb_load.proofs.part.Part.take_piece.Goals as goal
+
+pub take_lines-requires-2-clause-part : goal.take_lines-requires-2-clause-part
+take_lines-requires-2-clause-part c =
+    (_, cut-head c.args.self.now _ c.requires.part.0 c.in-Some.front.now c.if-self.false c.requires.part.1 refl c.in_ok-keep.ensures.kept refl refl c.in-Some.ensures.line)
+
+pub returns-clause-taken : goal.returns-clause-taken
+returns-clause-taken c =
+    on-ok c.take_lines-2.result (λ taken done h.
+    let mid = cut-head c.args.self.now _ done c.in-Some.front.now c.if-self.false h refl c.in_ok-keep.ensures.kept refl refl c.in-Some.ensures.line in
+    subst (IsPart _) (append_assoc done _ _ ∙ ap (λ t. done ++ t) (sym c.in-Some.ensures.split)) (taken (done ++ c.in-Some.front.now) mid)) c.take_lines-2.ensures.taken
+
+pub returns-clause-lines : goal.returns-clause-lines
+returns-clause-lines c = on-ok c.take_lines-2.result (λ none lf. none (back-lines c.args.piece.now _ _ lf c.in-Some.ensures.split)) c.take_lines-2.ensures.lines
+
+pub returns-clause-refused : goal.returns-clause-refused
+returns-clause-refused c =
+    if-err c.take_lines-2.result _ _ (λ e halts done h.
+    let mid = cut-head c.args.self.now _ done c.in-Some.front.now c.if-self.false h refl c.in_ok-keep.ensures.kept refl refl c.in-Some.ensures.line in
+    subst (λ bytes. RefusesPart c.take_lines-2.new.self bytes e) (append_assoc done c.in-Some.front.now c.in-Some.rest.now ∙ ap (λ t. done ++ t) (sym c.in-Some.ensures.split)) (halts (done ++ c.in-Some.front.now) mid)) c.take_lines-2.ensures.refused

@@ -1,0 +1,100 @@
+// Sources one after the other as one.
+
+ghost use Rattle.std.specs.Prelude.{◌≡◌, [], length, map, IfOk};
+ghost use Rattle.std.specs.List.{All};
+ghost use Rattle.ssb_load.specs.Joined.{IsJoined, all_of, given_upto, sources_in, unread};
+ghost use Rattle.ssb_load.specs.JoinedLaws.{joined_begins, joined_settled};
+
+use crate::history::History;
+use crate::lane::Lane;
+use crate::source::{Source, SourceFault};
+use std::alloc::{AllocError, Global};
+
+/// Sources one after the other as one source: it gives what they give, in their order, and meets its
+/// end where the last of them does. After a failed read each further read fails, so that no source
+/// that failed, or was left in its middle, is passed over.
+#[derive(Drop)]
+pub struct Joined<S: Source> {
+    lanes: Vec<Lane<S>>,
+    // The lane that is read now, or their number once all have met their ends.
+    at: usize,
+    // Whether anything was read.
+    begun: bool,
+    // Whether a read failed.
+    stopped: bool,
+    failed: History<()>,
+    ended: History<()>,
+    ghost joined: { IsJoined S.given S.ends (sources_in lanes.items) at begun stopped (length failed.items) (length ended.items) },
+}
+
+// A lane for each source, in their order.
+fn lanes_of<S: Drop>(alloc: Global, sources: Vec<S>) -> Result<Vec<Lane<S>>, AllocError>
+    ensures { IfOk result (λ lanes. lanes.items ≡ map unread sources.items) }
+{
+    sources
+        .into_iter()
+        .map(|source| Lane { source, read: None })
+        .collect(alloc)
+}
+
+impl<S: Source + Drop> Joined<S> {
+    /// These sources, in this order, before any read of them.
+    ///
+    /// # Errors
+    ///
+    /// [`AllocError`] where memory for their list was refused; the sources are dropped.
+    pub fn new(alloc: Global, sources: Vec<S>) -> Result<Joined<S>, AllocError>
+        requires { All (λ s. S.given s ≡ []) sources.items }
+        ensures sources { IfOk result (λ j. sources_in j.lanes.items ≡ sources.items) }
+        ensures given { IfOk result (λ j. given_upto S.given j.at (sources_in j.lanes.items) ≡ []) }
+        ensures failed { IfOk result (λ j. j.failed.items ≡ []) }
+        ensures ended { IfOk result (λ j. j.ended.items ≡ []) }
+        ensures whole { IfOk result (λ j. all_of (map S.whole (sources_in j.lanes.items)) ≡ all_of (map S.whole sources.items)) }
+    {
+        Ok(Joined {
+            lanes: lanes_of(alloc, sources)?,
+            at: 0,
+            begun: false,
+            stopped: false,
+            failed: History::new(),
+            ended: History::new(),
+        })
+    }
+}
+
+impl<S: Source> Source for Joined<S> {
+    ghost given = { λ joined. given_upto S.given joined.at (sources_in joined.lanes.items) };
+
+    ghost failures = { λ joined. length joined.failed.items };
+
+    ghost ends = { λ joined. length joined.ended.items };
+
+    ghost whole = { λ joined. all_of (map S.whole (sources_in joined.lanes.items)) };
+
+    fn read(&mut self, room: &mut [u8]) -> Result<usize, SourceFault> {
+        self.begun = true;
+        while !self.stopped && self.at < self.lanes.len() {
+            match self.lanes[self.at].source.read(room) {
+                Ok(count) => {
+                    if count > 0 || room.is_empty() {
+                        return Ok(count);
+                    }
+                    self.at += 1;
+                }
+                Err(_) => self.stopped = true,
+            }
+        }
+        if self.stopped {
+            self.failed = self.failed.and(&());
+            return Err(SourceFault);
+        }
+        if !room.is_empty() {
+            self.ended = self.ended.and(&());
+        }
+        Ok(0)
+    }
+
+    ghost begins = { λ joined. joined_begins S.given S.ends S.whole S.begins S.settled (sources_in joined.lanes.items) joined.at joined.joined.met };
+
+    ghost settled = { λ joined more. joined_settled S.given S.ends S.whole S.begins S.settled (sources_in joined.lanes.items) joined.at (joined.joined.over more).1 joined.joined.met };
+}

@@ -1,3 +1,4 @@
 pub mod Checking
 pub mod Faults
 pub mod Files
+pub mod Sections

@@ -6,6 +6,8 @@ mod fault;
 mod files;
 mod program;
 mod report;
+mod sections;
+mod spans;
 
 use std::process::ExitCode;
 

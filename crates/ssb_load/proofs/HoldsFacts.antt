@@ -84,8 +84,10 @@ rows-sized n [] cs s lt = absurd (omega arith)
 rows-sized n (p ∷ ps) [] s lt = absurd s
 rows-sized n (p ∷ ps) (c ∷ cs) s lt = s.1
 
+pub sized-table : (n : ℕ) (ps : List Rule) (cs : List Filled) → AreSized n ps cs → 0 < length ps → (0 < length cs) × AreLong (rows_in cs) cs
+sized-table n ps cs s lt =
+    let k = sized-len n ps cs s in
+    (omega arith, rw (rows-sized n ps cs s lt) (sized-long n ps cs s))
+
 pub holds-long : (rules : List Rule) (good : List Fields) (seen : List ℤ) (columns : List Filled) → Holds rules good seen columns → 0 < length rules → (0 < length columns) × AreLong (rows_in columns) columns
-holds-long rules good seen columns h lt =
-    let s = holds-sized rules good seen columns (length good) h refl in
-    let n = sized-len (length good) rules columns s in
-    (omega arith, rw (rows-sized (length good) rules columns s lt) (sized-long (length good) rules columns s))
+holds-long rules good seen columns h lt = sized-table (length good) rules columns (holds-sized rules good seen columns (length good) h refl) lt

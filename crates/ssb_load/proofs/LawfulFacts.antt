@@ -227,7 +227,7 @@ pairs-map f a xs h i j d lt lj same =
     h i j lt small (sym (get_or-map f xs i a d (omega arith)) ∙ same ∙ get_or-map f xs j a d small)
 
 -- there are no more good records than rows allowed
-good-few : (rules : List Rule) (m : ℕ) (rs : List Fields) → first_fault rules m [] rs ≡ None → length rs ≤ m
+pub good-few : (rules : List Rule) (m : ℕ) (rs : List Fields) → first_fault rules m [] rs ≡ None → length rs ≤ m
 good-few rules m [] e = omega arith
 good-few rules m (r ∷ rs) e =
     let j = length rs in

@@ -16,6 +16,7 @@ pub mod GroupFacts
 mod Handing
 pub mod HoldsFacts
 pub mod JoinedFacts
+mod JoiningFacts
 mod KeyFacts
 pub mod LawfulFacts
 mod Left
@@ -38,4 +39,5 @@ pub mod Step
 mod TableTaking
 mod Taking
 mod TakingAll
+mod TogetherFacts
 mod Walks

@@ -3,6 +3,8 @@
 use Rattle.std.specs.Prelude.{◌≡◌, ◌+◌, ◌≤◌, ◌<◌, [], ◌∷◌, ℕ, List, length, map, take, drop, Bool, false, Option, None, Some}
 use Rattle.std.specs.List.{All, flat_map}
 use Rattle.std.specs.Fmt.{option_append}
+use Rattle.ssb_load.specs.declared.fault.LoadFault.{LoadFault}
+use Rattle.ssb_load.specs.declared.fault.LoadFault.TheVariants as load
 use Rattle.ssb_load.specs.declared.lane.Lane.{Lane}
 
 -- a source of which no thread has read
@@ -21,6 +23,13 @@ given_upto given at sources = flat_map given (take (at + 1) sources)
 abbrev pub all_of : List (Option (List ℕ)) → Option (List ℕ)
 all_of [] = Some []
 all_of (w ∷ ws) = option_append w (all_of ws)
+
+-- how often reads failed, once more where the fault is that of a read
+abbrev pub failures_with : LoadFault → ℕ → ℕ
+failures_with (load.Record f n) failures = failures
+failures_with (load.BadCatalog f n) failures = failures
+failures_with (load.Read n) failures = failures + 1
+failures_with load.Memory failures = failures
 
 -- no source gave a byte, no read failed, and no end was told
 pub record IsUntouched {S : Type 0} (given : S → List ℕ) (sources : List S) (at : ℕ) (stopped : Bool) (failures ends : ℕ) : Type 0 where

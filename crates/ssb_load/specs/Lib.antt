@@ -10,6 +10,7 @@ pub mod Giving
 pub mod Intake
 pub mod Joined
 pub mod JoinedLaws
+pub mod Joining
 pub mod Lane
 pub mod Lanes
 pub mod Lawful

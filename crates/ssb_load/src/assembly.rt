@@ -56,15 +56,12 @@ fn put(done: &mut Vec<Vec<Column>>, columns: Vec<Column>) -> Result<(), LoadFaul
 
 impl Assembly {
     // Of no byte yet.
-    pub(crate) fn new(
-        alloc: Global,
-        rules: Vec<Rule>,
-        max_rows: u32,
-    ) -> Result<Assembly, AllocError>
-        requires { key_place rules.items ≡ None }
-        ensures subject { IfOk result (λ a. subject_in a ≡ table rules.items max_rows) }
+    pub(crate) fn new(alloc: Global, rules: &[Rule], max_rows: u32) -> Result<Assembly, AllocError>
+        requires { key_place rules.now ≡ None }
+        ensures subject { IfOk result (λ a. subject_in a ≡ table rules.now max_rows) }
         ensures none { IfOk result (λ a. IsAssembled a []) }
     {
+        let rules: Vec<Rule> = rules.iter().copied().collect(alloc)?;
         Ok(Assembly {
             done: Vec::new(alloc),
             earlier: 0,

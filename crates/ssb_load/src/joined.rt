@@ -1,14 +1,22 @@
 // Sources one after the other as one.
 
-ghost use Rattle.std.specs.Prelude.{◌≡◌, [], length, map, IfOk};
+ghost use Rattle.std.specs.Prelude.{◌≡◌, ◌++◌, ◌<◌, [], false, length, map, IfErr, IfOk, IsTrue, OnOk};
 ghost use Rattle.std.specs.List.{All};
-ghost use Rattle.ssb_load.specs.Joined.{IsJoined, all_of, given_upto, sources_in, unread};
+ghost use Rattle.ssb_load.specs.Assembly.{IsAssembled, subject_in};
+ghost use Rattle.ssb_load.specs.CutShort.{IfRead};
+ghost use Rattle.ssb_load.specs.Giving.{given_since};
+ghost use Rattle.ssb_load.specs.Intake.{Stops};
+ghost use Rattle.ssb_load.specs.Joined.{IsJoined, all_of, failures_with, given_upto, sources_in, unread};
 ghost use Rattle.ssb_load.specs.JoinedLaws.{joined_begins, joined_settled};
 
+use crate::assembly::Assembly;
+use crate::fault::LoadFault;
 use crate::history::History;
 use crate::lane::Lane;
+use crate::lanes::{Stop, read_together};
 use crate::source::{Source, SourceFault};
 use std::alloc::{AllocError, Global};
+use std::thread::Threads;
 
 /// Sources one after the other as one source: it gives what they give, in their order, and meets its
 /// end where the last of them does. After a failed read each further read fails, so that no source
@@ -59,6 +67,59 @@ impl<S: Source + Drop> Joined<S> {
             failed: History::new(),
             ended: History::new(),
         })
+    }
+}
+
+// Counts a failed read, where the fault is one.
+fn count_failure(failed: &mut History<()>, fault: LoadFault)
+    ensures { length failed.new.items ≡ failures_with fault (length failed.old.items) }
+{
+    match fault {
+        LoadFault::Read(_) => *failed = failed.and(&()),
+        LoadFault::Record(_, _) | LoadFault::BadCatalog(_, _) | LoadFault::Memory => {}
+    }
+}
+
+impl<S: Source + Send> Joined<S> {
+    // Whether there are several sources, and nothing was read of them.
+    pub(crate) fn is_divided(&self) -> bool
+        ensures { IsTrue result → self.now.begun ≡ false }
+    {
+        !self.begun && self.lanes.len() > 1
+    }
+
+    // Reads each source to its end by a thread of its own, and puts together what they gave.
+    pub(crate) fn read_together<R: Threads + Sync>(
+        &mut self,
+        rt: &R,
+        alloc: Global,
+        size: usize,
+        assembly: &mut Assembly,
+    ) -> Result<(), LoadFault>
+        requires unread { self.old.begun ≡ false }
+        requires none { IsAssembled assembly.old [] }
+        ensures grows { ⟦<Joined<S> as Source>⟧.given self.new ≡ ⟦<Joined<S> as Source>⟧.given self.old ++ given_since (⟦<Joined<S> as Source>⟧.given self.old) (⟦<Joined<S> as Source>⟧.given self.new) }
+        ensures whole { ⟦<Joined<S> as Source>⟧.whole self.new ≡ ⟦<Joined<S> as Source>⟧.whole self.old }
+        ensures subject { OnOk result (subject_in assembly.new ≡ subject_in assembly.old) }
+        ensures taken { OnOk result (IsAssembled assembly.new (given_since (⟦<Joined<S> as Source>⟧.given self.old) (⟦<Joined<S> as Source>⟧.given self.new))) }
+        ensures ended { OnOk result (⟦<Joined<S> as Source>⟧.ends self.old < ⟦<Joined<S> as Source>⟧.ends self.new) }
+        ensures stops { IfErr result (Stops ⟦<Joined<S> as Source>⟧.given ⟦<Joined<S> as Source>⟧.whole (subject_in assembly.old) self.old self.new) }
+        ensures broken { IfErr result (λ e. IfRead e (λ n. ⟦<Joined<S> as Source>⟧.failures self.old < ⟦<Joined<S> as Source>⟧.failures self.new)) }
+    {
+        self.begun = true;
+        match read_together(rt, alloc, size, &mut self.lanes, assembly) {
+            Ok(()) => {
+                self.at = self.lanes.len();
+                self.ended = self.ended.and(&());
+                Ok(())
+            }
+            Err(Stop { at, fault }) => {
+                self.at = at;
+                self.stopped = true;
+                count_failure(&mut self.failed, fault);
+                Err(fault)
+            }
+        }
     }
 }
 

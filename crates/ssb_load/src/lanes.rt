@@ -1,6 +1,6 @@
 // What was read of each source, put together in the sources' order.
 
-ghost use Rattle.std.specs.Prelude.{◌≡◌, ◌++◌, ◌<◌, [], List, ℕ, IfErr, OnOk, length};
+ghost use Rattle.std.specs.Prelude.{◌≡◌, ◌++◌, ◌<◌, [], List, ℕ, IfErr, OnOk, length, map};
 ghost use Rattle.std.specs.List.{All};
 ghost use Rattle.ssb_load.specs.Assembly.{Halts, IsAssembled, subject_in};
 ghost use Rattle.ssb_load.specs.Joined.{sources_in};
@@ -9,10 +9,11 @@ ghost use Rattle.ssb_load.specs.Lanes.{AreAdded, StopsAt};
 
 use crate::assembly::Assembly;
 use crate::fault::LoadFault;
-use crate::lane::{Lane, Reading};
+use crate::lane::{Lane, Reading, read_each};
 use crate::source::Source;
 use std::alloc::Global;
 use std::mem;
+use std::thread::Threads;
 
 // Why sources stop: the place of the one that does, from 0, and the fault of all bytes up to there.
 #[derive(Clone, Copy)]
@@ -64,4 +65,24 @@ pub(crate) fn add_all<S: Source>(
         }
     }
     Ok(())
+}
+
+// Reads each source to its end by a thread of its own, and puts together what they gave.
+pub(crate) fn read_together<S: Source + Send, R: Threads + Sync>(
+    rt: &R,
+    alloc: Global,
+    size: usize,
+    lanes: &mut [Lane<S>],
+    assembly: &mut Assembly,
+) -> Result<(), Stop>
+    requires silent { All (λ l. S.given l.source ≡ []) lanes.old }
+    requires none { IsAssembled assembly.old [] }
+    ensures whole { map S.whole (sources_in lanes.new) ≡ map S.whole (sources_in lanes.old) }
+    ensures subject { OnOk result (subject_in assembly.new ≡ subject_in assembly.old) }
+    ensures taken { OnOk result (AreAdded S.given S.ends assembly.new (sources_in lanes.new)) }
+    ensures stops { IfErr result (StopsAt S.given S.ends (subject_in assembly.old) (sources_in lanes.new)) }
+{
+    let rows = &assembly.last;
+    read_each(rt, alloc, rows.rules(), rows.max_rows, size, lanes);
+    add_all(alloc, lanes, assembly)
 }

@@ -6,6 +6,7 @@
 //! [`Source`] gives, and says so of any source, a file of the system among them.
 #![tactic(auto)]
 
+mod all_joined;
 mod all_tables;
 mod assembly;
 mod bars;
@@ -20,6 +21,7 @@ mod field;
 pub mod history;
 mod intake;
 pub mod joined;
+mod joining;
 mod judge;
 mod lane;
 mod lanes;
@@ -29,6 +31,7 @@ mod number;
 mod part;
 mod pieces;
 mod read_catalog;
+mod read_joined;
 mod read_table;
 pub mod reader;
 pub mod rule;
@@ -36,12 +39,14 @@ pub mod source;
 mod table_intake;
 mod value;
 
+pub use all_joined::load_all_with;
 pub use all_tables::load_all;
 pub use bars::bar_reader;
 pub use catalog::{Catalog, ColumnDef, TableDef};
 pub use fault::{CatalogFault, FileFault, LoadFault, RecordFault};
 pub use history::History;
 pub use joined::Joined;
+pub use read_joined::{load_with, load_with_in_pieces};
 pub use read_table::{PIECE_SIZE, load, load_from, load_in_pieces};
 pub use reader::In;
 pub use rule::{Role, Rule};

@@ -27,7 +27,7 @@ fn rules_of(alloc: Global, columns: &[ColumnDef]) -> Result<Vec<Rule>, Memory>
 }
 
 // What the columns of a table take: some column there is, and one key at most.
-fn rules_at(alloc: Global, catalog: &Catalog, table: usize) -> Result<Vec<Rule>, Memory>
+pub(crate) fn rules_at(alloc: Global, catalog: &Catalog, table: usize) -> Result<Vec<Rule>, Memory>
     requires { table < length catalog.now }
     ensures rules { IfOk result (λ rules. rules.items ≡ rules_at catalog.now table) }
     ensures some { IfOk result (λ rules. 0 < length rules.items) }

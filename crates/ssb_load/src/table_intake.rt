@@ -48,6 +48,13 @@ impl TableIntake {
         })
     }
 
+    // What its columns take.
+    pub(crate) fn rules(&self) -> &[Rule]
+        ensures { result.now ≡ self.now.rules.items }
+    {
+        self.rules.as_slice()
+    }
+
     // The table of the records that were taken.
     pub(crate) fn into_table(self) -> Table
         requires some { 0 < vec_len self.rules }

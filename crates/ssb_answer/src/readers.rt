@@ -9,7 +9,7 @@ use crate::run_fault::RunFault;
 use crate::settings::Settings;
 use crate::sink::Sink;
 use crate::whole::{run_alone_from, run_from};
-use ssb_load::{Catalog, In, Source};
+use ssb_load::{Catalog, In, Joined, Source};
 use ssb_pipeline::Gate;
 use std::alloc::{AllocError, Global};
 use std::io::Read;
@@ -24,6 +24,31 @@ fn sources_of<R: Read + Drop>(alloc: Global, readers: Vec<R>) -> Result<Vec<In<R
     let mut sources = Vec::new(alloc);
     for reader in readers {
         sources.push(In::new(reader))?;
+    }
+    Ok(sources)
+}
+
+// A reader alone as sources that are joined.
+fn joined<R: Read + Drop>(alloc: Global, reader: R) -> Result<Joined<In<R>>, AllocError>
+    ensures whole { IfOk result (λ source. ⟦<Joined<In<R>> as Source>⟧.whole source ≡ R.remaining reader) }
+    ensures given { IfOk result (λ source. ⟦<Joined<In<R>> as Source>⟧.given source ≡ []) }
+{
+    let mut sources = Vec::new(alloc);
+    sources.push(In::new(reader))?;
+    Joined::new(alloc, sources)
+}
+
+// Each reader as such a source, which gave nothing yet.
+fn joined_of<R: Read + Drop>(
+    alloc: Global,
+    readers: Vec<R>,
+) -> Result<Vec<Joined<In<R>>>, AllocError>
+    ensures whole { IfOk result (λ sources. map ⟦<Joined<In<R>> as Source>⟧.whole sources.items ≡ map R.remaining readers.items) }
+    ensures given { IfOk result (λ sources. map ⟦<Joined<In<R>> as Source>⟧.given sources.items ≡ map (λ r. []) readers.items) }
+{
+    let mut sources = Vec::new(alloc);
+    for reader in readers {
+        sources.push(joined(alloc, reader)?)?;
     }
     Ok(sources)
 }
@@ -60,7 +85,7 @@ pub fn run_alone<R: Read + Drop, W: Sink>(
 /// # Errors
 ///
 /// As of [`run_alone_from`](crate::run_alone_from).
-pub fn run<T: Threads + Wait + Sync, R: Read + Drop, G: Gate + Sync, W: Sink>(
+pub fn run<T: Threads + Wait + Sync, R: Read + Drop + Send, G: Gate + Sync, W: Sink>(
     rt: &T,
     alloc: Global,
     catalog: Catalog,
@@ -75,7 +100,7 @@ pub fn run<T: Threads + Wait + Sync, R: Read + Drop, G: Gate + Sync, W: Sink>(
     ensures right { (files : List Bytes) × Replies catalog files text.now result (W.taken out.old) (W.taken out.new) }
     ensures sink { LeavesSink result (W.taken out.old) (W.taken out.new) (W.failures out.old) (W.failures out.new) (W.contents out.old) (W.contents out.new) }
 {
-    let Ok(mut sources) = sources_of(alloc, readers) else {
+    let Ok(mut sources) = joined_of(alloc, readers) else {
         return Err(RunFault::Memory);
     };
     run_from(rt, alloc, catalog, &mut sources, text, settings, gate, out)

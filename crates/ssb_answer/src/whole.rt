@@ -24,7 +24,7 @@ use ssb_bind::{Query, bind};
 use ssb_cells::Table;
 use ssb_groups::Groups;
 use ssb_job::Job;
-use ssb_load::{Catalog, PIECE_SIZE, Source, load_all};
+use ssb_load::{Catalog, Joined, PIECE_SIZE, Source, load_all, load_all_with};
 use ssb_pipeline::Gate;
 use ssb_sql::read;
 use std::alloc::{AllocError, Global};
@@ -201,28 +201,29 @@ pub fn run_alone_from<S: Source, W: Sink>(
     run_in_pieces(alloc, catalog, sources, text, morsel_size, out, PIECE_SIZE)
 }
 
-/// The same over threads: workers take the morsels of the fact table from parts, and make the groups of
-/// each in threads of their own. They may wait for each other. How many workers and parts there are, and
-/// how large a morsel is, changes no answer.
+/// The same over threads. A table without a key is read by a thread for each of the sources that stand
+/// joined for it; then workers take the morsels of the fact table from parts, and make the groups of each
+/// in threads of their own. They may wait for each other. How a table's bytes are cut into sources, how
+/// many workers and parts there are, and how large a morsel is, changes no answer.
 ///
 /// # Errors
 ///
 /// As of [`run_alone_from`].
-pub fn run_from<R: Threads + Wait + Sync, S: Source, G: Gate + Sync, W: Sink>(
+pub fn run_from<R: Threads + Wait + Sync, S: Source + Send, G: Gate + Sync, W: Sink>(
     rt: &R,
     alloc: Global,
     catalog: Catalog,
-    sources: &mut [S],
+    sources: &mut [Joined<S>],
     text: &str,
     settings: Settings,
     gate: &G,
     out: &mut W,
 ) -> Result<(), RunFault>
     requires sources { length sources.old ≡ length catalog }
-    ensures runs { RunsFrom S.given S.failures S.ends S.whole catalog text.now sources.old sources.new result (W.taken out.old) (W.taken out.new) }
+    ensures runs { RunsFrom ⟦<Joined<S> as Source>⟧.given ⟦<Joined<S> as Source>⟧.failures ⟦<Joined<S> as Source>⟧.ends ⟦<Joined<S> as Source>⟧.whole catalog text.now sources.old sources.new result (W.taken out.old) (W.taken out.new) }
     ensures sink { LeavesSink result (W.taken out.old) (W.taken out.new) (W.failures out.old) (W.failures out.new) (W.contents out.old) (W.contents out.new) }
 {
-    let tables = load_all(alloc, &catalog, sources, PIECE_SIZE)?;
+    let tables = load_all_with(rt, alloc, &catalog, sources, PIECE_SIZE)?;
     let answer = answer_text_shared(rt, alloc, &catalog, tables, text, settings, gate)?;
     write_answer(&answer, out)?;
     Ok(())

@@ -1,1 +1,3 @@
+mod Crossing
+mod OpenFacts
 mod SpanFacts

@@ -1,6 +1,8 @@
 -- Which ranges of bytes the sections of a file have.
 -- Source: own.
-use Rattle.std.specs.Prelude.{◌≡◌, ◌+◌, ◌<◌, ◌≤◌, ◌++◌, ◌⊎◌, [], ◌∷◌, ℕ, List, map}
+use Rattle.std.specs.Prelude.{◌≡◌, ◌+◌, ◌<◌, ◌≤◌, ◌++◌, ◌⊎◌, [], ◌∷◌, ℕ, List, length, map, true}
+use Rattle.ssb_load.specs.Shapes.{TableShape}
+use Rattle.ssb_cli.specs.Files.{has_key}
 use Rattle.ssb_cli.specs.declared.spans.Span.{Span}
 
 -- a file of no more bytes is not cut: 16 MB
@@ -35,3 +37,7 @@ pub record AreSizes (sizes : List ℕ) : Type 0 where
   pub spans : List Span
   pub ranges : AreSpans len spans
   pub same : sizes ≡ map (λ s. s.size) spans
+
+-- sections of these sizes have all bytes of a table's file, and there is one where the table has a key
+abbrev pub AreSectionsOf : TableShape → List ℕ → Type 0
+AreSectionsOf table sizes = AreSizes sizes × (has_key table.columns ≡ true → length sizes ≡ 1)

@@ -1,12 +1,18 @@
 // Files that are opened and read.
 
-ghost use Rattle.std.specs.Prelude.{◌≡◌, ◌≤◌, ◌<◌, ◌+◌, IfOk, IfErr, IsNone, IsOk, IsErrAnd, IsUtf8, length, vec_len, string_bytes};
+ghost use Rattle.std.specs.Prelude.{◌≡◌, ◌≤◌, ◌<◌, ◌+◌, ◌++◌, [], ◌∷◌, List, IfOk, IfErr, IsNone, IsOk, IsErrAnd, IsUtf8, length, map, vec_len, string_bytes};
+ghost use Rattle.std.specs.Io.Take.{take_limit};
+ghost use Rattle.std.specs.List.{AllZip};
 ghost use Rattle.ssb_load.specs.BuiltIn.{ssb_tables};
+ghost use Rattle.ssb_load.specs.Joined.{sources_in};
+ghost use Rattle.ssb_load.specs.Shapes.{TableShape};
 ghost use Rattle.ssb_cli.specs.Faults.{IsOpenFault, IsQueryFault};
-ghost use Rattle.ssb_cli.specs.Files.{longest_query};
+ghost use Rattle.ssb_cli.specs.Files.{has_key, longest_query, section_count};
+ghost use Rattle.ssb_cli.specs.Sections.{AreSectionsOf, AreSizes};
 
 use crate::fault::{ProgramFault, RunFault, SqlFault};
-use ssb_load::{Catalog, In};
+use crate::sections::{Section, sections_of};
+use ssb_load::{Catalog, ColumnDef, Joined, TableDef};
 use std::alloc::{AllocError, Global};
 use std::io::Read;
 use std::rt::Files;
@@ -108,48 +114,90 @@ fn path_of(alloc: Global, data: &str, table: &str) -> Result<String, AllocError>
     format!(in alloc; "{data}/{table}.tbl")
 }
 
+// Whether one of these columns is its table's key.
+fn has_key(columns: &[ColumnDef]) -> bool
+    ensures { result ≡ has_key columns.now }
+{
+    columns.iter().any(|column| column.rule.role.is_key())
+}
+
+// How often the file of a table is opened: four times for each worker, where the table has no key.
+fn section_count(columns: &[ColumnDef], workers: u32) -> u64
+    ensures { result ≡ section_count columns.now workers }
+{
+    if has_key(columns) {
+        1
+    } else {
+        4 * u64::from(workers)
+    }
+}
+
+// The sections of a file, one after the other as one source.
+fn open_sections<R: Files + AllocGlobal>(
+    rt: &R,
+    path: &str,
+    count: u64,
+) -> Result<Joined<Section<R::File>>, ProgramFault>
+    ensures sizes { IfOk result (λ source. AreSizes (map (λ s. take_limit s.begun.value) (sources_in source.lanes.items))) }
+    ensures alone { count ≤ 1 → IfOk result (λ source. length (map (λ s. take_limit s.begun.value) (sources_in source.lanes.items)) ≡ 1) }
+    ensures fault { IfErr result IsOpenFault }
+{
+    let file = open(rt, path)?;
+    let sections = sections_of(rt, path, file, count)?;
+    Ok(Joined::new(rt.alloc(), sections)?)
+}
+
 fn open_table<R: Files + AllocGlobal>(
     rt: &R,
     data: &str,
-    table: &str,
-) -> Result<In<R::File>, ProgramFault>
-    ensures { IfErr result IsOpenFault }
+    table: &TableDef,
+    workers: u32,
+) -> Result<Joined<Section<R::File>>, ProgramFault>
+    ensures sections { IfOk result (λ source. AreSectionsOf table.now (map (λ s. take_limit s.begun.value) (sources_in source.lanes.items))) }
+    ensures fault { IfErr result IsOpenFault }
 {
-    let path = path_of(rt.alloc(), data, table)?;
-    let file = open(rt, path.as_str());
+    let path = path_of(rt.alloc(), data, table.name())?;
+    let count = section_count(table.columns(), workers);
+    let opened = open_sections(rt, path.as_str(), count);
     drop(path);
-    Ok(In::new(file?))
+    opened
 }
 
 // Opens the file of a table, and puts it behind the sources.
 fn add_source<R: Files + AllocGlobal>(
     rt: &R,
     data: &str,
-    table: &str,
-    sources: &mut Vec<In<R::File>>,
+    table: &TableDef,
+    workers: u32,
+    sources: &mut Vec<Joined<Section<R::File>>>,
 ) -> Result<(), ProgramFault>
     ensures added { IfOk result (λ u. vec_len sources.new ≡ vec_len sources.old + 1) }
+    ensures sections { (tables : List TableShape) → AllZip (λ t source. AreSectionsOf t (map (λ s. take_limit s.begun.value) (sources_in source.lanes.items))) tables sources.old.items → IfOk result (λ u. AllZip (λ t source. AreSectionsOf t (map (λ s. take_limit s.begun.value) (sources_in source.lanes.items))) (tables ++ table.now ∷ []) sources.new.items) }
     ensures fault { IfErr result IsOpenFault }
 {
-    let source = open_table(rt, data, table)?;
-    match sources.push(source) {
-        Ok(()) => Ok(()),
-        Err(_) => Err(ProgramFault::Memory),
-    }
+    let source = open_table(rt, data, table, workers)?;
+    let Ok(()) = sources.push(source) else {
+        return Err(ProgramFault::Memory);
+    };
+    Ok(())
 }
 
-/// The files of the tables as sources, in the catalog's order.
+/// The files of the tables as sources, in the catalog's order. The file of the table without a key is
+/// opened in sections, four for each worker, where [`sections_of`] can have them; so each may be read by a
+/// thread of its own.
 pub fn open_all<R: Files + AllocGlobal>(
     rt: &R,
     data: &str,
     catalog: &Catalog,
-) -> Result<Vec<In<R::File>>, ProgramFault>
+    workers: u32,
+) -> Result<Vec<Joined<Section<R::File>>>, ProgramFault>
     ensures sources { IfOk result (λ sources. vec_len sources ≡ length catalog.now) }
+    ensures sections { IfOk result (λ sources. AllZip (λ t source. AreSectionsOf t (map (λ s. take_limit s.begun.value) (sources_in source.lanes.items))) catalog.now sources.items) }
     ensures fault { IfErr result IsOpenFault }
 {
     let mut sources = Vec::new(rt.alloc());
     for table in catalog.tables() {
-        if let Err(fault) = add_source(rt, data, table.name(), &mut sources) {
+        if let Err(fault) = add_source(rt, data, table, workers, &mut sources) {
             drop(sources);
             return Err(fault);
         }

@@ -10,14 +10,16 @@ use crate::check::check_text;
 use crate::fault::{AnswerFault, ProgramFault, RunFault};
 use crate::files::{catalog_of, names_of, open_all, read_query};
 use crate::report::{OUT_OF_MEMORY, program_line, program_status_of};
+use crate::sections::Section;
 use ssb_answer::{
     DEFAULT_MORSEL_SIZE, DEFAULT_PARTS, DEFAULT_WORKERS, MEMORY_LINE, NoGate, Out, Settings,
     run_from,
 };
-use ssb_load::{Catalog, In};
+use ssb_load::{Catalog, Joined, Source};
 use ssb_words::{QuerySource, Task, WordsFault, task_of};
 use std::alloc::{AllocError, Global};
-use std::io::{BufWriter, Read, Write};
+use std::fs::File;
+use std::io::{BufWriter, Write};
 use std::rt::{Env, Files};
 use std::sync::Wait;
 use std::thread::Threads;
@@ -72,10 +74,10 @@ fn settings_of(workers: Option<u32>, morsel: Option<u32>, parts: Option<u32>) ->
 }
 
 // Writes the answer to a buffer, and flushes it after it is complete.
-fn write_answer<R: AllocGlobal + Threads + Wait + Sync, F: Read, W: Write + Drop>(
+fn write_answer<R: AllocGlobal + Threads + Wait + Sync, S: Source + Send, W: Write + Drop>(
     rt: &R,
     catalog: Catalog,
-    sources: &mut [In<F>],
+    sources: &mut [Joined<S>],
     text: &str,
     settings: Settings,
     writer: W,
@@ -104,10 +106,10 @@ fn write_answer<R: AllocGlobal + Threads + Wait + Sync, F: Read, W: Write + Drop
 }
 
 // Prints the answer through one buffer.
-fn print_answer<R: Files + Print + AllocGlobal + Threads + Wait + Sync>(
+fn print_answer<R: Files<File = File> + Print + AllocGlobal + Threads + Wait + Sync>(
     rt: &R,
     catalog: Catalog,
-    sources: &mut [In<R::File>],
+    sources: &mut [Joined<Section<File>>],
     text: &str,
     settings: Settings,
 ) -> Result<(), RunFault>
@@ -123,11 +125,11 @@ fn print_answer<R: Files + Print + AllocGlobal + Threads + Wait + Sync>(
 }
 
 // Answers a text over files, one for each table of the catalog.
-fn answer_over<R: Files + Print + AllocGlobal + Threads + Wait + Sync>(
+fn answer_over<R: Files<File = File> + Print + AllocGlobal + Threads + Wait + Sync>(
     rt: &R,
     catalog: Catalog,
     names: Vec<String>,
-    sources: Vec<In<R::File>>,
+    sources: Vec<Joined<Section<File>>>,
     text: &str,
     settings: Settings,
 ) -> Result<(), ProgramFault>
@@ -146,14 +148,14 @@ fn answer_over<R: Files + Print + AllocGlobal + Threads + Wait + Sync>(
 }
 
 // Answers a text over the tables of a folder, which have these names.
-fn answer_named<R: Files + Print + AllocGlobal + Threads + Wait + Sync>(
+fn answer_named<R: Files<File = File> + Print + AllocGlobal + Threads + Wait + Sync>(
     rt: &R,
     words: RunWords<'_>,
     catalog: Catalog,
     names: Vec<String>,
     text: &str,
 ) -> Result<(), ProgramFault> {
-    match open_all(rt, words.data, &catalog) {
+    match open_all(rt, words.data, &catalog, words.settings.workers) {
         Ok(sources) => answer_over(rt, catalog, names, sources, text, words.settings),
         Err(fault) => {
             drop(names);
@@ -164,7 +166,7 @@ fn answer_named<R: Files + Print + AllocGlobal + Threads + Wait + Sync>(
 }
 
 // Answers a text over the tables of a folder.
-fn answer<R: Files + Print + AllocGlobal + Threads + Wait + Sync>(
+fn answer<R: Files<File = File> + Print + AllocGlobal + Threads + Wait + Sync>(
     rt: &R,
     words: RunWords<'_>,
     catalog: Catalog,
@@ -180,7 +182,7 @@ fn answer<R: Files + Print + AllocGlobal + Threads + Wait + Sync>(
 }
 
 // Answers a query over the tables of a folder.
-fn run_over<R: Files + Print + AllocGlobal + Threads + Wait + Sync>(
+fn run_over<R: Files<File = File> + Print + AllocGlobal + Threads + Wait + Sync>(
     rt: &R,
     words: RunWords<'_>,
     catalog: Catalog,
@@ -198,7 +200,7 @@ fn run_over<R: Files + Print + AllocGlobal + Threads + Wait + Sync>(
     }
 }
 
-fn run<R: Files + Print + AllocGlobal + Threads + Wait + Sync>(
+fn run<R: Files<File = File> + Print + AllocGlobal + Threads + Wait + Sync>(
     rt: &R,
     words: RunWords<'_>,
 ) -> Result<(), ProgramFault> {
@@ -265,7 +267,7 @@ fn print_help<R: Print + AllocGlobal>(rt: &R, help: String) -> Result<(), Progra
     printed
 }
 
-fn act_on_task<R: Files + Print + AllocGlobal + Threads + Wait + Sync>(
+fn act_on_task<R: Files<File = File> + Print + AllocGlobal + Threads + Wait + Sync>(
     rt: &R,
     task: Task<'_>,
 ) -> Result<(), ProgramFault> {
@@ -303,7 +305,7 @@ fn act_on_fault<R: Print + AllocGlobal>(rt: &R, fault: WordsFault) -> Result<(),
 }
 
 // Does what these words ask.
-fn act_on<R: Files + Print + AllocGlobal + Threads + Wait + Sync>(
+fn act_on<R: Files<File = File> + Print + AllocGlobal + Threads + Wait + Sync>(
     rt: &R,
     given: &[String],
 ) -> Result<(), ProgramFault> {
@@ -313,7 +315,7 @@ fn act_on<R: Files + Print + AllocGlobal + Threads + Wait + Sync>(
     }
 }
 
-fn act<R: Files + Print + Env + AllocGlobal + Threads + Wait + Sync>(
+fn act<R: Files<File = File> + Print + Env + AllocGlobal + Threads + Wait + Sync>(
     rt: &R,
 ) -> Result<(), ProgramFault> {
     let given = words(rt)?;
@@ -340,9 +342,9 @@ fn tell<R: Eprint + AllocGlobal>(rt: &R, fault: &ProgramFault) -> u8
 }
 
 /// Does what the words of the command line ask, and gives the exit status.
-pub fn status_of_program<R: Files + Print + Eprint + Env + AllocGlobal + Threads + Wait + Sync>(
-    rt: &R,
-) -> u8 {
+pub fn status_of_program<
+    R: Files<File = File> + Print + Eprint + Env + AllocGlobal + Threads + Wait + Sync,
+>(rt: &R) -> u8 {
     match act(rt) {
         Ok(()) => 0,
         Err(fault) => {

@@ -6,11 +6,15 @@ Usage: run_rows.py [PROGRAM]
 PROGRAM is crates/ssb_cli/out/ssb_cli where it is left out. tests/README.md says what a row holds.
 """
 
+import contextlib
 import itertools
 import json
+import os
+import shutil
 import subprocess
 import sys
 import tempfile
+import threading
 from pathlib import Path
 
 ROOT = Path(__file__).resolve().parent.parent
@@ -29,6 +33,7 @@ DEFAULTS = {
     "query": None,
     "options": [],
     "settings": {},
+    "pipe": None,
     "words": None,
     "standard_output": "",
     "output": "",
@@ -154,6 +159,29 @@ def choices(row):
         yield [word for pair in zip(row["settings"], values) for word in pair]
 
 
+def feed(whole, pipe):
+    """Writes a file into a named pipe, as far as that is read."""
+    with contextlib.suppress(BrokenPipeError), open(whole, "rb") as source, open(pipe, "wb") as sink:
+        shutil.copyfileobj(source, sink)
+
+
+@contextlib.contextmanager
+def as_pipe(path):
+    """Puts a named pipe, which gives the file's bytes once, in the place of a file for a while."""
+    whole = path.rename(path.with_name(path.name + ".whole"))
+    os.mkfifo(path)
+    feeder = threading.Thread(target=feed, args=(whole, path))
+    feeder.start()
+    try:
+        yield
+    finally:
+        # A program that ended without opening the pipe left the feeder waiting for a reader.
+        while feeder.is_alive():
+            os.close(os.open(path, os.O_RDONLY | os.O_NONBLOCK))
+            feeder.join(0.01)
+        whole.replace(path)
+
+
 def run(row, choice, program, folder):
     """Runs the program: its status, and what it wrote on its two outputs."""
     command = [str(program).encode()] + words_of(row) + [word.encode() for word in choice]
@@ -165,6 +193,16 @@ def run(row, choice, program, folder):
         command, cwd=folder, stdin=subprocess.DEVNULL, capture_output=True, timeout=SECONDS
     )
     return ended.returncode, ended.stdout, ended.stderr
+
+
+def runs(row, program, folder):
+    """Each run of a row, by words that tell it from the others: its status and what it wrote."""
+    for choice in choices(row):
+        yield choice, run(row, choice, program, folder)
+        if row["pipe"] is not None:
+            with as_pipe(folder / DATA / row["pipe"]):
+                ended = run(row, choice, program, folder)
+            yield [*choice, f"{row['pipe']} through a pipe:"], ended
 
 
 def differences(row, status, output, error):
@@ -190,10 +228,10 @@ def check(path, program):
         with tempfile.TemporaryDirectory() as name:
             folder = Path(name)
             lay_out(row, folder)
-            for choice in choices(row):
-                wrong = differences(row, *run(row, choice, program, folder))
+            for words, ended in runs(row, program, folder):
+                wrong = differences(row, *ended)
                 if wrong:
-                    return [" ".join([*choice, text]) for text in wrong]
+                    return [" ".join([*words, text]) for text in wrong]
             return []
     except BadRow as error:
         return [str(error)]

@@ -1,16 +1,20 @@
 //! What the bench measures beside `ssb`: reading the records of a file and nothing more, what a
-//! query's joins cost by themselves, and what its answer costs over loaded tables.
+//! query's joins cost by themselves, what its answer costs over loaded tables, and loading from
+//! sections of a file.
 #![tactic(auto)]
 
+mod load;
 mod probe;
 mod read;
 mod run;
 
+use load::loading_time;
 use probe::{Report, measure};
 use read::count_records;
 use run::{By, own_time};
 use ssb_answer::Settings;
 use std::alloc::AllocError;
+use std::fs::File;
 use std::process::ExitCode;
 use std::rt::{Clock, Env, Files};
 use std::sync::Wait;
@@ -87,6 +91,24 @@ fn print_own_time<R: Files + Clock + Print + Threads + Wait + Sync + AllocGlobal
     }
 }
 
+// Prints the milliseconds of loading from so many sections.
+fn print_loading_time<R: Files<File = File> + Clock + Print + Threads + Sync + AllocGlobal>(
+    rt: &R,
+    folder: &str,
+    count: &str,
+) -> u8 {
+    let Ok(count) = count.parse() else {
+        return BAD_WORDS;
+    };
+    let Some(micros) = loading_time(rt, folder, count) else {
+        return FAILED;
+    };
+    match print_micros(rt, "loading", micros) {
+        Ok(()) => 0,
+        Err(_) => FAILED,
+    }
+}
+
 fn alone(morsel_size: &str) -> Option<By> {
     Some(By::Alone(Settings::new(1, morsel_size.parse().ok()?, 1)?))
 }
@@ -98,13 +120,18 @@ fn workers(workers: &str, morsel_size: &str, parts: &str) -> Option<By> {
     Some(By::Workers(Settings::new(workers, morsel_size, parts)?))
 }
 
-fn status<R: Files + Clock + Print + Env + Threads + Wait + Sync + AllocGlobal>(rt: &R) -> u8 {
+fn status<R: Files<File = File> + Clock + Print + Env + Threads + Wait + Sync + AllocGlobal>(
+    rt: &R,
+) -> u8 {
     let Some(given) = words(rt) else {
         return FAILED;
     };
     match given.as_slice() {
         [] | [_] => 0,
         [_, command, path] if command.as_str() == "read" => print_count(rt, path.as_str()),
+        [_, command, folder, count] if command.as_str() == "load" => {
+            print_loading_time(rt, folder.as_str(), count.as_str())
+        }
         [_, command, folder, path] if command.as_str() == "probe" => {
             print_measures(rt, folder.as_str(), path.as_str())
         }

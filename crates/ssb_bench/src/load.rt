@@ -1,0 +1,121 @@
+// Loading alone: the tables of a folder, the one without a key from several sections of its file.
+
+ghost use Rattle.std.specs.Prelude.{◌≡◌, [], All, IfSome, length, vec_len};
+
+use crate::probe::{catalog_in, micros_since};
+use ssb_load::{Catalog, In, Joined, PIECE_SIZE, TableDef, load_all_with};
+use std::fs;
+use std::fs::{File, OpenFile};
+use std::io::{Read, Seek, SeekFrom, Take};
+use std::os::unix::fs::MetadataExt;
+use std::rt::{Clock, Files};
+use std::thread::Threads;
+use std::time::Instant;
+
+// Some bytes of a file, through a handle of their own.
+type Section<F> = In<Take<F>>;
+
+// At most so many bytes of a file, from one on.
+fn section<R: Files>(rt: &R, path: &str, start: u64, size: u64) -> Option<Section<R::File>>
+    ensures { IfSome result (λ section. section.given.items ≡ []) }
+{
+    let mut file = fs::open(rt, path).ok()?;
+    file.seek(SeekFrom::Start(start)).ok()?;
+    Some(In::new(file.take(size)))
+}
+
+fn len_of<R: Files>(rt: &R, path: &str) -> Option<u64> {
+    let file = fs::open(rt, path).ok()?;
+    let known = file.metadata().ok()?;
+    Some(known.len())
+}
+
+// So many sections of a file, all but the last of one size; the last has no end.
+fn sections<R: Files + AllocGlobal>(rt: &R, path: &str, count: u64) -> Option<Vec<Section<R::File>>>
+    ensures { IfSome result (λ sections. All (λ s. s.given.items ≡ []) sections.items) }
+{
+    let size = len_of(rt, path)?.checked_div(count)?;
+    let mut sections = Vec::new(rt.alloc());
+    for number in 0..count {
+        let most = if number + 1 < count { size } else { u64::MAX };
+        let section = section(rt, path, size.saturating_mul(number), most)?;
+        sections.push(section).ok()?;
+    }
+    Some(sections)
+}
+
+fn has_key(table: &TableDef) -> bool {
+    table
+        .columns()
+        .iter()
+        .any(|column| column.rule.role.is_key())
+}
+
+// The file of a table, in sections where the table has no key.
+fn source_of<R: Files + AllocGlobal>(
+    rt: &R,
+    folder: &str,
+    table: &TableDef,
+    count: u64,
+) -> Option<Joined<Section<R::File>>> {
+    let name = table.name();
+    let path = format!(in rt.alloc(); "{folder}/{name}.tbl").ok()?;
+    let count = if has_key(table) { 1 } else { count };
+    let sections = sections(rt, path.as_str(), count)?;
+    Joined::new(rt.alloc(), sections).ok()
+}
+
+fn sources_of<R: Files + AllocGlobal>(
+    rt: &R,
+    folder: &str,
+    catalog: &Catalog,
+    count: u64,
+) -> Option<Vec<Joined<Section<R::File>>>>
+    ensures { IfSome result (λ sources. vec_len sources ≡ length catalog.now) }
+{
+    let mut sources = Vec::new(rt.alloc());
+    for table in catalog.tables() {
+        let source = source_of(rt, folder, table, count)?;
+        sources.push(source).ok()?;
+    }
+    Some(sources)
+}
+
+// How long it takes to load tables from sources that stand joined, in microseconds.
+fn time_of<R: Clock + Threads + Sync + AllocGlobal, F: Read + Drop + Send>(
+    rt: &R,
+    catalog: &Catalog,
+    sources: &mut [Joined<In<F>>],
+) -> Option<u128>
+    requires { length sources.old ≡ length catalog.now }
+{
+    let start = Instant::now(rt).ok()?;
+    let tables = load_all_with(rt, rt.alloc(), catalog, sources, PIECE_SIZE).ok()?;
+    let time = micros_since(rt, start);
+    drop(tables);
+    time
+}
+
+// The same from sections.
+fn time_of_sections<R: Clock + Threads + Sync + AllocGlobal, F: Read + Drop + Send>(
+    rt: &R,
+    catalog: &Catalog,
+    sources: &mut [Joined<Section<F>>],
+) -> Option<u128>
+    requires { length sources.old ≡ length catalog.now }
+{
+    time_of(rt, catalog, sources)
+}
+
+/// How long it takes to load the tables of a folder, whose catalog lies in it as `catalog`, in
+/// microseconds: the table without a key from so many sections of its file, each by a thread of its own.
+/// None where a file is missing, or is not what it should be, and for no section.
+pub(crate) fn loading_time<R: Files<File = File> + Clock + Threads + Sync + AllocGlobal>(
+    rt: &R,
+    folder: &str,
+    count: u64,
+) -> Option<u128> {
+    let catalog = catalog_in(rt, folder)?;
+    let mut sources = sources_of(rt, folder, &catalog, count)?;
+    time_of_sections(rt, &catalog, &mut sources)
+}

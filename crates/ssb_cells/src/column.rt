@@ -145,9 +145,23 @@ impl Column {
         requires room { length self.values + length other.values ≤ 4294967295 }
         ensures { IfOk result (λ c. c ≡ record self { values = self.values ++ other.values }) }
     {
+        // Both are let go by calls, since the prover writes out all that a value holds where a scope's end
+        // lets go of it.
         if self.is_empty() {
+            drop(self);
             return Ok(other);
         }
+        let joined = self.with_values_of(&other, width, rows);
+        drop(other);
+        joined
+    }
+
+    // This column's values and then those of another of its type. On an `Err` it is gone.
+    fn with_values_of(self, other: &Column, width: Width, rows: usize) -> Result<Column, AllocError>
+        requires of_type { other.now.kind ≡ self.kind }
+        requires room { length self.values + length other.now.values ≤ 4294967295 }
+        ensures { IfOk result (λ c. c ≡ record self { values = self.values ++ other.now.values }) }
+    {
         let Column {
             mut nulls,
             mut stored,

@@ -1,7 +1,7 @@
 use Rattle.std.proofs.Common.{◌∙◌, length, length-append, refl, ap, arith}
 use Rattle.ssb_cells.proofs.ColumnFacts.{cells-len}
 use Rattle.ssb_cells.proofs.JoinFacts.{joins, room-for}
-use Rattle.ssb_cells.proofs.column.Column.append.Goals as goal
+use Rattle.ssb_cells.proofs.column.Column.with_values_of.Goals as goal
 
 pub append-requires : goal.append-requires
 append-requires c =

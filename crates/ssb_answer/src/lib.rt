@@ -16,8 +16,6 @@ pub mod run_fault;
 pub mod settings;
 mod shown;
 pub mod sink;
-#[cfg(test)]
-mod tests;
 mod whole;
 mod write;
 pub mod writer;
@@ -34,6 +32,6 @@ pub use run_fault::RunFault;
 pub use settings::{DEFAULT_MORSEL_SIZE, DEFAULT_PARTS, DEFAULT_WORKERS, Settings};
 pub use sink::{Sink, SinkFault};
 pub use ssb_pipeline::{Gate, NoGate};
-pub use whole::{answer_job, answer_shared, run_alone_from, run_from};
+pub use whole::{answer_job, answer_shared, job_of_text, run_alone_from, run_from, run_in_pieces};
 pub use write::write_answer;
 pub use writer::Out;

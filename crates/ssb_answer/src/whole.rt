@@ -32,7 +32,7 @@ use std::sync::{Arc, Wait};
 use std::thread::Threads;
 
 // The query of a text over a catalog.
-pub(crate) fn query_of(alloc: Global, catalog: &Catalog, text: &str) -> Result<Query, RunFault>
+fn query_of(alloc: Global, catalog: &Catalog, text: &str) -> Result<Query, RunFault>
     ensures { Asked catalog.now text.now result }
 {
     let select = read(alloc, text)?;
@@ -91,7 +91,7 @@ pub fn answer_shared<R: Threads + Wait + Sync, G: Gate + Sync>(
 }
 
 // The job of a query over these tables, shared.
-pub(crate) fn shared_job(
+fn shared_job(
     alloc: Global,
     query: Query,
     tables: Vec<Table>,
@@ -109,9 +109,13 @@ pub(crate) fn shared_job(
     }
 }
 
-// The job of a text's query over these tables.
+/// The job of a text's query over the tables of a catalog, as [`load_all`] gives them.
+///
+/// # Errors
+///
+/// `Sql` and `Bind` as the text has it; `Memory` where a growth was refused.
 #[tactic(auto, using(crate::proofs::Asking::fits))]
-fn job_of_text(
+pub fn job_of_text(
     alloc: Global,
     catalog: &Catalog,
     tables: Vec<Table>,
@@ -229,9 +233,13 @@ pub fn run_from<R: Threads + Wait + Sync, S: Source + Send, G: Gate + Sync, W: S
     Ok(())
 }
 
-// [`run_alone_from`] with sources read in pieces of this many bytes, where no line is longer. The size
-// changes no answer.
-pub(crate) fn run_in_pieces<S: Source, W: Sink>(
+/// [`run_alone_from`] with sources read in pieces of this many bytes, where no line is longer. The size
+/// changes no answer.
+///
+/// # Errors
+///
+/// As of [`run_alone_from`].
+pub fn run_in_pieces<S: Source, W: Sink>(
     alloc: Global,
     catalog: Catalog,
     sources: &mut [S],

@@ -49,44 +49,52 @@ const Q2_2: &str = sales_of_parts!(
 
 const Q2_3: &str = sales_of_parts!("and p_brand1 = 'MFGR#2221' and s_region = 'EUROPE'");
 
-const Q3_1: &str = "select c_nation, s_nation, d_year, sum(lo_revenue) as revenue
-from customer, lineorder, supplier, date
-where lo_custkey = c_custkey and lo_suppkey = s_suppkey
-and lo_orderdate = d_datekey
-and c_region = 'ASIA' and s_region = 'ASIA'
-and d_year >= 1992 and d_year <= 1997
-group by c_nation, s_nation, d_year order by d_year asc, revenue desc;
-";
-
-// The third flight: what sales between cities made, with these conditions.
-macro_rules! sales_between_cities {
-    ($conditions:literal) => {
+// The third flight: what sales between customers and suppliers by such places made, with these conditions.
+macro_rules! sales_between {
+    ($place:literal, $conditions:literal) => {
         concat!(
-            "select c_city, s_city, d_year, sum(lo_revenue) as revenue
+            "select c_",
+            $place,
+            ", s_",
+            $place,
+            ", d_year, sum(lo_revenue) as revenue
 from customer, lineorder, supplier, date
 where lo_custkey = c_custkey and lo_suppkey = s_suppkey
 and lo_orderdate = d_datekey
 ",
             $conditions,
             "
-group by c_city, s_city, d_year order by d_year asc, revenue desc;
+group by c_",
+            $place,
+            ", s_",
+            $place,
+            ", d_year order by d_year asc, revenue desc;
 ",
         )
     };
 }
 
-const Q3_2: &str = sales_between_cities!(
+const Q3_1: &str = sales_between!(
+    "nation",
+    "and c_region = 'ASIA' and s_region = 'ASIA'
+and d_year >= 1992 and d_year <= 1997"
+);
+
+const Q3_2: &str = sales_between!(
+    "city",
     "and c_nation = 'UNITED STATES' and s_nation = 'UNITED STATES'
 and d_year >= 1992 and d_year <= 1997"
 );
 
-const Q3_3: &str = sales_between_cities!(
+const Q3_3: &str = sales_between!(
+    "city",
     "and (c_city = 'UNITED KI1' or c_city = 'UNITED KI5')
 and (s_city = 'UNITED KI1' or s_city = 'UNITED KI5')
 and d_year >= 1992 and d_year <= 1997"
 );
 
-const Q3_4: &str = sales_between_cities!(
+const Q3_4: &str = sales_between!(
+    "city",
     "and (c_city = 'UNITED KI1' or c_city = 'UNITED KI5')
 and (s_city = 'UNITED KI1' or s_city = 'UNITED KI5')
 and d_yearmonth = 'Dec1997'"

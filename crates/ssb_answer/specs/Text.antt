@@ -11,9 +11,13 @@ cell_text null = []
 cell_text (number n) = signed_decimal n
 cell_text (text t) = t
 
--- fields joined by bars, and LF
+-- fields joined by bars
+abbrev pub fields_text : Row → List ℕ
+fields_text row = join_with_byte 124 (map cell_text row)
+
+-- and LF behind them
 abbrev pub line : Row → List ℕ
-line row = join_with_byte 124 (map cell_text row) ++ 10 ∷ []
+line row = fields_text row ++ 10 ∷ []
 
 -- the text of the rows
 abbrev pub text_of : List Row → List ℕ

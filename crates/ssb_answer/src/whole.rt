@@ -224,7 +224,7 @@ pub fn run_from<R: Threads + Wait + Sync, S: Source + Send, G: Gate + Sync, W: S
     out: &mut W,
 ) -> Result<(), RunFault>
     requires sources { length sources.old ≡ length catalog }
-    ensures runs { RunsFrom ⟦<Joined<S> as Source>⟧.given ⟦<Joined<S> as Source>⟧.failures ⟦<Joined<S> as Source>⟧.ends ⟦<Joined<S> as Source>⟧.whole catalog text.now sources.old sources.new result (W.taken out.old) (W.taken out.new) }
+    ensures runs { let source = ⟦<Joined<S> as Source>⟧ in RunsFrom source.given source.failures source.ends source.whole catalog text.now sources.old sources.new result (W.taken out.old) (W.taken out.new) }
     ensures sink { LeavesSink result (W.taken out.old) (W.taken out.new) (W.failures out.old) (W.failures out.new) (W.contents out.old) (W.contents out.new) }
 {
     let tables = load_all_with(rt, alloc, &catalog, sources, PIECE_SIZE)?;

@@ -1,9 +1,8 @@
 // Writing an answer.
 ghost use Rattle.std.specs.Prelude.{◌≡◌, ◌<◌, ◌++◌, ◌∷◌, [], IfErr, OnOk, OnErr, map};
-ghost use Rattle.std.specs.List.{join_with_byte};
 ghost use Rattle.ssb_answer.specs.Taking.{GrewAlike, IsBeginning};
 ghost use Rattle.ssb_cells.specs.Values.{owned_cell};
-ghost use Rattle.ssb_answer.specs.Text.{cell_text, line, text_of};
+ghost use Rattle.ssb_answer.specs.Text.{cell_text, fields_text, line, text_of};
 ghost use Rattle.ssb_answer.specs.Writing.{barred, Writes, desk};
 
 use crate::answer::{Answer, AnswerRow};
@@ -40,7 +39,7 @@ fn put_barred<W: Sink>(page: &mut Page, out: &mut W, fields: &[OwnedValue]) -> R
 
 // Writes fields joined by bars.
 fn put_fields<W: Sink>(page: &mut Page, out: &mut W, fields: &[OwnedValue]) -> Result<(), SinkFault>
-    ensures { Writes result (desk (W.taken out.old) page.old (W.failures out.old) (W.contents out.old)) (desk (W.taken out.new) page.new (W.failures out.new) (W.contents out.new)) (join_with_byte 124 (map cell_text (map owned_cell fields.now))) }
+    ensures { Writes result (desk (W.taken out.old) page.old (W.failures out.old) (W.contents out.old)) (desk (W.taken out.new) page.new (W.failures out.new) (W.contents out.new)) (fields_text (map owned_cell fields.now)) }
 {
     let Some((first, rest)) = fields.split_first() else {
         return Ok(());

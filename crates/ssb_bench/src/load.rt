@@ -96,17 +96,6 @@ fn time_of<R: Clock + Threads + Sync + AllocGlobal, F: Read + Drop + Send>(
     time
 }
 
-// The same from sections.
-fn time_of_sections<R: Clock + Threads + Sync + AllocGlobal, F: Read + Drop + Send>(
-    rt: &R,
-    catalog: &Catalog,
-    sources: &mut [Joined<Section<F>>],
-) -> Option<u128>
-    requires { length sources.old ≡ length catalog.now }
-{
-    time_of(rt, catalog, sources)
-}
-
 /// How long it takes to load the tables of a folder, whose catalog lies in it as `catalog`, in
 /// microseconds: the table without a key from so many sections of its file, each by a thread of its own.
 /// None where a file is missing, or is not what it should be, and for no section.
@@ -117,5 +106,5 @@ pub(crate) fn loading_time<R: Files<File = File> + Clock + Threads + Sync + Allo
 ) -> Option<u128> {
     let catalog = catalog_in(rt, folder)?;
     let mut sources = sources_of(rt, folder, &catalog, count)?;
-    time_of_sections(rt, &catalog, &mut sources)
+    time_of(rt, &catalog, &mut sources)
 }

@@ -12,7 +12,7 @@ use crate::fault::BindFault;
 use crate::fit::Wrong;
 use crate::groups::not_grouped;
 use crate::limits::too_many;
-use crate::names::first_wrong;
+use crate::names::{Sought, first_wrong};
 use crate::orders::bad_order;
 use crate::query::QueryParts;
 use crate::resolve::table_number;
@@ -93,7 +93,14 @@ fn check_names(
 ) -> Result<(), BindFault>
     ensures { binding.Judges (spec.wrong_names catalog.now from.now wrong select.now) result }
 {
-    match first_wrong(catalog, from, wrong, select) {
+    match first_wrong(
+        Sought {
+            catalog,
+            from,
+            wrong,
+        },
+        select,
+    ) {
         None => Ok(()),
         Some(name) => Err(fault_of(wrong, name.column.copy(alloc)?)),
     }

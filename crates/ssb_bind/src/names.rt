@@ -11,25 +11,31 @@ use crate::resolve::fit_of;
 use ssb_load::TableDef;
 use ssb_sql::{ColumnName, Condition, Expr, Item, Operand, Output, Select, Step};
 
-fn is_wrong(catalog: &[TableDef], from: &[usize], wrong: Wrong, name: &ColumnName) -> bool
-    ensures { result ≡ is_wrong catalog.now from.now wrong name.now }
+/// Which names are looked for.
+#[derive(Clone, Copy)]
+pub(crate) struct Sought<'a> {
+    /// The catalog's tables.
+    pub catalog: &'a [TableDef],
+    /// The tables of FROM, by their numbers in the catalog.
+    pub from: &'a [usize],
+    /// What is wrong with a name that is looked for.
+    pub wrong: Wrong,
+}
+
+fn is_wrong(sought: Sought<'_>, name: &ColumnName) -> bool
+    ensures { result ≡ is_wrong sought.entry.catalog.now sought.entry.from.now sought.entry.wrong name.now }
 {
-    match (wrong, fit_of(catalog, from, name)) {
+    match (sought.wrong, fit_of(sought.catalog, sought.from, name)) {
         (Wrong::Unknown, Fit::Missing) => true,
         (Wrong::Ambiguous, Fit::Several) => true,
         _ => false,
     }
 }
 
-fn in_name<'a>(
-    catalog: &[TableDef],
-    from: &[usize],
-    wrong: Wrong,
-    name: &'a ColumnName,
-) -> Option<&'a ColumnName>
-    ensures { option_copied result ≡ find (is_wrong catalog.now from.now wrong) (name.now ∷ []) }
+fn in_name<'a>(sought: Sought<'_>, name: &'a ColumnName) -> Option<&'a ColumnName>
+    ensures { option_copied result ≡ find (is_wrong sought.entry.catalog.now sought.entry.from.now sought.entry.wrong) (name.now ∷ []) }
 {
-    if is_wrong(catalog, from, wrong, name) {
+    if is_wrong(sought, name) {
         Some(name)
     } else {
         None
@@ -37,16 +43,11 @@ fn in_name<'a>(
 }
 
 #[cycle(expr)]
-fn in_steps<'a>(
-    catalog: &[TableDef],
-    from: &[usize],
-    wrong: Wrong,
-    steps: &'a [Step],
-) -> Option<&'a ColumnName>
-    ensures { option_copied result ≡ find (is_wrong catalog.now from.now wrong) (names.concat (map names.step_names steps.now)) }
+fn in_steps<'a>(sought: Sought<'_>, steps: &'a [Step]) -> Option<&'a ColumnName>
+    ensures { option_copied result ≡ find (is_wrong sought.entry.catalog.now sought.entry.from.now sought.entry.wrong) (names.concat (map names.step_names steps.now)) }
 {
     for step in steps {
-        if let Some(name) = in_expr(catalog, from, wrong, &step.term) {
+        if let Some(name) = in_expr(sought, &step.term) {
             return Some(name);
         }
     }
@@ -54,16 +55,11 @@ fn in_steps<'a>(
 }
 
 #[cycle(expr)]
-fn in_factors<'a>(
-    catalog: &[TableDef],
-    from: &[usize],
-    wrong: Wrong,
-    factors: &'a [Expr],
-) -> Option<&'a ColumnName>
-    ensures { option_copied result ≡ find (is_wrong catalog.now from.now wrong) (names.concat (map names.expr_names factors.now)) }
+fn in_factors<'a>(sought: Sought<'_>, factors: &'a [Expr]) -> Option<&'a ColumnName>
+    ensures { option_copied result ≡ find (is_wrong sought.entry.catalog.now sought.entry.from.now sought.entry.wrong) (names.concat (map names.expr_names factors.now)) }
 {
     for factor in factors {
-        if let Some(name) = in_expr(catalog, from, wrong, factor) {
+        if let Some(name) = in_expr(sought, factor) {
             return Some(name);
         }
     }
@@ -72,85 +68,62 @@ fn in_factors<'a>(
 
 #[cycle(expr)]
 #[tactic(auto, using(crate::proofs::Finding::find_front, crate::proofs::Finding::find_back))]
-fn in_expr<'a>(
-    catalog: &[TableDef],
-    from: &[usize],
-    wrong: Wrong,
-    expr: &'a Expr,
-) -> Option<&'a ColumnName>
-    ensures { option_copied result ≡ find (is_wrong catalog.now from.now wrong) (names.expr_names expr.now) }
+fn in_expr<'a>(sought: Sought<'_>, expr: &'a Expr) -> Option<&'a ColumnName>
+    ensures { option_copied result ≡ find (is_wrong sought.entry.catalog.now sought.entry.from.now sought.entry.wrong) (names.expr_names expr.now) }
 {
     match expr {
-        Expr::Column(name) => in_name(catalog, from, wrong, name),
+        Expr::Column(name) => in_name(sought, name),
         Expr::Number(_) => None,
-        Expr::Positive(part) => in_expr(catalog, from, wrong, part.get()),
-        Expr::Negative(part) => in_expr(catalog, from, wrong, part.get()),
-        Expr::Chain(first, steps) => match in_expr(catalog, from, wrong, first.get()) {
+        Expr::Positive(part) => in_expr(sought, part.get()),
+        Expr::Negative(part) => in_expr(sought, part.get()),
+        Expr::Chain(first, steps) => match in_expr(sought, first.get()) {
             Some(name) => Some(name),
-            None => in_steps(catalog, from, wrong, steps.as_slice()),
+            None => in_steps(sought, steps.as_slice()),
         },
-        Expr::Times(factors) => in_factors(catalog, from, wrong, factors.as_slice()),
+        Expr::Times(factors) => in_factors(sought, factors.as_slice()),
     }
 }
 
-fn in_operand<'a>(
-    catalog: &[TableDef],
-    from: &[usize],
-    wrong: Wrong,
-    operand: &'a Operand,
-) -> Option<&'a ColumnName>
-    ensures { option_copied result ≡ find (is_wrong catalog.now from.now wrong) (names.operand_names operand.now) }
+fn in_operand<'a>(sought: Sought<'_>, operand: &'a Operand) -> Option<&'a ColumnName>
+    ensures { option_copied result ≡ find (is_wrong sought.entry.catalog.now sought.entry.from.now sought.entry.wrong) (names.operand_names operand.now) }
 {
     match operand {
-        Operand::Column(name) => in_name(catalog, from, wrong, name),
+        Operand::Column(name) => in_name(sought, name),
         Operand::Literal(_) => None,
     }
 }
 
 #[tactic(auto, using(crate::proofs::Finding::find_front, crate::proofs::Finding::find_back))]
-fn in_two<'a>(
-    catalog: &[TableDef],
-    from: &[usize],
-    wrong: Wrong,
-    first: &'a Operand,
-    second: &'a Operand,
-) -> Option<&'a ColumnName>
-    ensures { option_copied result ≡ find (is_wrong catalog.now from.now wrong) (names.operand_names first.now ++ names.operand_names second.now) }
+fn in_two<'a>(sought: Sought<'_>, first: &'a Operand, second: &'a Operand) -> Option<&'a ColumnName>
+    ensures { option_copied result ≡ find (is_wrong sought.entry.catalog.now sought.entry.from.now sought.entry.wrong) (names.operand_names first.now ++ names.operand_names second.now) }
 {
-    match in_operand(catalog, from, wrong, first) {
+    match in_operand(sought, first) {
         Some(name) => Some(name),
-        None => in_operand(catalog, from, wrong, second),
+        None => in_operand(sought, second),
     }
 }
 
 #[tactic(auto, using(crate::proofs::Finding::find_front, crate::proofs::Finding::find_back))]
 fn in_three<'a>(
-    catalog: &[TableDef],
-    from: &[usize],
-    wrong: Wrong,
+    sought: Sought<'_>,
     first: &'a Operand,
     second: &'a Operand,
     third: &'a Operand,
 ) -> Option<&'a ColumnName>
-    ensures { option_copied result ≡ find (is_wrong catalog.now from.now wrong) (names.operand_names first.now ++ (names.operand_names second.now ++ names.operand_names third.now)) }
+    ensures { option_copied result ≡ find (is_wrong sought.entry.catalog.now sought.entry.from.now sought.entry.wrong) (names.operand_names first.now ++ (names.operand_names second.now ++ names.operand_names third.now)) }
 {
-    match in_operand(catalog, from, wrong, first) {
+    match in_operand(sought, first) {
         Some(name) => Some(name),
-        None => in_two(catalog, from, wrong, second, third),
+        None => in_two(sought, second, third),
     }
 }
 
 #[cycle(condition)]
-fn in_parts<'a>(
-    catalog: &[TableDef],
-    from: &[usize],
-    wrong: Wrong,
-    parts: &'a [Condition],
-) -> Option<&'a ColumnName>
-    ensures { option_copied result ≡ find (is_wrong catalog.now from.now wrong) (names.concat (map names.condition_names parts.now)) }
+fn in_parts<'a>(sought: Sought<'_>, parts: &'a [Condition]) -> Option<&'a ColumnName>
+    ensures { option_copied result ≡ find (is_wrong sought.entry.catalog.now sought.entry.from.now sought.entry.wrong) (names.concat (map names.condition_names parts.now)) }
 {
     for part in parts {
-        if let Some(name) = in_condition(catalog, from, wrong, part) {
+        if let Some(name) = in_condition(sought, part) {
             return Some(name);
         }
     }
@@ -158,84 +131,59 @@ fn in_parts<'a>(
 }
 
 #[cycle(condition)]
-fn in_condition<'a>(
-    catalog: &[TableDef],
-    from: &[usize],
-    wrong: Wrong,
-    condition: &'a Condition,
-) -> Option<&'a ColumnName>
-    ensures { option_copied result ≡ find (is_wrong catalog.now from.now wrong) (names.condition_names condition.now) }
+fn in_condition<'a>(sought: Sought<'_>, condition: &'a Condition) -> Option<&'a ColumnName>
+    ensures { option_copied result ≡ find (is_wrong sought.entry.catalog.now sought.entry.from.now sought.entry.wrong) (names.condition_names condition.now) }
 {
     match condition {
-        Condition::Any(parts) => in_parts(catalog, from, wrong, parts.as_slice()),
-        Condition::All(parts) => in_parts(catalog, from, wrong, parts.as_slice()),
-        Condition::Not(part) => in_condition(catalog, from, wrong, part.get()),
-        Condition::Compare(_, a, b) => in_two(catalog, from, wrong, a, b),
-        Condition::Between(x, a, b) => in_three(catalog, from, wrong, x, a, b),
-        Condition::NotBetween(x, a, b) => in_three(catalog, from, wrong, x, a, b),
-        Condition::In(x, _) => in_operand(catalog, from, wrong, x),
-        Condition::NotIn(x, _) => in_operand(catalog, from, wrong, x),
-        Condition::IsNull(name) => in_name(catalog, from, wrong, name),
-        Condition::IsNotNull(name) => in_name(catalog, from, wrong, name),
+        Condition::Any(parts) => in_parts(sought, parts.as_slice()),
+        Condition::All(parts) => in_parts(sought, parts.as_slice()),
+        Condition::Not(part) => in_condition(sought, part.get()),
+        Condition::Compare(_, a, b) => in_two(sought, a, b),
+        Condition::Between(x, a, b) => in_three(sought, x, a, b),
+        Condition::NotBetween(x, a, b) => in_three(sought, x, a, b),
+        Condition::In(x, _) => in_operand(sought, x),
+        Condition::NotIn(x, _) => in_operand(sought, x),
+        Condition::IsNull(name) => in_name(sought, name),
+        Condition::IsNotNull(name) => in_name(sought, name),
     }
 }
 
-fn in_item<'a>(
-    catalog: &[TableDef],
-    from: &[usize],
-    wrong: Wrong,
-    item: &'a Item,
-) -> Option<&'a ColumnName>
-    ensures { option_copied result ≡ find (is_wrong catalog.now from.now wrong) (names.item_names item.now) }
+fn in_item<'a>(sought: Sought<'_>, item: &'a Item) -> Option<&'a ColumnName>
+    ensures { option_copied result ≡ find (is_wrong sought.entry.catalog.now sought.entry.from.now sought.entry.wrong) (names.item_names item.now) }
 {
     match &item.output {
-        Output::Column(name) => in_name(catalog, from, wrong, name),
-        Output::Sum(expr) => in_expr(catalog, from, wrong, expr),
+        Output::Column(name) => in_name(sought, name),
+        Output::Sum(expr) => in_expr(sought, expr),
         Output::CountRows => None,
-        Output::Count(expr) => in_expr(catalog, from, wrong, expr),
+        Output::Count(expr) => in_expr(sought, expr),
     }
 }
 
-fn in_items<'a>(
-    catalog: &[TableDef],
-    from: &[usize],
-    wrong: Wrong,
-    items: &'a [Item],
-) -> Option<&'a ColumnName>
-    ensures { option_copied result ≡ find (is_wrong catalog.now from.now wrong) (names.concat (map names.item_names items.now)) }
+fn in_items<'a>(sought: Sought<'_>, items: &'a [Item]) -> Option<&'a ColumnName>
+    ensures { option_copied result ≡ find (is_wrong sought.entry.catalog.now sought.entry.from.now sought.entry.wrong) (names.concat (map names.item_names items.now)) }
 {
     for item in items {
-        if let Some(name) = in_item(catalog, from, wrong, item) {
+        if let Some(name) = in_item(sought, item) {
             return Some(name);
         }
     }
     None
 }
 
-fn in_where<'a>(
-    catalog: &[TableDef],
-    from: &[usize],
-    wrong: Wrong,
-    condition: &'a Option<Condition>,
-) -> Option<&'a ColumnName>
-    ensures { option_copied result ≡ find (is_wrong catalog.now from.now wrong) (names.where_names condition.now) }
+fn in_where<'a>(sought: Sought<'_>, condition: &'a Option<Condition>) -> Option<&'a ColumnName>
+    ensures { option_copied result ≡ find (is_wrong sought.entry.catalog.now sought.entry.from.now sought.entry.wrong) (names.where_names condition.now) }
 {
     match condition {
         None => None,
-        Some(condition) => in_condition(catalog, from, wrong, condition),
+        Some(condition) => in_condition(sought, condition),
     }
 }
 
-fn in_names<'a>(
-    catalog: &[TableDef],
-    from: &[usize],
-    wrong: Wrong,
-    all: &'a [ColumnName],
-) -> Option<&'a ColumnName>
-    ensures { option_copied result ≡ find (is_wrong catalog.now from.now wrong) all.now }
+fn in_names<'a>(sought: Sought<'_>, all: &'a [ColumnName]) -> Option<&'a ColumnName>
+    ensures { option_copied result ≡ find (is_wrong sought.entry.catalog.now sought.entry.from.now sought.entry.wrong) all.now }
 {
     for name in all {
-        if is_wrong(catalog, from, wrong, name) {
+        if is_wrong(sought, name) {
             return Some(name);
         }
     }
@@ -244,19 +192,14 @@ fn in_names<'a>(
 
 // The first wrong name of a query.
 #[tactic(auto, using(crate::proofs::Finding::find_front, crate::proofs::Finding::find_back))]
-pub(crate) fn first_wrong<'a>(
-    catalog: &[TableDef],
-    from: &[usize],
-    wrong: Wrong,
-    select: &'a Select,
-) -> Option<&'a ColumnName>
-    ensures { option_copied result ≡ wrong_name catalog.now from.now wrong select.now }
+pub(crate) fn first_wrong<'a>(sought: Sought<'_>, select: &'a Select) -> Option<&'a ColumnName>
+    ensures { option_copied result ≡ wrong_name sought.entry.catalog.now sought.entry.from.now sought.entry.wrong select.now }
 {
-    if let Some(name) = in_items(catalog, from, wrong, select.items.as_slice()) {
+    if let Some(name) = in_items(sought, select.items.as_slice()) {
         return Some(name);
     }
-    if let Some(name) = in_where(catalog, from, wrong, &select.condition) {
+    if let Some(name) = in_where(sought, &select.condition) {
         return Some(name);
     }
-    in_names(catalog, from, wrong, select.groups.as_slice())
+    in_names(sought, select.groups.as_slice())
 }

@@ -1,9 +1,9 @@
 -- How the key of a combination is read in the group columns, and spelt again.
-use Rattle.std.proofs.Common.{◌≡◌, ◌∙◌, ◌<◌, ◌≤◌, ◌+◌, ◌++◌, ℕ, zero, suc, Bool, true, false, nat_lt, bytes_eq, cond, List, [], ◌∷◌, Option, None, Some, Contains, length, drop, map, slice_get, refl, sym, ap, ap₂, subst, arith, append-nil}
+use Rattle.std.proofs.Common.{◌≡◌, ◌∙◌, ◌<◌, ◌≤◌, ◌+◌, ◌++◌, ℕ, zero, suc, Bool, true, false, nat_lt, bytes_eq, cond, get_or, List, [], ◌∷◌, Option, None, Some, Contains, length, drop, map, slice_get, refl, sym, ap, ap₂, subst, arith, append-nil}
 use Rattle.std.specs.Prelude.{unwrap_or, option_map, if◌then◌else◌}
 use Rattle.std.specs.List.{position_or_len}
 use Rattle.std.proofs.lemmas.Bool.{ltb-true, ltb-false, lt-ltb}
-use Rattle.std.proofs.lemmas.Option.{same_Some, slice_get-map, slice_get_within, slice_get_past, get_or_from_slice_get}
+use Rattle.std.proofs.lemmas.Option.{same_Some, slice_get-map, slice_get_within, slice_get_past, get_or_from_slice_get, slice_get-get_or}
 use Rattle.ssb_bind.specs.declared.condition.BoundColumn.{BoundColumn}
 use Rattle.ssb_cells.specs.Cell.{Cell, Filled, null, number, text}
 use Rattle.ssb_cells.specs.Codes.{code_of, texts_of}
@@ -14,6 +14,7 @@ use Rattle.ssb_groups.specs.Keys.{AreKept, IsKept, column_in, column_values, key
 use Rattle.ssb_groups.specs.Places.{HasSomeRow, IsSomePlace, cell_at_place, place_in, place_of, table_at, values_at}
 use Rattle.ssb_groups.specs.declared.columns.Place.{Place}
 use Rattle.ssb_groups.specs.declared.key.KeyCell.{KeyCell}
+use Rattle.ssb_groups.specs.declared.key.KeyCell.TheVariants as kept
 
 -- ---- what stands for a value spells it
 
@@ -198,3 +199,33 @@ mapped {X} {Y} f made xs i past e = sym (append-nil made) ∙ ap (λ (ys : List 
 -- a key's cell at a place
 pub cell-there : (columns : List (List Cell)) (cells : List KeyCell) (i : ℕ) → AreKept columns cells → i < length columns → i < length cells
 cell-there columns cells i is lt = let same = kept-length columns cells is in omega (arith, same, lt)
+
+-- ---- at one of the group columns
+
+-- at this number stand a place in the tables, its column, and a cell of the key
+pub record IsAt (j : JobShape) (tables : List Columns) (cells key : List KeyCell) (i : ℕ) (p : Option Place) : Type 0 where
+  pub place : IsSomePlace tables p
+  pub column : slice_get (key_columns j) i ≡ Some (values_at tables p)
+  pub below : i < length cells
+  pub cell : slice_get key i ≡ Some (get_or cells i kept.Null)
+
+pub is-at : (j : JobShape) (tables : List Columns) (places : List (Option Place)) (cells key : List KeyCell) (i : ℕ)
+    → tables ≡ j.tables → places ≡ map (place_of j) j.query.groups → cells ≡ key → AreKept (key_columns j) key → i < length places → IsAt j tables cells key i (get_or places i None)
+is-at j tables places cells key i t ps cs is lt = record {
+  place = subst (λ ts. IsSomePlace ts p) (sym t) (each-place (IsSomePlace j.tables) j j.query.groups i p (place-there j) at);
+  column = column;
+  below = subst (λ ks. i < length ks) (sym cs) inside;
+  cell = slice_get-get_or key i kept.Null inside ∙ ap (λ ks. Some (get_or ks i kept.Null)) (sym cs);
+}
+  where
+    p : Option Place
+    p = get_or places i None
+
+    at : slice_get (map (place_of j) j.query.groups) i ≡ Some p
+    at = ap (λ xs. slice_get xs i) (sym ps) ∙ slice_get-get_or places i None lt
+
+    column : slice_get (key_columns j) i ≡ Some (values_at tables p)
+    column = column-at j i p at ∙ ap (λ ts. Some (values_at ts p)) (sym t)
+
+    inside : i < length key
+    inside = cell-there (key_columns j) key i is (slice_get_within (key_columns j) i _ column)

@@ -4,8 +4,11 @@ use Rattle.std.specs.Prelude.{ℕ, zero, suc, ◌+◌, ◌^◌, ◌<◌, ◌+ℤ
 use Rattle.std.specs.Int.RustNames.{FitsSigned}
 use Rattle.std.specs.Int.{w128}
 use Rattle.std.specs.Map.{lookup}
+use Rattle.ssb_cells.specs.Cell.{Cell}
+use Rattle.ssb_groups.specs.Keys.{AreKeys, IsKey, cells_in, entries_of}
 use Rattle.ssb_groups.specs.Rows.{Key, key_eq}
 use Rattle.ssb_groups.specs.declared.accumulator.Accumulator.{Accumulator}
+use Rattle.ssb_groups.specs.declared.key.GroupKey.{GroupKey}
 
 abbrev pub joined : Accumulator → Accumulator → Accumulator
 joined a b = record { values = a.values + b.values; total = a.total +ℤ b.total }
@@ -48,3 +51,13 @@ abbrev pub JoinsEach : List (Key × List Accumulator) → List (Key × List Accu
 JoinsEach more before after =
     ((k : Key) (xs ys : List Accumulator) → lookup (key_eq k) before ≡ Some xs → lookup (key_eq k) more ≡ Some ys → FitEach xs ys)
     → (q : Key) → lookup (key_eq q) after ≡ option_joined (lookup (key_eq q) before) (lookup (key_eq q) more)
+
+-- accumulators are joined to those of a key, by whatever columns the keys are spelt
+abbrev pub JoinsKey : GroupKey → List Accumulator → List (GroupKey × List Accumulator) → List (GroupKey × List Accumulator) → Type 0
+JoinsKey key more before after =
+    (columns : List (List Cell)) → IsKey columns key → AreKeys columns before → JoinsAt (cells_in columns key) more (entries_of columns before) (entries_of columns after)
+
+-- the groups of two tables are joined, by whatever columns the keys are spelt
+abbrev pub JoinsTable : List (GroupKey × List Accumulator) → List (GroupKey × List Accumulator) → List (GroupKey × List Accumulator) → Type 0
+JoinsTable more before after =
+    (columns : List (List Cell)) → AreKeys columns more → AreKeys columns before → JoinsEach (entries_of columns more) (entries_of columns before) (entries_of columns after)

@@ -3,8 +3,8 @@
 ghost use Rattle.std.specs.Prelude.{◌≡◌, ◌+◌, ◌<◌, ◌≤◌, List, OnOk, OnErr};
 ghost use Rattle.ssb_cells.specs.Cell.{Cell};
 ghost use Rattle.indexmap.specs.IndexMap.{IsUnique, index_map_len, spare};
-ghost use Rattle.ssb_groups.specs.Joining.{JoinsAt, JoinsEach};
-ghost use Rattle.ssb_groups.specs.Keys.{AreKeys, IsKey, cells_in, entries_of};
+ghost use Rattle.ssb_groups.specs.Joining.{JoinsKey, JoinsTable};
+ghost use Rattle.ssb_groups.specs.Keys.{AreKeys, IsKey};
 ghost use Rattle.ssb_groups.specs.contracts.key.GroupKeyPartialEq.TheImpl as keys;
 
 use crate::accumulator::Accumulator;
@@ -24,7 +24,7 @@ pub(crate) fn put(
     more: &[Accumulator],
 ) -> Result<(), AllocError>
     requires { IsUnique keys.eq-value.it table.old }
-    ensures joined { OnOk result ((columns : List (List Cell)) → IsKey columns key.now → AreKeys columns table.old.entries → JoinsAt (cells_in columns key.now) more.now (entries_of columns table.old.entries) (entries_of columns table.new.entries)) }
+    ensures joined { OnOk result (JoinsKey key.now more.now table.old.entries table.new.entries) }
     ensures keys { (columns : List (List Cell)) → IsKey columns key.now → AreKeys columns table.old.entries → AreKeys columns table.new.entries }
     ensures unique { IsUnique keys.eq-value.it table.new }
     ensures err { OnErr result (table.new.entries ≡ table.old.entries) }
@@ -44,7 +44,7 @@ pub(crate) fn put(
 fn take_in(table: &mut GroupTable, key: GroupKey, more: Totals)
     requires unique { IsUnique keys.eq-value.it table.old }
     requires room { 0 < spare table.old }
-    ensures joined { (columns : List (List Cell)) → IsKey columns key → AreKeys columns table.old.entries → JoinsAt (cells_in columns key) more (entries_of columns table.old.entries) (entries_of columns table.new.entries) }
+    ensures joined { JoinsKey key more table.old.entries table.new.entries }
     ensures keys { (columns : List (List Cell)) → IsKey columns key → AreKeys columns table.old.entries → AreKeys columns table.new.entries }
     ensures unique { IsUnique keys.eq-value.it table.new }
     ensures room { spare table.old ≤ spare table.new + 1 }
@@ -64,7 +64,7 @@ pub(crate) fn take_all_in(table: &mut GroupTable, other: GroupTable)
     requires unique { IsUnique keys.eq-value.it table.old }
     requires others { IsUnique keys.eq-value.it other }
     requires room { index_map_len other ≤ spare table.old }
-    ensures joined { (columns : List (List Cell)) → AreKeys columns other.entries → AreKeys columns table.old.entries → JoinsEach (entries_of columns other.entries) (entries_of columns table.old.entries) (entries_of columns table.new.entries) }
+    ensures joined { JoinsTable other.entries table.old.entries table.new.entries }
     ensures keys { (columns : List (List Cell)) → AreKeys columns other.entries → AreKeys columns table.old.entries → AreKeys columns table.new.entries }
     ensures unique { IsUnique keys.eq-value.it table.new }
 {

@@ -5,9 +5,9 @@ use Rattle.std.proofs.lemmas.Grind.{get_or-set_at}
 use Rattle.std.proofs.lemmas.List.Elements.{All-nil, All-append, All-push, All-weaker}
 use Rattle.ssb_pipeline.specs.Part.{has}
 use Rattle.ssb_pipeline.specs.Rule.{Knows, fresh}
-use Rattle.ssb_pipeline.specs.Pass.{AllSections, PassState, known, knowing}
+use Rattle.ssb_pipeline.specs.Pass.{AllSections, PartsState, PassState, known, knowing}
 use Rattle.ssb_pipeline.specs.State.{TicketState}
-use Rattle.ssb_pipeline.specs.Work.{AllBack, Brings, GetsTicket, IsExhausted, IsRound, OnlyIn}
+use Rattle.ssb_pipeline.specs.Work.{AllBack, Brings, GetsTicket, IsExhausted, IsReady, IsRound, OnlyIn, StaysReady}
 use Rattle.ssb_pipeline.proofs.Later.{follows_self, follows_after}
 use Rattle.ssb_pipeline.proofs.Passes.{all_knowing, all_but_one}
 
@@ -24,6 +24,13 @@ only_again s t p q r v w is in_views a b =
 
 pub only_more : (s : ℕ) (p q r : PassState) → s < length p.views → OnlyIn s p q → OnlyIn s q r → OnlyIn s p r
 only_more s p q r in_views a b = only_again s s p q r (known q s) (known r s) refl in_views a b
+
+module _ (parts : PartsState) (s : ℕ) (p q : PassState) (ready : IsReady parts s p) where
+  pub ready-again : StaysReady parts s p q → IsReady parts s q
+  ready-again a = record { there = ready.there; pass = a.pass; none = a.none }
+
+  pub ready_more : (r : PassState) → StaysReady parts s p q → StaysReady parts s q r → StaysReady parts s p r
+  ready_more r a b = record { only = only_more s p q r (subst (λ n. s < n) (sym ready.pass.count) ready.there) a.only b.only; pass = b.pass; none = b.none }
 
 pub round_self : (v : Knows) → IsRound v v
 round_self v = record { more = []; mine = sym (append-nil v.mine); follows = follows_self v.seen; back = inr (All-nil (λ i. has v.seen.returned i ≡ true)) }

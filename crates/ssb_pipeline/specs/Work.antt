@@ -1,6 +1,6 @@
 -- What workers leave: the rounds of one pass over the sections.
 -- Source: own.
-use Rattle.std.specs.Prelude.{◌≡◌, ℕ, true, List, [], ◌∷◌, ◌++◌, ◌⊎◌, All, None, Some, Option, Result, Ok, Err}
+use Rattle.std.specs.Prelude.{◌≡◌, ℕ, ◌<◌, true, List, [], ◌∷◌, ◌++◌, ◌⊎◌, length, All, None, Some, Option, Result, Ok, Err}
 use Rattle.ssb_job.specs.Kept.{AreOneJob}
 use Rattle.ssb_pipeline.specs.Part.{Follows, GivesUp, IsHandedOut, PartState, has, ours}
 use Rattle.ssb_pipeline.specs.Pass.{AllSections, HoldsNone, IsPassOfParts, PartsState, PassState, known, knowing}
@@ -29,6 +29,18 @@ IsOneMore v w = (i : ℕ) × (w.mine ≡ v.mine ++ i ∷ [])
 -- only what it knows of this section has changed
 abbrev pub OnlyIn : ℕ → PassState → PassState → Type 0
 OnlyIn s p q = q ≡ knowing p s (known q s)
+
+-- the section is one of these parts', and the pass is theirs and holds none
+pub record IsReady (parts : PartsState) (section : ℕ) (p : PassState) : Type 0 where
+  pub there : section < length parts.queues
+  pub pass : IsPassOfParts parts p
+  pub none : HoldsNone p
+
+-- only what the pass knows of this section has changed; it is one of these parts still, and holds none
+pub record StaysReady (parts : PartsState) (section : ℕ) (p q : PassState) : Type 0 where
+  pub only : OnlyIn section p q
+  pub pass : IsPassOfParts parts q
+  pub none : HoldsNone q
 
 -- what getting a ticket in a hold of its own leaves: a number more that is handed out and not back, or that there is none left
 abbrev pub GetsTicket : Option TicketState → Knows → Knows → Type 0

@@ -4,7 +4,7 @@ ghost use Rattle.std.specs.Prelude.{◌≡◌, ◌<◌, ℕ, true, length, slice
 ghost use Rattle.ssb_job.specs.Kept.{AreOneJob};
 ghost use Rattle.ssb_pipeline.specs.Part.{has};
 ghost use Rattle.ssb_pipeline.specs.Pass.{HoldsNone, IsPassOfParts, PassState, known};
-ghost use Rattle.ssb_pipeline.specs.Work.{Brings, GetsTicket, IsExhausted, IsOneMore, IsRound, IsWorked, OnlyIn, TakesBack};
+ghost use Rattle.ssb_pipeline.specs.Work.{Brings, GetsTicket, IsExhausted, IsOneMore, IsReady, IsRound, IsWorked, StaysReady, TakesBack};
 
 use crate::fault::ReturnFault;
 use crate::gate::Gate;
@@ -24,12 +24,8 @@ fn get_ticket<R: Wait, G: Gate>(
     pass: &mut PartsPass,
     gate: &G,
 ) -> Option<Ticket>
-    requires section { section < length parts.now.queues }
-    requires pass { IsPassOfParts parts.now pass.old }
-    requires none { HoldsNone pass.old }
-    ensures only { OnlyIn section pass.old pass.new }
-    ensures pass { IsPassOfParts parts.now pass.new }
-    ensures none { HoldsNone pass.new }
+    requires { IsReady parts.now section pass.old }
+    ensures ready { StaysReady parts.now section pass.old pass.new }
     ensures gets { GetsTicket result (known pass.old section) (known pass.new section) }
 {
     let mut held = parts.take(rt, section, pass);
@@ -51,14 +47,10 @@ fn bring_back<R: Wait>(
     made: Result<Partial, Ticket>,
     morsel: u32,
 )
-    requires section { section < length parts.now.queues }
-    requires pass { IsPassOfParts parts.now pass.old }
-    requires none { HoldsNone pass.old }
+    requires ready { IsReady parts.now section pass.old }
     requires made { IfOk made (λ p. (p.ticket.morsel ≡ morsel) × AreOneJob p.ticket.job parts.now.job × (p.ticket.size ≡ parts.now.size)) }
     requires handed { has (known pass.old section).seen.handed morsel ≡ true }
-    ensures only { OnlyIn section pass.old pass.new }
-    ensures pass { IsPassOfParts parts.now pass.new }
-    ensures none { HoldsNone pass.new }
+    ensures ready { StaysReady parts.now section pass.old pass.new }
     ensures brings { Brings morsel (known pass.old section) (known pass.new section) }
 {
     let mut held = parts.take(rt, section, pass);
@@ -89,12 +81,8 @@ fn turn<R: Wait, G: Gate>(
     pass: &mut PartsPass,
     gate: &G,
 ) -> bool
-    requires section { section < length parts.now.queues }
-    requires pass { IsPassOfParts parts.now pass.old }
-    requires none { HoldsNone pass.old }
-    ensures only { OnlyIn section pass.old pass.new }
-    ensures pass { IsPassOfParts parts.now pass.new }
-    ensures none { HoldsNone pass.new }
+    requires { IsReady parts.now section pass.old }
+    ensures ready { StaysReady parts.now section pass.old pass.new }
     ensures round { IsRound (known pass.old section) (known pass.new section) }
     ensures more { IsTrue result → IsOneMore (known pass.old section) (known pass.new section) }
     ensures ended { IsFalse result → IsExhausted (known pass.new section) }
@@ -117,12 +105,8 @@ fn work_section<R: Wait, G: Gate>(
     pass: &mut PartsPass,
     gate: &G,
 )
-    requires section { section < length parts.now.queues }
-    requires pass { IsPassOfParts parts.now pass.old }
-    requires none { HoldsNone pass.old }
-    ensures only { OnlyIn section pass.old pass.new }
-    ensures pass { IsPassOfParts parts.now pass.new }
-    ensures none { HoldsNone pass.new }
+    requires { IsReady parts.now section pass.old }
+    ensures ready { StaysReady parts.now section pass.old pass.new }
     ensures round { IsRound (known pass.old section) (known pass.new section) }
     ensures ended { IsExhausted (known pass.new section) }
 {

@@ -55,6 +55,21 @@ pub enum WordsFault {
     Memory,
 }
 
+const CATALOG_HELP: &str =
+    "The tables and their columns, where they are not those of the benchmark";
+
+const DATA_HELP: &str = "The folder with a file TABLE.tbl for each table";
+
+const NAME_HELP: &str = "The query of the benchmark, Q1.1 to Q4.3, in place of a file";
+
+const WORKERS_HELP: &str =
+    "How many workers take morsels, each in a thread, 1 to 64; 4 if not given";
+
+const MORSEL_HELP: &str =
+    "How many rows of the fact table are one morsel, 1 to 1048576; 10000 if not given";
+
+const PARTS_HELP: &str = "Into how many parts the morsels are divided, 1 to 16; 1 if not given";
+
 // An option with a value.
 fn option<'a>(alloc: Global, name: &'a str, value: &'a str, help: &'a str) -> Arg<'a> {
     Arg::new(alloc, name)
@@ -69,45 +84,19 @@ fn query_option<'a>(alloc: Global) -> Arg<'a> {
 }
 
 fn catalog_option<'a>(alloc: Global) -> Arg<'a> {
-    let help = "The tables and their columns, where they are not those of the benchmark";
-    option(alloc, "catalog", "FILE", help)
-}
-
-fn name_option<'a>(alloc: Global) -> Arg<'a> {
-    let help = "The query of the benchmark, Q1.1 to Q4.3, in place of a file";
-    option(alloc, "name", "NAME", help)
-}
-
-fn data_option<'a>(alloc: Global) -> Arg<'a> {
-    let help = "The folder with a file TABLE.tbl for each table";
-    option(alloc, "data", "DIR", help).required(true)
-}
-
-fn workers_option<'a>(alloc: Global) -> Arg<'a> {
-    let help = "How many workers take morsels, each in a thread, 1 to 64; 4 if not given";
-    option(alloc, "workers", "N", help)
-}
-
-fn morsel_option<'a>(alloc: Global) -> Arg<'a> {
-    let help = "How many rows of the fact table are one morsel, 1 to 1048576; 10000 if not given";
-    option(alloc, "morsel", "N", help)
-}
-
-fn parts_option<'a>(alloc: Global) -> Arg<'a> {
-    let help = "Into how many parts the morsels are divided, 1 to 16; 1 if not given";
-    option(alloc, "parts", "N", help)
+    option(alloc, "catalog", "FILE", CATALOG_HELP)
 }
 
 fn run_command<'a>(alloc: Global) -> Result<Command<'a>, AllocError> {
     let run = Command::new(alloc, "run")
         .about("Answers a query over tables")
-        .arg(data_option(alloc))?
+        .arg(option(alloc, "data", "DIR", DATA_HELP).required(true))?
         .arg(query_option(alloc))?
-        .arg(name_option(alloc))?
+        .arg(option(alloc, "name", "NAME", NAME_HELP))?
         .arg(catalog_option(alloc))?
-        .arg(workers_option(alloc))?
-        .arg(morsel_option(alloc))?
-        .arg(parts_option(alloc))?;
+        .arg(option(alloc, "workers", "N", WORKERS_HELP))?
+        .arg(option(alloc, "morsel", "N", MORSEL_HELP))?
+        .arg(option(alloc, "parts", "N", PARTS_HELP))?;
     Ok(run)
 }
 

@@ -4,4 +4,4 @@ use Rattle.ssb_bind.specs.Names.{concat, condition_names}
 use Rattle.ssb_bind.proofs.names.+condition.Given as goal
 
 abbrev pub invariant-in_parts-loop-part : goal.invariant-in_parts-loop-part
-invariant-in_parts-loop-part l = find (is_wrong l.catalog l.from l.wrong) (concat (map condition_names (drop l.part-index l.parts))) ≡ find (is_wrong l.catalog l.from l.wrong) (concat (map condition_names l.parts))
+invariant-in_parts-loop-part l = find (is_wrong l.sought.catalog.now l.sought.from.now l.sought.wrong) (concat (map condition_names (drop l.part-index l.parts))) ≡ find (is_wrong l.sought.catalog.now l.sought.from.now l.sought.wrong) (concat (map condition_names l.parts))

@@ -4,4 +4,4 @@ use Rattle.ssb_bind.specs.Names.{concat, item_names}
 use Rattle.ssb_bind.proofs.names.in_items.Given as goal
 
 abbrev pub invariant-loop-item : goal.invariant-loop-item
-invariant-loop-item l = find (is_wrong l.catalog l.from l.wrong) (concat (map item_names (drop l.item-index l.items))) ≡ find (is_wrong l.catalog l.from l.wrong) (concat (map item_names l.items))
+invariant-loop-item l = find (is_wrong l.sought.catalog.now l.sought.from.now l.sought.wrong) (concat (map item_names (drop l.item-index l.items))) ≡ find (is_wrong l.sought.catalog.now l.sought.from.now l.sought.wrong) (concat (map item_names l.items))

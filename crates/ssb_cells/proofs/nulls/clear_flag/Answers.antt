@@ -8,21 +8,15 @@ use Rattle.ssb_cells.proofs.nulls.clear_flag.Goals as goal
 pub returns-then-word-len : goal.returns-then-word-len
 returns-then-word-len c =
     let p = c.args.place in
-    let words = c.args.words.now in
-    let e = words.ok.0 in
-    let known = c.if-word-len.true in
-    let len = c.len.ensures in
-    let within : p / 64 < length words.items = omega (arith, e, known, len) in
+    let words = c.args.words.now.items in
+    let within : p / 64 < length words = omega (arith, c.args.words.now.ok.0, c.if-word-len.true, c.len.ensures) in
     let k : p % 64 < 64 = omega arith in
     let v = c.index_mut.result.now in
-    one-changed words.items p _ false within (ap (λ x. nat_eq x 1) (bit_at_clear_same w64 v (p % 64) k)) (λ i low apart. bit_at_clear_other w64 v (p % 64) k i low apart ∙ ap (λ w. bit_at w i) (c.index_mut.ensures.value ∙ get_or_default words.items (p / 64) v 0 within))
+    one-changed words p _ false within (ap (λ x. nat_eq x 1) (bit_at_clear_same w64 v (p % 64) k)) (λ i low apart. bit_at_clear_other w64 v (p % 64) k i low apart ∙ ap (λ w. bit_at w i) (c.index_mut.ensures.value ∙ get_or_default words (p / 64) v 0 within))
 
 pub returns-else-word-len : goal.returns-else-word-len
 returns-else-word-len c =
     let p = c.args.place in
-    let words = c.args.words.now in
-    let e = words.ok.0 in
-    let known = c.if-word-len.false in
-    let len = c.len.ensures in
-    let past : length words.items ≤ p / 64 = omega (arith, e, known, len) in
-    unset words.items p (ap (λ w. nat_eq (bit_at w (p % 64)) 1) (get_or_past words.items (p / 64) 0 past) ∙ ap (λ n. nat_eq n 1) (bit_at-zero (p % 64)))
+    let words = c.args.words.now.items in
+    let past : length words ≤ p / 64 = omega (arith, c.args.words.now.ok.0, c.if-word-len.false, c.len.ensures) in
+    unset words p (ap (λ w. nat_eq (bit_at w (p % 64)) 1) (get_or_past words (p / 64) 0 past) ∙ ap (λ n. nat_eq n 1) (bit_at-zero (p % 64)))

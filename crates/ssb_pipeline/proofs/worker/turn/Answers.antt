@@ -1,13 +1,14 @@
-use Rattle.std.proofs.Common.{◌∙◌, ◌<◌, sym, subst}
+use Rattle.std.proofs.Common.{◌∙◌, subst}
 use Rattle.ssb_pipeline.specs.Pass.{known}
 use Rattle.ssb_pipeline.specs.Work.{Brings}
-use Rattle.ssb_pipeline.proofs.Rounds.{only_more, round-of}
+use Rattle.ssb_pipeline.proofs.Rounds.{ready-again, ready_more, round-of}
 use Rattle.ssb_pipeline.proofs.worker.turn.Goals as goal
 
-pub returns-clause-only : goal.returns-clause-only
-returns-clause-only g c =
-    let in_views = subst (λ n. c.args.section < n) (sym c.requires.pass.count) c.requires.section in
-    only_more c.args.section c.args.pass.now c.get_ticket.new.pass c.bring_back.new.pass in_views c.in-Some.ensures.only c.bring_back.ensures.only
+pub bring_back-requires-clause-ready : goal.bring_back-requires-clause-ready
+bring_back-requires-clause-ready g c = ready-again _ _ _ _ c.requires c.in-Some.ensures.ready
+
+pub returns-clause-ready : goal.returns-clause-ready
+returns-clause-ready g c = ready_more _ _ _ _ c.requires _ c.in-Some.ensures.ready c.bring_back.ensures.ready
 
 pub returns-clause-round : goal.returns-clause-round
 returns-clause-round g c =

@@ -10,11 +10,11 @@ loop-section-preserved g c =
     let t = c.loop-section-test.true in
     let first = c.if-sections-eq0.first in
     let w = c.work_section.ensures in record {
-      pass = w.pass;
-      none = w.none;
-      rounds = rounds_step c.args.pass.now q c.work_section.new.pass c.loop-section.section (omega arith) c.loop-section.invariant.rounds w.only w.round;
+      pass = w.ready.pass;
+      none = w.ready.none;
+      rounds = rounds_step c.args.pass.now q c.work_section.new.pass c.loop-section.section (omega arith) c.loop-section.invariant.rounds w.ready.only w.round;
       ended = ended_step (λ s. (first ≤ s) × (s < c.loop-section.section + 1)) q c.work_section.new.pass c.loop-section.section (omega arith)
-          (λ s in_s ne d. c.loop-section.invariant.ended s in_s (d.0, let d1 = d.1 in omega arith)) w.only w.ended;
+          (λ s in_s ne d. c.loop-section.invariant.ended s in_s (d.0, let d1 = d.1 in omega arith)) w.ready.only w.ended;
     }
 
 pub loop-section-2-preserved : goal.loop-section-2-preserved
@@ -26,9 +26,9 @@ loop-section-2-preserved g c =
     let first = c.if-sections-eq0.first in
     let f = c.loop-section-2.auto.section-end in
     let w = c.work_section-in-loop-section-2.ensures in record {
-      pass = w.pass;
-      none = w.none;
-      rounds = rounds_step c.args.pass.now q c.work_section-in-loop-section-2.new.pass c.loop-section-2.section (search rules) c.loop-section-2.invariant.rounds w.only w.round;
+      pass = w.ready.pass;
+      none = w.ready.none;
+      rounds = rounds_step c.args.pass.now q c.work_section-in-loop-section-2.new.pass c.loop-section-2.section (search rules) c.loop-section-2.invariant.rounds w.ready.only w.round;
       ended = ended_step (λ s. (s < c.loop-section-2.section + 1) ⊎ (first ≤ s)) q c.work_section-in-loop-section-2.new.pass c.loop-section-2.section (search rules)
-          (λ s in_s ne d. c.loop-section-2.invariant.ended s in_s (⊎_elim (λ (l : s < c.loop-section-2.section + 1). inl (omega arith)) inr d)) w.only w.ended;
+          (λ s in_s ne d. c.loop-section-2.invariant.ended s in_s (⊎_elim (λ (l : s < c.loop-section-2.section + 1). inl (omega arith)) inr d)) w.ready.only w.ended;
     }

@@ -1,11 +1,11 @@
 -- Sources that are read side by side: why they stop, said of the bytes given and of all bytes.
-use Rattle.std.proofs.Common.{◌≡◌, ◌∙◌, ◌+◌, ◌<◌, ◌≤◌, ◌++◌, ℕ, zero, suc, List, [], ◌∷◌, length, map, take, drop, get_or, refl, sym, ap, subst, arith, append_assoc}
+use Rattle.std.proofs.Common.{◌≡◌, ◌∙◌, ◌<◌, ◌++◌, ℕ, List, [], length, take, drop, sym, ap, subst, arith, append_assoc}
 use Rattle.std.specs.List.{All}
 use Rattle.std.proofs.lemmas.List.{append-nil, drop_all, get_or-map, length-map, take_all}
 use Rattle.ssb_load.specs.Assembly.{Halts}
 use Rattle.ssb_load.specs.CutShort.{IfRead}
 use Rattle.ssb_load.specs.Giving.{given_since}
-use Rattle.ssb_load.specs.Intake.{AreGood, Refuses, RefusesRow, StopsBy, StopsIn, Subject}
+use Rattle.ssb_load.specs.Intake.{Refuses, RefusesRow, StopsBy, StopsIn, Subject}
 use Rattle.ssb_load.specs.Joined.{failures_with, sources_in}
 use Rattle.ssb_load.specs.Records.{Fields, records_of}
 use Rattle.ssb_load.specs.declared.fault.LoadFault.{LoadFault}

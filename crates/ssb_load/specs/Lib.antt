@@ -10,6 +10,7 @@ pub mod Giving
 pub mod Intake
 pub mod Joined
 pub mod JoinedLaws
+pub mod JoinedSource
 pub mod Joining
 pub mod Lane
 pub mod Lanes
@@ -24,6 +25,7 @@ pub mod Part
 pub mod Pieces
 pub mod Records
 pub mod Rules
+pub mod Runs
 pub mod Settled
 pub mod Shapes
 pub mod TableIntake

@@ -2,8 +2,9 @@
 
 ghost use Rattle.std.specs.Prelude.{◌≡◌, IfErr, IfOk, List, OnOk, Some, length, map};
 ghost use Rattle.ssb_load.specs.Catalog.{IsCatalog};
-ghost use Rattle.ssb_load.specs.CutShort.{IfRead};
-ghost use Rattle.ssb_load.specs.Files.{AreLawful, Bytes, FailedAt, GrewEach, LoadsAll, RoseEach, given_each};
+ghost use Rattle.ssb_load.specs.Files.{AreLawful, Bytes, GrewEach, LoadsAll, RoseEach, given_each};
+ghost use Rattle.ssb_load.specs.JoinedSource.{joined_source};
+ghost use Rattle.ssb_load.specs.Runs.{FailedRead};
 
 use crate::catalog::Catalog;
 use crate::fault::{FileFault, LoadFault};
@@ -31,7 +32,7 @@ pub fn load_all_with<S: Source + Send, R: Threads + Sync>(
     ensures grows { GrewEach (map ⟦<Joined<S> as Source>⟧.given sources.old) (map ⟦<Joined<S> as Source>⟧.given sources.new) }
     ensures loads { LoadsAll catalog.now (given_each (map ⟦<Joined<S> as Source>⟧.given sources.old) (map ⟦<Joined<S> as Source>⟧.given sources.new)) result }
     ensures ended { OnOk result (RoseEach (map ⟦<Joined<S> as Source>⟧.ends sources.old) (map ⟦<Joined<S> as Source>⟧.ends sources.new)) }
-    ensures failed { IfErr result (λ e. IfRead e.fault (FailedAt catalog.now (given_each (map ⟦<Joined<S> as Source>⟧.given sources.old) (map ⟦<Joined<S> as Source>⟧.given sources.new)) (map ⟦<Joined<S> as Source>⟧.failures sources.old) (map ⟦<Joined<S> as Source>⟧.failures sources.new) e.table)) }
+    ensures failed { IfErr result (FailedRead joined_source catalog.now sources.old sources.new) }
     ensures told { (files : List Bytes) → map ⟦<Joined<S> as Source>⟧.whole sources.old ≡ map Some files → LoadsAll catalog.now (given_each (map ⟦<Joined<S> as Source>⟧.given sources.old) files) result }
     ensures lawful { IfOk result (λ tables. AreLawful catalog.now tables.items) }
     ensures catalog { OnOk result (IsCatalog catalog.now) }

@@ -1,62 +1,64 @@
-use Rattle.std.proofs.Common.{◌≡◌, ◌<◌, ◌≤◌, ap, get_or, length, refl, arith}
-use Rattle.ssb_load.proofs.LoadingAll.{Members, done-length, done-start, end-is, end-loads, end-told, grew-done, lawful-done, next-done, rose-done, stop-failed, stop-grows, stop-loads, stop-told}
+use Rattle.std.proofs.Common.{◌≡◌, ◌<◌, ◌≤◌, Err, Ok, add-one, ap, get_or, length, refl, subst, arith}
+use Rattle.std.specs.Prelude.{slice_set}
+use Rattle.ssb_load.specs.Loading.{rules_at}
+use Rattle.ssb_load.specs.Runs.{IsLoaded}
+use Rattle.ssb_load.proofs.LoadingAll.{begun-all, begun-length, begun-next, begun-refused, begun-stops, ran-ended, ran-failed, ran-grows, ran-lawful, ran-loads, ran-told}
+use Rattle.ssb_load.proofs.LoadingAll.Begun.{start}
 use Rattle.ssb_load.proofs.all_tables.load_all.Goals as goal
 
 pub loop-number-init : goal.loop-number-init
-loop-number-init g c =
-    let m : Members g.row.S.Denot = record { given = g.S.Source.given; failures = g.S.Source.failures; ends = g.S.Source.ends; whole = g.S.Source.whole } in
-    record { count = refl; done = rw c.new-tables.ensures.items (done-start m c.args.catalog.now c.args.sources.now) }
+loop-number-init g c = record { count = refl; begun = rw c.new-tables.ensures.items start }
 
 pub returns-in_default-clause-grows : goal.returns-in_default-clause-grows
 returns-in_default-clause-grows g c =
-    let m : Members g.row.S.Denot = record { given = g.S.Source.given; failures = g.S.Source.failures; ends = g.S.Source.ends; whole = g.S.Source.whole } in
+    let same = c.requires in
     let lt : c.loop-number.number < length c.args.catalog.now = rw (← c.tables-number-end.ensures.tables) c.loop-number-test.true in
-    let here = ap (λ x. get_or c.loop-number.sources c.loop-number.number x) c.index-sources-number.is in
-    stop-grows m _ c.loop-number.number _ _ _ _ _ lt c.loop-number.invariant.done here c.load_in_pieces.ensures.grows
+    let k = c.loop-number.number in
+    let d = get_or c.loop-number.sources k c.index-sources-number.result in
+    let here : d ≡ get_or c.loop-number.sources k d = ap (λ x. get_or c.loop-number.sources k x) c.index-sources-number.is in
+    begun-refused g.S.Source d c.load_in_pieces.new.source c.loop-number.invariant.begun (omega (arith, lt, same)) (rw (← here) c.load_in_pieces.ensures.grows)
 
 pub returns-in-Err : goal.returns-in-Err
 returns-in-Err g c =
-    let m : Members g.row.S.Denot = record { given = g.S.Source.given; failures = g.S.Source.failures; ends = g.S.Source.ends; whole = g.S.Source.whole } in
     let lt : c.loop-number.number < length c.args.catalog.now = rw (← c.tables-number-end.ensures.tables) c.loop-number-test.true in
-    let d = get_or c.loop-number.sources c.loop-number.number c.index-sources-number.result in
-    let here : d ≡ get_or c.loop-number.sources c.loop-number.number d = ap (λ x. get_or c.loop-number.sources c.loop-number.number x) c.index-sources-number.is in
-    let done = c.loop-number.invariant.done in
     let k = c.loop-number.number in
-    let e = c.in-Err.fault in
+    let d = get_or c.loop-number.sources k c.index-sources-number.result in
+    let here : d ≡ get_or c.loop-number.sources k d = ap (λ x. get_or c.loop-number.sources k x) c.index-sources-number.is in
+    let turn = subst (λ x. IsLoaded g.S.Source (rules_at c.args.catalog.now k) x c.load_in_pieces.new.source (Err c.in-Err.fault)) here c.in-Err.ensures in
+    let stops = begun-stops g.S.Source 0 k d c.load_in_pieces.new.source c.in-Err.fault (omega arith) c.loop-number.invariant.begun lt c.requires turn in
+    let after = slice_set c.loop-number.sources k c.load_in_pieces.new.source in
+    let r = Err (record { table = k; fault = c.in-Err.fault }) in
     record {
-      grows = stop-grows m _ k _ _ _ d _ lt done here c.load_in_pieces.ensures.grows;
-      loads = stop-loads m c.args.catalog.now k _ _ _ d _ e lt c.requires done here c.in-Err.ensures;
+      grows = ran-grows g.S.Source 0 c.args.catalog.now c.args.sources.now after r stops;
+      loads = ran-loads g.S.Source c.args.catalog.now c.args.sources.now after r stops;
       ended = tt;
-      failed = stop-failed m c.args.catalog.now k _ _ _ d _ e lt c.requires done here c.in-Err.ensures;
-      told = λ files is. stop-told m c.args.catalog.now k _ _ _ d _ e files lt c.requires done here c.in-Err.ensures is;
+      failed = ran-failed g.S.Source c.args.catalog.now c.args.sources.now after r stops;
+      told = λ files is. ran-told g.S.Source c.args.catalog.now c.args.sources.now after r files stops is;
       lawful = tt;
       catalog = tt;
     }
 
 pub loop-number-preserved : goal.loop-number-preserved
 loop-number-preserved g c =
-    let m : Members g.row.S.Denot = record { given = g.S.Source.given; failures = g.S.Source.failures; ends = g.S.Source.ends; whole = g.S.Source.whole } in
     let lt : c.loop-number.number < length c.args.catalog.now = rw (← c.tables-number-end.ensures.tables) c.loop-number-test.true in
-    let d = get_or c.loop-number.sources c.loop-number.number c.index-sources-number.result in
-    let here : d ≡ get_or c.loop-number.sources c.loop-number.number d = ap (λ x. get_or c.loop-number.sources c.loop-number.number x) c.index-sources-number.is in
-    let done = next-done m c.args.catalog.now c.loop-number.number _ _ _ d _ c.in-Ok.table lt c.requires c.loop-number.invariant.done here c.in-Ok.ensures in
-    record {
-      count = done-length m _ _ _ _ done;
-      done = rw c.in-Ok-push.ensures.items done;
-    }
+    let k = c.loop-number.number in
+    let d = get_or c.loop-number.sources k c.index-sources-number.result in
+    let here : d ≡ get_or c.loop-number.sources k d = ap (λ x. get_or c.loop-number.sources k x) c.index-sources-number.is in
+    let turn = subst (λ x. IsLoaded g.S.Source (rules_at c.args.catalog.now k) x c.load_in_pieces.new.source (Ok c.in-Ok.table)) here c.in-Ok.ensures in
+    let begun = begun-next g.S.Source d c.load_in_pieces.new.source c.in-Ok.table c.loop-number.invariant.begun lt c.requires turn in
+    record { count = begun-length g.S.Source begun; begun = rw (c.in-Ok-push.ensures.items, add-one k) begun }
 
 pub returns : goal.returns
 returns g c =
-    let m : Members g.row.S.Denot = record { given = g.S.Source.given; failures = g.S.Source.failures; ends = g.S.Source.ends; whole = g.S.Source.whole } in
     let le : length c.args.catalog.now ≤ c.loop-number.number = rw (← c.tables-number-end.ensures.tables) c.loop-number-test.false in
-    let done = end-is m c.args.catalog.now c.loop-number.number _ _ _ le c.loop-number.invariant.done in
-    let same = c.requires in
+    let all = begun-all g.S.Source c.loop-number.invariant.begun le c.requires in
+    let r = Ok c.loop-number.tables in
     record {
-      grows = grew-done m _ _ _ _ done;
-      loads = end-loads m _ _ _ _ done;
-      ended = rose-done m _ _ _ _ done (omega (arith, same));
+      grows = ran-grows g.S.Source 0 c.args.catalog.now _ _ r all;
+      loads = ran-loads g.S.Source c.args.catalog.now _ _ r all;
+      ended = ran-ended g.S.Source 0 c.args.catalog.now _ _ r all;
       failed = tt;
-      told = λ files is. end-told m _ _ _ _ files done is;
-      lawful = lawful-done m _ _ _ _ done;
+      told = λ files is. ran-told g.S.Source c.args.catalog.now _ _ r files all is;
+      lawful = ran-lawful g.S.Source 0 c.args.catalog.now _ _ r all;
       catalog = c.tables-number-end.ensures.lawful;
     }

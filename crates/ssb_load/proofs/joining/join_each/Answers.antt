@@ -1,4 +1,4 @@
-use Rattle.std.proofs.Common.{◌≡◌, ◌∙◌, ◌++◌, ◌∷◌, IfOk, ap, arith, get_or, length, rules, subst, sym}
+use Rattle.std.proofs.Common.{◌≡◌, ◌∙◌, ◌++◌, ◌∷◌, IfOk, ap, arith, get_or, rules, subst, sym}
 use Rattle.ssb_load.proofs.JoiningFacts.{AreCollected, AreJoined, collected-all, collected-next, joined-each, no-more}
 use Rattle.ssb_load.proofs.joining.join_each.Goals as goal
 

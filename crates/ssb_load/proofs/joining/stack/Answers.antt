@@ -1,4 +1,4 @@
-use Rattle.std.proofs.Common.{◌≡◌, ◌∙◌, ◌∷◌, [], ap, arith, length, length-append, refl, rules, subst, sym}
+use Rattle.std.proofs.Common.{◌∙◌, ◌∷◌, [], ap, arith, length, length-append, refl, rules, subst, sym}
 use Rattle.ssb_load.specs.Joining.{FitBehind, behind_each}
 use Rattle.ssb_load.proofs.JoiningFacts.{behind-none, length-behind, stack-here, stack-inside, stack-next, yields, yields-all, yields-next}
 use Rattle.ssb_load.proofs.joining.stack.Goals as goal

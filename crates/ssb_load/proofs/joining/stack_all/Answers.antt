@@ -1,5 +1,5 @@
-use Rattle.std.proofs.Common.{◌≡◌, ◌∙◌, ap, arith, length, map, rules, subst, sym}
-use Rattle.ssb_load.proofs.JoiningFacts.{AreStacked, no-part, stacked-all, stacked-fits, stacked-next, stacked-none}
+use Rattle.std.proofs.Common.{ap, arith, map, subst}
+use Rattle.ssb_load.proofs.JoiningFacts.{AreStacked, no-part, stacked-all, stacked-fits, stacked-next}
 use Rattle.ssb_load.proofs.joining.stack_all.Goals as goal
 
 pub stack-requires : goal.stack-requires

@@ -1,9 +1,9 @@
-use Rattle.std.proofs.Common.{◌≡◌, ◌<◌, ◌∙◌, Err, Ok, ap, arith, map, subst, sym}
+use Rattle.std.proofs.Common.{◌∙◌, Err, Ok, ap, arith, map, subst, sym}
 use Rattle.std.proofs.lemmas.Result.{err_from_is_err_and}
 use Rattle.ssb_load.specs.Assembly.{all_in, subject_in}
 use Rattle.ssb_load.specs.Giving.{given_since}
-use Rattle.ssb_load.specs.Intake.{Refuses, table}
-use Rattle.ssb_load.specs.Joined.{all_of, given_upto, sources_in}
+use Rattle.ssb_load.specs.Intake.{table}
+use Rattle.ssb_load.specs.Joined.{given_upto, sources_in}
 use Rattle.ssb_load.specs.JoinedLaws.{joined_settled}
 use Rattle.ssb_load.specs.Joining.{AreColumnsOf}
 use Rattle.ssb_load.specs.Lawful.{HasOneKey}

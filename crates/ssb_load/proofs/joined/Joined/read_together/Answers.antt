@@ -1,9 +1,8 @@
 -- Every source was read to its end, or those before one that stops.
-use Rattle.std.proofs.Common.{◌≡◌, ◌∙◌, ◌++◌, ◌+◌, ◌≤◌, length, map, drop, take, [], ap, arith, rules, subst, sym}
+use Rattle.std.proofs.Common.{◌≡◌, ◌∙◌, length, map, drop, take, [], ap, arith, rules, subst, sym}
 use Rattle.std.proofs.lemmas.List.{length-map}
 use Rattle.std.specs.List.{All}
-use Rattle.ssb_load.specs.Assembly.{Halts, IsAssembled, subject_in}
-use Rattle.ssb_load.specs.Giving.{given_since}
+use Rattle.ssb_load.specs.Assembly.{IsAssembled, subject_in}
 use Rattle.ssb_load.specs.Intake.{StopsBy, StopsIn}
 use Rattle.ssb_load.specs.Joined.{all_of, given_upto, sources_in}
 use Rattle.ssb_load.specs.JoinedLaws.{joined_begins}

@@ -5,8 +5,8 @@ use Rattle.ssb_job.specs.Kept.{JobShape}
 use Rattle.ssb_groups.specs.Seen.{seen}
 use Rattle.ssb_groups.specs.Stands.{Stands}
 use Rattle.ssb_pipeline.specs.Part.{Grows, IsBack, IsLawful, IsOpening, IsWhole, OneSectionIsAll, PartState, has}
-use Rattle.ssb_answer.specs.Reply.{seen_rows}
-use Rattle.ssb_answer.specs.Result.{AreKeyed}
+use Rattle.ssb_reply.specs.Reply.{seen_rows}
+use Rattle.ssb_rows.specs.Result.{AreKeyed}
 
 -- keys have a value for each group column
 pub keyed : (j : JobShape) (rs : List (List ℕ)) → AreKeyed j.query (map (seen j) rs)

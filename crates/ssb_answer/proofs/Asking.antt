@@ -4,22 +4,22 @@ use Rattle.std.proofs.lemmas.List.Quantifiers.{position-Some}
 use Rattle.ssb_load.specs.Catalog.{IsCatalog}
 use Rattle.ssb_load.specs.Shapes.{TableShape}
 use Rattle.ssb_sql.specs.declared.fault.SqlFault.TheVariants as sql
-use Rattle.ssb_bind.specs.Star.{IsStar}
-use Rattle.ssb_bind.specs.declared.query.QueryParts.{QueryParts}
+use Rattle.ssb_query.specs.Star.{IsStar}
+use Rattle.ssb_query.specs.declared.query.QueryParts.{QueryParts}
 use Rattle.ssb_job.specs.Kept.{Columns, JobShape}
 use Rattle.ssb_load.specs.Files.{AreLawful}
 use Rattle.ssb_job.specs.Loaded.{AreLoaded}
-use Rattle.ssb_job.proofs.Loading.{query_loaded}
+use Rattle.ssb_reply.proofs.Loading.{query_loaded}
 use Rattle.ssb_answer.specs.Asking.{Asked, AnswersText}
-use Rattle.ssb_answer.specs.Told.{told_answer}
+use Rattle.ssb_reply.specs.Told.{told_answer}
 use Rattle.ssb_load.specs.Files.{Bytes}
-use Rattle.ssb_answer.specs.Order.{Row}
-use Rattle.ssb_answer.specs.Reply.{Asks, seen_rows}
-use Rattle.ssb_answer.specs.Result.{Answers}
-use Rattle.ssb_answer.specs.declared.fault.AnswerFault.{AnswerFault}
-use Rattle.ssb_answer.specs.declared.fault.AnswerFault.TheVariants as answer
-use Rattle.ssb_answer.specs.declared.run_fault.RunFault.{RunFault}
-use Rattle.ssb_answer.specs.declared.run_fault.RunFault.TheVariants as run
+use Rattle.ssb_rows.specs.Order.{Row}
+use Rattle.ssb_reply.specs.Reply.{Asks, seen_rows}
+use Rattle.ssb_rows.specs.Result.{Answers}
+use Rattle.ssb_rows.specs.declared.fault.AnswerFault.{AnswerFault}
+use Rattle.ssb_rows.specs.declared.fault.AnswerFault.TheVariants as answer
+use Rattle.ssb_reply.specs.declared.run_fault.RunFault.{RunFault}
+use Rattle.ssb_reply.specs.declared.run_fault.RunFault.TheVariants as run
 
 pub fact_below : (q : QueryParts) → IsStar q → q.fact < length q.from
 fact_below q s = (position-Some _ q.from q.fact 0 s.fact).0

@@ -4,10 +4,10 @@ use Rattle.ssb_load.specs.Shapes.{TableShape}
 use Rattle.ssb_load.specs.declared.fault.LoadFault.TheVariants as load
 use Rattle.ssb_sql.specs.declared.fault.SqlFault.TheVariants as sql
 use Rattle.ssb_load.specs.Files.{Bytes}
-use Rattle.ssb_answer.specs.Reply.{IsOfContent, Replies}
-use Rattle.ssb_answer.specs.declared.fault.AnswerFault.TheVariants as answer
-use Rattle.ssb_answer.specs.declared.run_fault.RunFault.{RunFault}
-use Rattle.ssb_answer.specs.declared.run_fault.RunFault.TheVariants as run
+use Rattle.ssb_reply.specs.Reply.{IsOfContent, Replies}
+use Rattle.ssb_rows.specs.declared.fault.AnswerFault.TheVariants as answer
+use Rattle.ssb_reply.specs.declared.run_fault.RunFault.{RunFault}
+use Rattle.ssb_reply.specs.declared.run_fault.RunFault.TheVariants as run
 
 -- slices tell their bytes
 pub slices-told : (files : List (Bor (List ℕ))) → map (λ f. Some f.now) files ≡ map Some (map (λ f. f.now) files)

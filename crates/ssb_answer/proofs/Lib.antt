@@ -1,12 +1,4 @@
 pub mod Alone
 pub mod Asking
-pub mod Bridge
-pub mod EntryFacts
 pub mod Fresh
-pub mod Going
 pub mod InMemory
-pub mod KnownLemmas
-pub mod Members
-pub mod OneReply
-pub mod Orders
-pub mod Written

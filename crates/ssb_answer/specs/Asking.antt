@@ -4,15 +4,15 @@ use Rattle.std.specs.Prelude.{List, Result, Ok, Err, ⊤}
 use Rattle.ssb_load.specs.Shapes.{TableShape}
 use Rattle.ssb_sql.specs.Spells.{ReadsText}
 use Rattle.ssb_sql.specs.declared.fault.SqlFault.TheVariants as sql
-use Rattle.ssb_bind.specs.declared.query.QueryParts.{QueryParts}
+use Rattle.ssb_query.specs.declared.query.QueryParts.{QueryParts}
 use Rattle.ssb_load.specs.Files.{Bytes, Columns}
-use Rattle.ssb_answer.specs.Order.{Row}
-use Rattle.ssb_answer.specs.Reply.{Asks, IsUnbound, seen_rows}
-use Rattle.ssb_answer.specs.Result.{Answers}
-use Rattle.ssb_answer.specs.declared.fault.AnswerFault.{AnswerFault}
-use Rattle.ssb_answer.specs.declared.fault.AnswerFault.TheVariants as answer
-use Rattle.ssb_answer.specs.declared.run_fault.RunFault.{RunFault}
-use Rattle.ssb_answer.specs.declared.run_fault.RunFault.TheVariants as run
+use Rattle.ssb_rows.specs.Order.{Row}
+use Rattle.ssb_reply.specs.Reply.{Asks, IsUnbound, seen_rows}
+use Rattle.ssb_rows.specs.Result.{Answers}
+use Rattle.ssb_rows.specs.declared.fault.AnswerFault.{AnswerFault}
+use Rattle.ssb_rows.specs.declared.fault.AnswerFault.TheVariants as answer
+use Rattle.ssb_reply.specs.declared.run_fault.RunFault.{RunFault}
+use Rattle.ssb_reply.specs.declared.run_fault.RunFault.TheVariants as run
 
 -- the query of a text
 abbrev pub Asked : List TableShape → Bytes → Result QueryParts RunFault → Type 0

@@ -1,13 +1,1 @@
 pub mod Asking
-pub mod Entries
-pub mod FaultLine
-pub mod Order
-pub mod Reply
-pub mod Result
-pub mod Running
-pub mod Settled
-pub mod Taking
-pub mod Text
-pub mod Told
-pub mod Writing
-pub mod Settings

@@ -1,14 +1,12 @@
 // Files and answers in memory.
 
 ghost use Rattle.std.specs.Prelude.{◌≡◌, ◌⊎◌, [], IfErr, IfOk, Ok, Err, length, map, vec_len};
-ghost use Rattle.ssb_answer.specs.Reply.{IsOfContent, Replies};
+ghost use Rattle.ssb_reply.specs.Reply.{IsOfContent, Replies};
 
-use crate::fault::AnswerFault;
 use crate::readers::run_alone;
-use crate::run_fault::RunFault;
-use crate::settings::DEFAULT_MORSEL_SIZE;
-use crate::writer::Out;
 use ssb_load::{Catalog, LoadFault};
+use ssb_reply::{DEFAULT_MORSEL_SIZE, Out, RunFault};
+use ssb_rows::AnswerFault;
 use std::alloc::Global;
 
 // A slice never fails a read, and a `Vec` fails a write for want of memory alone: any other fault than

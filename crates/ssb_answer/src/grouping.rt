@@ -4,12 +4,12 @@ ghost use Rattle.std.specs.Prelude.{◌≡◌, ◌<◌, IfOk};
 ghost use Rattle.std.specs.Arc.{arc_value};
 ghost use Rattle.ssb_job.specs.Kept.{AreOneJob};
 ghost use Rattle.ssb_groups.specs.Stands.{Stands};
-ghost use Rattle.ssb_answer.specs.Reply.{seen_rows};
+ghost use Rattle.ssb_reply.specs.Reply.{seen_rows};
 
-use crate::settings::Settings;
 use ssb_groups::Groups;
 use ssb_job::Job;
 use ssb_pipeline::{Gate, Part, Parts, every_run, finish, run_workers};
+use ssb_reply::Settings;
 use std::alloc::{AllocError, Global};
 use std::sync::{Arc, Wait};
 use std::thread::Threads;

@@ -2,15 +2,14 @@
 
 ghost use Rattle.std.specs.Prelude.{◌≡◌, ◌<◌, [], IfOk, List, Some, length, map, vec_len};
 ghost use Rattle.ssb_load.specs.Files.{Bytes};
-ghost use Rattle.ssb_answer.specs.Reply.{Replies};
-ghost use Rattle.ssb_answer.specs.Running.{LeavesSink};
+ghost use Rattle.ssb_reply.specs.Reply.{Replies};
+ghost use Rattle.ssb_reply.specs.Running.{LeavesSink};
 
-use crate::run_fault::RunFault;
-use crate::settings::Settings;
-use crate::sink::Sink;
 use crate::whole::{run_alone_from, run_from};
 use ssb_load::{Catalog, In, Joined, Source};
 use ssb_pipeline::Gate;
+use ssb_reply::{RunFault, Settings};
+use ssb_rows::Sink;
 use std::alloc::{AllocError, Global};
 use std::io::Read;
 use std::sync::Wait;

@@ -12,7 +12,7 @@ use load::loading_time;
 use probe::{Report, measure};
 use read::count_records;
 use run::{By, own_time};
-use ssb_answer::Settings;
+use ssb_reply::Settings;
 use std::alloc::AllocError;
 use std::fs::File;
 use std::process::ExitCode;

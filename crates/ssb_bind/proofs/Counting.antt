@@ -4,7 +4,7 @@ use Rattle.ssb_load.specs.Shapes.{TableShape}
 use Rattle.ssb_sql.specs.declared.expr.ColumnName.{ColumnName}
 use Rattle.ssb_bind.specs.Binding.{and_one}
 use Rattle.ssb_bind.specs.Columns.{fit_of, fitting_in, fitting_from}
-use Rattle.ssb_bind.specs.declared.condition.BoundColumn.{BoundColumn}
+use Rattle.ssb_query.specs.declared.condition.BoundColumn.{BoundColumn}
 use Rattle.ssb_bind.specs.declared.fit.Fit.{Fit}
 use Rattle.ssb_bind.specs.declared.fit.Fit.TheVariants as fit
 use Rattle.ssb_bind.proofs.Finding.{here}

@@ -3,7 +3,7 @@ use Rattle.std.proofs.Common.{◌≡◌, ℕ, ◌+◌, ◌<◌, Bool, true, fals
 use Rattle.std.specs.List.{list_any}
 use Rattle.std.proofs.lemmas.List.{drop_more}
 use Rattle.std.proofs.lemmas.List.Folds.{list_any-append}
-use Rattle.ssb_bind.specs.Names.{concat}
+use Rattle.ssb_query.specs.Star.{concat}
 
 step_some : {X : Type 0} (b : Bool) (x y : X) (r s : Option X) → (r ≡ Some y → s ≡ Some y) → cond b (Some x) r ≡ Some y → cond b (Some x) s ≡ Some y
 step_some true x y r s h e = e

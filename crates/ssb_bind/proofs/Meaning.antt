@@ -14,15 +14,16 @@ use Rattle.ssb_bind.specs.Binding.{Judges, Keeps}
 use Rattle.ssb_bind.specs.Faults.{first_of, with, when, faults, least_fault, wrong_name, too_many, Says, Means, BindsTo, unknown_table, not_grouped, bad_order, fault_of}
 use Rattle.ssb_bind.specs.Names.{column_names}
 use Rattle.ssb_bind.specs.Query.{IsQueryOf}
-use Rattle.ssb_bind.specs.Star.{IsStar, is_joined, unjoined_from}
-use Rattle.ssb_bind.specs.Tables.{fact_place, rules_in}
-use Rattle.ssb_bind.specs.declared.condition.BoundColumn.{BoundColumn}
+use Rattle.ssb_query.specs.Star.{IsStar, is_joined, unjoined_from}
+use Rattle.ssb_bind.specs.Rules.{rules_in}
+use Rattle.ssb_query.specs.Tables.{fact_place}
+use Rattle.ssb_query.specs.declared.condition.BoundColumn.{BoundColumn}
 use Rattle.ssb_bind.specs.declared.fault.BindFault.{BindFault}
 use Rattle.ssb_bind.specs.declared.fault.BindFault.TheVariants as fault
 use Rattle.ssb_bind.specs.declared.fault.TooMany.{TooMany}
 use Rattle.ssb_bind.specs.declared.fault.TooMany.TheVariants as many
 use Rattle.ssb_bind.specs.declared.fit.Wrong.TheVariants as wrong
-use Rattle.ssb_bind.specs.declared.query.QueryParts.{QueryParts}
+use Rattle.ssb_query.specs.declared.query.QueryParts.{QueryParts}
 use Rattle.ssb_bind.proofs.Relation.{each_item, each_number, each_order, each_table, one_query}
 
 -- where none applies, none of the list does

@@ -15,15 +15,15 @@ use Rattle.ssb_bind.specs.Columns.{bound_name, fit_of, table_number, the_one}
 use Rattle.ssb_bind.specs.Faults.{is_ungrouped, not_grouped, own_column, unknown_table}
 use Rattle.ssb_bind.specs.Orders.{bad_from, fits_one, places_for}
 use Rattle.ssb_bind.specs.Query.{aggregate_number, Each, IsItem, IsOrder, IsQueryOf, Shows}
-use Rattle.ssb_bind.specs.Tables.{fact_place}
-use Rattle.ssb_bind.specs.declared.condition.BoundColumn.{BoundColumn}
-use Rattle.ssb_bind.specs.declared.query.Aggregate.{Aggregate}
-use Rattle.ssb_bind.specs.declared.query.Aggregate.TheVariants as aggregate
-use Rattle.ssb_bind.specs.declared.query.BoundItem.{BoundItem}
-use Rattle.ssb_bind.specs.declared.query.BoundOrder.{BoundOrder}
-use Rattle.ssb_bind.specs.declared.query.Origin.{Origin}
-use Rattle.ssb_bind.specs.declared.query.Origin.TheVariants as origin
-use Rattle.ssb_bind.specs.declared.query.QueryParts.{QueryParts}
+use Rattle.ssb_query.specs.Tables.{fact_place}
+use Rattle.ssb_query.specs.declared.condition.BoundColumn.{BoundColumn}
+use Rattle.ssb_query.specs.declared.query.Aggregate.{Aggregate}
+use Rattle.ssb_query.specs.declared.query.Aggregate.TheVariants as aggregate
+use Rattle.ssb_query.specs.declared.query.BoundItem.{BoundItem}
+use Rattle.ssb_query.specs.declared.query.BoundOrder.{BoundOrder}
+use Rattle.ssb_query.specs.declared.query.Origin.{Origin}
+use Rattle.ssb_query.specs.declared.query.Origin.TheVariants as origin
+use Rattle.ssb_query.specs.declared.query.QueryParts.{QueryParts}
 
 -- ---- one at most
 

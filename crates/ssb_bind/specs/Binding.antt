@@ -11,16 +11,17 @@ use Rattle.ssb_bind.specs.Bound.{bound_where, aggregates_of, group_place}
 use Rattle.ssb_bind.specs.Columns.{bound_name, fit_of, the_one, table_numbers}
 use Rattle.ssb_bind.specs.Faults.{Says}
 use Rattle.ssb_bind.specs.Orders.{name_of_item, places_for}
-use Rattle.ssb_bind.specs.Tables.{rules_in, fact_place}
-use Rattle.ssb_bind.specs.declared.condition.BoundColumn.{BoundColumn}
+use Rattle.ssb_bind.specs.Rules.{rules_in}
+use Rattle.ssb_query.specs.Tables.{fact_place}
+use Rattle.ssb_query.specs.declared.condition.BoundColumn.{BoundColumn}
 use Rattle.ssb_bind.specs.declared.fault.BindFault.{BindFault}
 use Rattle.ssb_bind.specs.declared.fit.Fit.{Fit}
 use Rattle.ssb_bind.specs.declared.fit.Fit.TheVariants as fit
-use Rattle.ssb_bind.specs.declared.query.BoundItem.{BoundItem}
-use Rattle.ssb_bind.specs.declared.query.BoundOrder.{BoundOrder}
-use Rattle.ssb_bind.specs.declared.query.Origin.{Origin}
-use Rattle.ssb_bind.specs.declared.query.Origin.TheVariants as origin
-use Rattle.ssb_bind.specs.declared.query.QueryParts.{QueryParts}
+use Rattle.ssb_query.specs.declared.query.BoundItem.{BoundItem}
+use Rattle.ssb_query.specs.declared.query.BoundOrder.{BoundOrder}
+use Rattle.ssb_query.specs.declared.query.Origin.{Origin}
+use Rattle.ssb_query.specs.declared.query.Origin.TheVariants as origin
+use Rattle.ssb_query.specs.declared.query.QueryParts.{QueryParts}
 
 -- what a name fits, once it also fits this
 abbrev pub and_one : {A : Type 0} → Fit A → A → Fit A

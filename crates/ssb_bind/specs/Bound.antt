@@ -16,16 +16,16 @@ use Rattle.ssb_sql.specs.declared.select.Item.{Item}
 use Rattle.ssb_sql.specs.declared.select.Output.{Output}
 use Rattle.ssb_sql.specs.declared.select.Output.TheVariants as output
 use Rattle.ssb_bind.specs.Columns.{bound_name}
-use Rattle.ssb_bind.specs.declared.condition.BoundColumn.{BoundColumn}
-use Rattle.ssb_bind.specs.declared.condition.BoundCondition.{BoundCondition}
-use Rattle.ssb_bind.specs.declared.condition.BoundCondition.TheVariants as test
-use Rattle.ssb_bind.specs.declared.condition.BoundOperand.{BoundOperand}
-use Rattle.ssb_bind.specs.declared.condition.BoundOperand.TheVariants as bound
-use Rattle.ssb_bind.specs.declared.expr.BoundExpr.{BoundExpr}
-use Rattle.ssb_bind.specs.declared.expr.BoundExpr.TheVariants as expr
-use Rattle.ssb_bind.specs.declared.expr.BoundStep.{BoundStep}
-use Rattle.ssb_bind.specs.declared.query.Aggregate.{Aggregate}
-use Rattle.ssb_bind.specs.declared.query.Aggregate.TheVariants as aggregate
+use Rattle.ssb_query.specs.declared.condition.BoundColumn.{BoundColumn}
+use Rattle.ssb_query.specs.declared.condition.BoundCondition.{BoundCondition}
+use Rattle.ssb_query.specs.declared.condition.BoundCondition.TheVariants as test
+use Rattle.ssb_query.specs.declared.condition.BoundOperand.{BoundOperand}
+use Rattle.ssb_query.specs.declared.condition.BoundOperand.TheVariants as bound
+use Rattle.ssb_query.specs.declared.expr.BoundExpr.{BoundExpr}
+use Rattle.ssb_query.specs.declared.expr.BoundExpr.TheVariants as expr
+use Rattle.ssb_query.specs.declared.expr.BoundStep.{BoundStep}
+use Rattle.ssb_query.specs.declared.query.Aggregate.{Aggregate}
+use Rattle.ssb_query.specs.declared.query.Aggregate.TheVariants as aggregate
 
 abbrev pub bound_operand : List TableShape → List ℕ → Operand → BoundOperand
 bound_operand c from (operand.Column name) = bound.Column (bound_name c from name)

@@ -15,17 +15,18 @@ use Rattle.ssb_bind.specs.Columns.{table_number, table_numbers, columns_for, bou
 use Rattle.ssb_bind.specs.Names.{column_names}
 use Rattle.ssb_bind.specs.Orders.{bad_from}
 use Rattle.ssb_bind.specs.Query.{IsQueryOf}
-use Rattle.ssb_bind.specs.Star.{unjoined_from}
-use Rattle.ssb_bind.specs.Tables.{fact_place, rules_in}
+use Rattle.ssb_query.specs.Star.{unjoined_from}
+use Rattle.ssb_bind.specs.Rules.{rules_in}
+use Rattle.ssb_query.specs.Tables.{fact_place}
 use Rattle.ssb_bind.specs.Types.{has_mismatch}
-use Rattle.ssb_bind.specs.declared.condition.BoundColumn.{BoundColumn}
+use Rattle.ssb_query.specs.declared.condition.BoundColumn.{BoundColumn}
 use Rattle.ssb_bind.specs.declared.fault.BindFault.{BindFault}
 use Rattle.ssb_bind.specs.declared.fault.BindFault.TheVariants as fault
 use Rattle.ssb_bind.specs.declared.fault.TooMany.{TooMany}
 use Rattle.ssb_bind.specs.declared.fault.TooMany.TheVariants as many
 use Rattle.ssb_bind.specs.declared.fit.Wrong.{Wrong}
 use Rattle.ssb_bind.specs.declared.fit.Wrong.TheVariants as wrong
-use Rattle.ssb_bind.specs.declared.query.QueryParts.{QueryParts}
+use Rattle.ssb_query.specs.declared.query.QueryParts.{QueryParts}
 
 -- ---- each by itself, with its detail: of the first place in the text
 

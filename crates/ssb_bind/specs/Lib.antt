@@ -5,6 +5,5 @@ pub mod Faults
 pub mod Names
 pub mod Orders
 pub mod Query
-pub mod Star
-pub mod Tables
+pub mod Rules
 pub mod Types

@@ -1,6 +1,7 @@
 -- The names of columns that a query has, in the order of its text: the select list, WHERE, GROUP BY.
 -- Source: own. Names in ORDER BY are those of select columns.
 use Rattle.std.specs.Prelude.{List, [], ◌∷◌, ◌++◌, map, Option, Some, None}
+use Rattle.ssb_query.specs.Star.{concat}
 use Rattle.ssb_sql.specs.declared.condition.Condition.{Condition}
 use Rattle.ssb_sql.specs.declared.condition.Condition.TheOpen.{Condition-F}
 use Rattle.ssb_sql.specs.declared.condition.Condition.TheFolds.{fold-Condition}
@@ -15,11 +16,6 @@ use Rattle.ssb_sql.specs.declared.select.Item.{Item}
 use Rattle.ssb_sql.specs.declared.select.Output.{Output}
 use Rattle.ssb_sql.specs.declared.select.Output.TheVariants as output
 use Rattle.ssb_sql.specs.declared.select.Select.{Select}
-
--- lists one after the other
-abbrev pub concat : {A : Type 0} → List (List A) → List A
-concat [] = []
-concat (xs ∷ rest) = xs ++ concat rest
 
 abbrev pub Names : Type 0
 Names = List ColumnName

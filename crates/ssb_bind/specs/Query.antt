@@ -11,12 +11,13 @@ use Rattle.ssb_sql.specs.declared.select.Select.{Select}
 use Rattle.ssb_bind.specs.Bound.{bound_where, aggregate_of, aggregates_of, group_place}
 use Rattle.ssb_bind.specs.Columns.{bound_name, table_number}
 use Rattle.ssb_bind.specs.Orders.{name_of_item, places_for}
-use Rattle.ssb_bind.specs.Tables.{rules_in, fact_place}
-use Rattle.ssb_bind.specs.declared.query.BoundItem.{BoundItem}
-use Rattle.ssb_bind.specs.declared.query.BoundOrder.{BoundOrder}
-use Rattle.ssb_bind.specs.declared.query.Origin.{Origin}
-use Rattle.ssb_bind.specs.declared.query.Origin.TheVariants as origin
-use Rattle.ssb_bind.specs.declared.query.QueryParts.{QueryParts}
+use Rattle.ssb_bind.specs.Rules.{rules_in}
+use Rattle.ssb_query.specs.Tables.{fact_place}
+use Rattle.ssb_query.specs.declared.query.BoundItem.{BoundItem}
+use Rattle.ssb_query.specs.declared.query.BoundOrder.{BoundOrder}
+use Rattle.ssb_query.specs.declared.query.Origin.{Origin}
+use Rattle.ssb_query.specs.declared.query.Origin.TheVariants as origin
+use Rattle.ssb_query.specs.declared.query.QueryParts.{QueryParts}
 
 -- two lists are of one length, and R holds of what stands at each place
 abbrev pub Each : {A B : Type 0} → (A → B → Type 0) → List A → List B → Type 0

@@ -2,24 +2,24 @@
 -- Source: SQL-92, 8.2 <comparison predicate> (comparable types) and 6.12 <numeric value expression> (operands are numbers).
 use Rattle.std.specs.Prelude.{ℕ, Bool, true, false, not, ◌||◌, if◌then◌else◌, List, ◌∷◌, Option, Some, None, is_none}
 use Rattle.std.specs.List.{list_all, list_any}
-use Rattle.ssb_cells.specs.declared.value.ColType.{ColType}
-use Rattle.ssb_cells.specs.declared.value.ColType.TheVariants as kinds
-use Rattle.ssb_sql.specs.declared.condition.Literal.{Literal}
-use Rattle.ssb_sql.specs.declared.condition.Literal.TheVariants as literal
-use Rattle.ssb_bind.specs.Tables.{kind_at}
-use Rattle.ssb_bind.specs.declared.condition.BoundCondition.{BoundCondition}
-use Rattle.ssb_bind.specs.declared.condition.BoundCondition.TheOpen.{BoundCondition-F}
-use Rattle.ssb_bind.specs.declared.condition.BoundCondition.TheFolds.{fold-BoundCondition}
-use Rattle.ssb_bind.specs.declared.condition.BoundOperand.{BoundOperand}
-use Rattle.ssb_bind.specs.declared.condition.BoundOperand.TheVariants as operand
-use Rattle.ssb_bind.specs.declared.expr.BoundExpr.{BoundExpr}
-use Rattle.ssb_bind.specs.declared.expr.BoundExpr.TheOpen.{BoundExpr-F, BoundStep-F}
-use Rattle.ssb_bind.specs.declared.expr.BoundExpr.TheFolds.{fold-BoundExpr, fold-BoundStep}
-use Rattle.ssb_bind.specs.declared.expr.BoundStep.{BoundStep}
-use Rattle.ssb_bind.specs.declared.query.Aggregate.{Aggregate}
-use Rattle.ssb_bind.specs.declared.query.Aggregate.TheVariants as aggregate
-use Rattle.ssb_bind.specs.declared.query.QueryParts.{QueryParts}
-use Rattle.ssb_bind.specs.declared.query.TableRules.{TableRules}
+use Rattle.ssb_terms.specs.declared.rule.ColType.{ColType}
+use Rattle.ssb_terms.specs.declared.rule.ColType.TheVariants as kinds
+use Rattle.ssb_terms.specs.declared.literal.Literal.{Literal}
+use Rattle.ssb_terms.specs.declared.literal.Literal.TheVariants as literal
+use Rattle.ssb_query.specs.Tables.{kind_at}
+use Rattle.ssb_query.specs.declared.condition.BoundCondition.{BoundCondition}
+use Rattle.ssb_query.specs.declared.condition.BoundCondition.TheOpen.{BoundCondition-F}
+use Rattle.ssb_query.specs.declared.condition.BoundCondition.TheFolds.{fold-BoundCondition}
+use Rattle.ssb_query.specs.declared.condition.BoundOperand.{BoundOperand}
+use Rattle.ssb_query.specs.declared.condition.BoundOperand.TheVariants as operand
+use Rattle.ssb_query.specs.declared.expr.BoundExpr.{BoundExpr}
+use Rattle.ssb_query.specs.declared.expr.BoundExpr.TheOpen.{BoundExpr-F, BoundStep-F}
+use Rattle.ssb_query.specs.declared.expr.BoundExpr.TheFolds.{fold-BoundExpr, fold-BoundStep}
+use Rattle.ssb_query.specs.declared.expr.BoundStep.{BoundStep}
+use Rattle.ssb_query.specs.declared.query.Aggregate.{Aggregate}
+use Rattle.ssb_query.specs.declared.query.Aggregate.TheVariants as aggregate
+use Rattle.ssb_query.specs.declared.query.QueryParts.{QueryParts}
+use Rattle.ssb_query.specs.declared.query.TableRules.{TableRules}
 
 -- Expressions: a column has its type, a number is one, and a sign or an operation needs numbers. None is the type of an
 -- expression that has none.

@@ -3,9 +3,9 @@
 ghost use Rattle.std.specs.Prelude.{◌≡◌, IfOk, map};
 ghost use Rattle.ssb_bind.specs.Bound as spec;
 
-use crate::expr::{BoundExpr, BoundStep};
 use crate::resolve::{Scope, bound_name};
 use sqlite_items::{Boxed, Items};
+use ssb_query::{BoundExpr, BoundStep};
 use ssb_sql::{Expr, Step};
 use std::alloc::AllocError;
 

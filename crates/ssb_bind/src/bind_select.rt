@@ -5,20 +5,19 @@ ghost use Rattle.ssb_bind.specs.Binding as binding;
 ghost use Rattle.ssb_bind.specs.Bound as spec;
 ghost use Rattle.ssb_bind.specs.Columns.{bound_name};
 ghost use Rattle.ssb_bind.specs.Orders.{name_of_item};
-ghost use Rattle.ssb_bind.specs.Tables.{rules_in};
+ghost use Rattle.ssb_bind.specs.Rules.{rules_in};
 
 use crate::bind_condition::bound_where;
 use crate::bind_expr::bound_expr;
-use crate::condition::BoundColumn;
 use crate::groups::group_place;
 use crate::orders::{bound_orders, name_of};
-use crate::query::{Aggregate, BoundItem, Origin, QueryParts, TableRules};
 use crate::resolve::{Scope, bound_name};
 use crate::star::fact_place;
 use sqlite_items::Items;
-use ssb_cells::Name;
-use ssb_load::{ColumnDef, Rule, TableDef};
+use ssb_load::{ColumnDef, TableDef};
+use ssb_query::{Aggregate, BoundColumn, BoundItem, Origin, QueryParts, TableRules};
 use ssb_sql::{ColumnName, Item, Output, Select};
+use ssb_terms::{Name, Rule};
 use std::alloc::{AllocError, Global};
 
 fn rules_of(alloc: Global, columns: &[ColumnDef]) -> Result<Items<Rule>, AllocError>

@@ -1,6 +1,6 @@
 // Why a query means nothing over a catalog.
 
-use ssb_cells::Name;
+use ssb_terms::Name;
 use std::alloc::AllocError;
 use thiserror::Error;
 

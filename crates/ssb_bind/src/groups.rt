@@ -6,9 +6,9 @@ ghost use Rattle.std.specs.Option.{option_copied};
 ghost use Rattle.ssb_bind.specs.Bound.{is_same_column, group_place};
 ghost use Rattle.ssb_bind.specs.Faults as spec;
 
-use crate::condition::BoundColumn;
 use crate::resolve::bound_name;
 use ssb_load::TableDef;
+use ssb_query::BoundColumn;
 use ssb_sql::{ColumnName, Item, Output};
 
 fn is_same_column(x: BoundColumn, y: BoundColumn) -> bool

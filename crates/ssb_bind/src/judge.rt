@@ -14,13 +14,13 @@ use crate::groups::not_grouped;
 use crate::limits::too_many;
 use crate::names::{Sought, first_wrong};
 use crate::orders::bad_order;
-use crate::query::QueryParts;
 use crate::resolve::table_number;
 use crate::star::{fact_place, unjoined};
 use crate::types::has_mismatch;
-use ssb_cells::Name;
 use ssb_load::TableDef;
+use ssb_query::QueryParts;
 use ssb_sql::Select;
+use ssb_terms::Name;
 use std::alloc::Global;
 
 fn unknown_table<'a>(catalog: &[TableDef], from: &'a [Name]) -> Option<&'a Name>

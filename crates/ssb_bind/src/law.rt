@@ -2,7 +2,7 @@
 
 ghost use Rattle.std.specs.Prelude.{◌≡◌, List};
 ghost use Rattle.ssb_bind.specs.Faults.{Means};
-ghost use Rattle.ssb_bind.specs.declared.query.QueryParts.{QueryParts};
+ghost use Rattle.ssb_query.specs.declared.query.QueryParts.{QueryParts};
 ghost use Rattle.ssb_load.specs.Shapes.{TableShape};
 ghost use Rattle.ssb_sql.specs.declared.select.Select.{Select};
 

@@ -5,6 +5,7 @@ ghost use Rattle.std.specs.Option.{option_copied};
 ghost use Rattle.ssb_bind.specs.Columns.{is_wrong};
 ghost use Rattle.ssb_bind.specs.Faults.{wrong_name};
 ghost use Rattle.ssb_bind.specs.Names as names;
+ghost use Rattle.ssb_query.specs.Star.{concat};
 
 use crate::fit::{Fit, Wrong};
 use crate::resolve::fit_of;
@@ -44,7 +45,7 @@ fn in_name<'a>(sought: Sought<'_>, name: &'a ColumnName) -> Option<&'a ColumnNam
 
 #[cycle(expr)]
 fn in_steps<'a>(sought: Sought<'_>, steps: &'a [Step]) -> Option<&'a ColumnName>
-    ensures { option_copied result ≡ find (is_wrong sought.entry.catalog.now sought.entry.from.now sought.entry.wrong) (names.concat (map names.step_names steps.now)) }
+    ensures { option_copied result ≡ find (is_wrong sought.entry.catalog.now sought.entry.from.now sought.entry.wrong) (concat (map names.step_names steps.now)) }
 {
     for step in steps {
         if let Some(name) = in_expr(sought, &step.term) {
@@ -56,7 +57,7 @@ fn in_steps<'a>(sought: Sought<'_>, steps: &'a [Step]) -> Option<&'a ColumnName>
 
 #[cycle(expr)]
 fn in_factors<'a>(sought: Sought<'_>, factors: &'a [Expr]) -> Option<&'a ColumnName>
-    ensures { option_copied result ≡ find (is_wrong sought.entry.catalog.now sought.entry.from.now sought.entry.wrong) (names.concat (map names.expr_names factors.now)) }
+    ensures { option_copied result ≡ find (is_wrong sought.entry.catalog.now sought.entry.from.now sought.entry.wrong) (concat (map names.expr_names factors.now)) }
 {
     for factor in factors {
         if let Some(name) = in_expr(sought, factor) {
@@ -120,7 +121,7 @@ fn in_three<'a>(
 
 #[cycle(condition)]
 fn in_parts<'a>(sought: Sought<'_>, parts: &'a [Condition]) -> Option<&'a ColumnName>
-    ensures { option_copied result ≡ find (is_wrong sought.entry.catalog.now sought.entry.from.now sought.entry.wrong) (names.concat (map names.condition_names parts.now)) }
+    ensures { option_copied result ≡ find (is_wrong sought.entry.catalog.now sought.entry.from.now sought.entry.wrong) (concat (map names.condition_names parts.now)) }
 {
     for part in parts {
         if let Some(name) = in_condition(sought, part) {
@@ -160,7 +161,7 @@ fn in_item<'a>(sought: Sought<'_>, item: &'a Item) -> Option<&'a ColumnName>
 }
 
 fn in_items<'a>(sought: Sought<'_>, items: &'a [Item]) -> Option<&'a ColumnName>
-    ensures { option_copied result ≡ find (is_wrong sought.entry.catalog.now sought.entry.from.now sought.entry.wrong) (names.concat (map names.item_names items.now)) }
+    ensures { option_copied result ≡ find (is_wrong sought.entry.catalog.now sought.entry.from.now sought.entry.wrong) (concat (map names.item_names items.now)) }
 {
     for item in items {
         if let Some(name) = in_item(sought, item) {

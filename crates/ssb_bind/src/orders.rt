@@ -7,10 +7,10 @@ ghost use Rattle.ssb_bind.specs.Binding as binding;
 ghost use Rattle.ssb_bind.specs.Orders as spec;
 
 use crate::fit::Fit;
-use crate::query::BoundOrder;
 use sqlite_items::Items;
-use ssb_cells::Name;
+use ssb_query::BoundOrder;
 use ssb_sql::{Item, Key, Order, Output};
+use ssb_terms::Name;
 use std::alloc::{AllocError, Global};
 
 // The AS name, or else the name of the column.

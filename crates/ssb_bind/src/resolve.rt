@@ -4,12 +4,12 @@ ghost use Rattle.std.specs.Prelude.{◌≡◌, IfOk, fold, slice_get};
 ghost use Rattle.ssb_bind.specs.Binding.{and_one};
 ghost use Rattle.ssb_bind.specs.Columns as columns;
 
-use crate::condition::BoundColumn;
 use crate::fit::Fit;
 use sqlite_items::Items;
-use ssb_cells::Name;
 use ssb_load::{ColumnDef, TableDef};
+use ssb_query::BoundColumn;
 use ssb_sql::ColumnName;
+use ssb_terms::Name;
 use std::alloc::{AllocError, Global};
 
 /// Where names are bound: to the columns of these tables of a catalog.

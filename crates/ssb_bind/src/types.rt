@@ -3,25 +3,14 @@
 ghost use Rattle.std.specs.Prelude.{◌≡◌, ◌||◌, map};
 ghost use Rattle.std.specs.List.{list_all, list_any};
 ghost use Rattle.std.specs.Option.{option_copied};
-ghost use Rattle.ssb_bind.specs.Tables.{rule_at, kind_at};
+ghost use Rattle.ssb_query.specs.Tables.{rule_at, kind_at};
 ghost use Rattle.ssb_bind.specs.Types as spec;
 
-use crate::condition::{BoundColumn, BoundCondition, BoundOperand};
-use crate::expr::{BoundExpr, BoundStep};
-use crate::query::{Aggregate, QueryParts, TableRules};
-use ssb_cells::ColType;
-use ssb_load::Rule;
-use ssb_sql::Literal;
-
-// What a column of a table of FROM takes.
-pub(crate) fn rule_at(tables: &[TableRules], from: &[usize], column: BoundColumn) -> Option<Rule>
-    ensures { result ≡ rule_at tables.now from.now column }
-{
-    let number = from.get(column.table)?;
-    let table = tables.get(*number)?;
-    let rule = table.rules.as_slice().get(column.column)?;
-    Some(*rule)
-}
+use ssb_query::{
+    Aggregate, BoundColumn, BoundCondition, BoundExpr, BoundOperand, BoundStep, QueryParts,
+    TableRules, rule_at,
+};
+use ssb_terms::{ColType, Literal, Rule};
 
 // The type of a column.
 pub(crate) fn kind_at(tables: &[TableRules], from: &[usize], column: BoundColumn) -> Option<ColType>

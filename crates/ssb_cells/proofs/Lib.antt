@@ -3,8 +3,6 @@ pub mod ColumnFacts
 pub mod FlagFacts
 pub mod JoinFacts
 pub mod LentFacts
-pub mod LowerFacts
-pub mod NameFacts
 pub mod OrderLaws
 pub mod PartFacts
 pub mod SpellingFacts

@@ -3,7 +3,7 @@ use Rattle.std.proofs.Common.{◌≡◌, ◌∙◌, ◌++◌, ◌∷◌, [], ◌
 use Rattle.std.proofs.lemmas.List.Concat.{flat_map-append}
 use Rattle.ssb_cells.specs.Cell.{Cell, Filled}
 use Rattle.ssb_cells.specs.Parts.{AreOfKind, values_of}
-use Rattle.ssb_cells.specs.declared.value.ColType.{ColType}
+use Rattle.ssb_terms.specs.declared.rule.ColType.{ColType}
 
 pub values-more : (columns : List Filled) (c : Filled) → values_of (columns ++ c ∷ []) ≡ values_of columns ++ c.values
 values-more columns c = flat_map-append (λ (f : Filled). f.values) columns (c ∷ []) ∙ ap (λ vs. values_of columns ++ vs) (append-nil c.values)

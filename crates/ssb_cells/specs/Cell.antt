@@ -1,7 +1,7 @@
 -- What a contract sees of a value and of a column.
 -- Source: SQL-92, 4.1 (null is in every type) and 4.4 (whole numbers); texts by their bytes are this project's own.
 use Rattle.std.specs.Prelude.{ℕ, ℤ, List}
-use Rattle.ssb_cells.specs.declared.value.ColType.{ColType}
+use Rattle.ssb_terms.specs.declared.rule.ColType.{ColType}
 
 -- null, a number or a text's bytes
 pub data Cell : Type 0 where

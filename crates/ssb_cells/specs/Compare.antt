@@ -8,8 +8,8 @@ use Rattle.ssb_cells.specs.Order.{cell_cmp}
 use Rattle.ssb_cells.specs.Truth.{truth}
 use Rattle.ssb_cells.specs.declared.truth.Truth.{Truth}
 use Rattle.ssb_cells.specs.declared.truth.Truth.TheVariants.{Unknown}
-use Rattle.ssb_cells.specs.declared.value.Op.{Op}
-use Rattle.ssb_cells.specs.declared.value.Op.TheVariants.{Eq, Ne, Lt, Le, Gt, Ge}
+use Rattle.ssb_terms.specs.declared.operator.Op.{Op}
+use Rattle.ssb_terms.specs.declared.operator.Op.TheVariants.{Eq, Ne, Lt, Le, Gt, Ge}
 
 -- which orders a comparison asks for
 abbrev pub meets : Op → Ordering → Bool

@@ -3,9 +3,8 @@ pub mod Codes
 pub mod Compare
 pub mod Flags
 pub mod Joined
-pub mod Keywords
+pub mod Lawful
 pub mod Lent
-pub mod Names
 pub mod Narrow
 pub mod NarrowCodes
 pub mod Order

@@ -4,7 +4,7 @@ use Rattle.std.specs.Prelude.{◌≡◌, ◌≤◌, List, [], ◌∷◌, length,
 use Rattle.std.specs.List.{flat_map}
 use Rattle.ssb_cells.specs.Cell.{Cell, Filled}
 use Rattle.ssb_cells.specs.declared.parts.ColumnParts.TheInside.{Inside}
-use Rattle.ssb_cells.specs.declared.value.ColType.{ColType}
+use Rattle.ssb_terms.specs.declared.rule.ColType.{ColType}
 
 -- the values of columns, those of one behind those of another
 abbrev pub values_of : List Filled → List Cell

@@ -4,8 +4,8 @@ use Rattle.std.specs.Prelude.{⊤, Bool, true, false, string_bytes}
 use Rattle.ssb_cells.specs.Cell.{Cell, null, number, text}
 use Rattle.ssb_cells.specs.declared.owned.OwnedValue.{OwnedValue}
 use Rattle.ssb_cells.specs.declared.owned.OwnedValue.TheVariants as owned
-use Rattle.ssb_cells.specs.declared.value.ColType.{ColType}
-use Rattle.ssb_cells.specs.declared.value.ColType.TheVariants as kinds
+use Rattle.ssb_terms.specs.declared.rule.ColType.{ColType}
+use Rattle.ssb_terms.specs.declared.rule.ColType.TheVariants as kinds
 use Rattle.ssb_cells.specs.declared.value.Value.{Value}
 use Rattle.ssb_cells.specs.declared.value.Value.TheVariants as values
 

@@ -9,14 +9,15 @@ ghost use Rattle.ssb_cells.specs.Lent.{AreCodes, AreNulls, AreNumbers, codes_in,
 ghost use Rattle.ssb_cells.specs.Stored.{HasRoom, kind_of, with_value};
 ghost use Rattle.ssb_cells.specs.Values.{cell_of, IsOfType};
 ghost use Rattle.ssb_cells.specs.declared.column.Stored.TheVariants as kept;
-ghost use Rattle.ssb_cells.specs.declared.value.ColType.TheVariants as kinds;
+ghost use Rattle.ssb_terms.specs.declared.rule.ColType.TheVariants as kinds;
 
 use crate::lent::{CodeSlice, NumberSlice};
 use crate::nulls::Nulls;
 use crate::numbers::Numbers;
 use crate::texts::Texts;
-use crate::value::{ColType, Value};
+use crate::value::Value;
 use crate::width::Width;
+use ssb_terms::ColType;
 use std::alloc::{AllocError, Global};
 use std::marker::Model;
 
@@ -32,10 +33,18 @@ pub(crate) enum Stored {
 /// Numbers are kept in the least of 1, 2, 4 or 8 bytes that holds them all. Of texts each different one
 /// is kept once, and each row has its code, in 1, 2 or 4 bytes. Nulls take no memory until there is one,
 /// and then a bit for each row.
-#[derive(Drop)]
 pub struct Column {
     nulls: Nulls,
     stored: Stored,
+}
+
+// Written out, so that the crates above need no proof of how its parts are let go.
+impl Drop for Column {
+    fn drop(self) {
+        let Column { nulls, stored } = self;
+        drop(nulls);
+        drop(stored);
+    }
 }
 
 impl Model for Column {

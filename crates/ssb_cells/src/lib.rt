@@ -5,40 +5,32 @@
 //! all, and of its texts each different one once: a row has the text's code.
 //!
 //! What a comparison says of two values, True, False or Unknown, and which of two comes first, stands
-//! here once for all conditions and orders. What a name of a table or column looks like, and which
-//! words are reserved, stands here for the catalog and the query language; the latter says again how
-//! each reserved word is written.
+//! here once for all conditions and orders; so does what every loaded table keeps.
 #![tactic(auto)]
 
 mod codes;
 pub mod column;
 mod dictionary;
-pub mod keyword;
 pub mod lent;
-pub mod name;
 mod nulls;
 mod numbers;
 pub mod order;
 pub mod owned;
 pub mod parts;
 pub mod table;
-pub mod text;
 mod texts;
 pub mod truth;
 pub mod value;
 mod width;
 
 pub use column::{Column, codes_tell_texts, numbers_have_no_text};
-pub use keyword::{Keyword, keyword_of, spelling};
 pub use lent::{CodeSlice, NumberSlice, flag_at};
-pub use name::{Name, is_name, is_reserved, is_word_byte};
 pub use order::{compare, sort_cmp};
 pub use owned::OwnedValue;
 pub use parts::ColumnParts;
 pub use table::Table;
-pub use text::Text;
 pub use truth::Truth;
-pub use value::{ColType, Op, Value};
+pub use value::Value;
 
 /// A growth was refused: the only fault of a call that needs nothing but memory.
 pub type Memory = std::alloc::AllocError;

@@ -6,7 +6,8 @@ ghost use Rattle.ssb_cells.specs.Order.{cell_cmp};
 ghost use Rattle.ssb_cells.specs.Values.{cell_of};
 
 use crate::truth::Truth;
-use crate::value::{Op, Value};
+use crate::value::Value;
+use ssb_terms::Op;
 use std::cmp::Ordering;
 
 fn meets(op: Op, order: Ordering) -> bool

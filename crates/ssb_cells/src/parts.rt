@@ -3,8 +3,8 @@
 ghost use Rattle.std.specs.Prelude.{◌≡◌, ◌<◌, ◌+◌, [], ◌++◌, length, ◌==◌, OnOk, OnErr, IfOk};
 
 use crate::column::Column;
-use crate::value::ColType;
 use crate::width::Width;
+use ssb_terms::ColType;
 use std::alloc::{AllocError, Global};
 use std::marker::Model;
 

@@ -10,9 +10,16 @@ use std::marker::Model;
 
 /// Columns of one length, at least one of them, seen as their list. Rows are numbered from 0 here,
 /// and from 1 where a fault names one.
-#[derive(Drop)]
 pub struct Table {
     columns: Vec<Column>,
+}
+
+// Written out, so that the crates above need no proof of how its parts are let go.
+impl Drop for Table {
+    fn drop(self) {
+        let Table { columns } = self;
+        drop(columns);
+    }
 }
 
 impl Model for Table {

@@ -1,32 +1,6 @@
-// Values, their types, and the operators that compare them.
+// Values, lent.
 
 ghost use Rattle.std.specs.Prelude.{◌≡◌};
-
-/// The type of a column.
-#[derive(Clone, Copy, PartialEq, Eq, Debug)]
-pub enum ColType {
-    /// Whole numbers of 64 bits.
-    Int,
-    /// Texts.
-    Text,
-}
-
-/// A comparison of SQL.
-#[derive(Clone, Copy, PartialEq, Eq, Debug)]
-pub enum Op {
-    /// `=`
-    Eq,
-    /// `<>`
-    Ne,
-    /// `<`
-    Lt,
-    /// `<=`
-    Le,
-    /// `>`
-    Gt,
-    /// `>=`
-    Ge,
-}
 
 /// One value, lent.
 #[derive(Clone, Copy)]

@@ -5,9 +5,9 @@ use Rattle.ssb_load.specs.Shapes.{TableShape}
 use Rattle.ssb_sql.specs.Spells.{ReadsText}
 use Rattle.ssb_sql.specs.declared.select.Select.{Select}
 use Rattle.ssb_bind.specs.Faults.{BindsTo}
-use Rattle.ssb_bind.specs.declared.query.QueryParts.{QueryParts}
-use Rattle.ssb_answer.specs.declared.run_fault.RunFault.{RunFault}
-use Rattle.ssb_answer.specs.declared.run_fault.RunFault.TheVariants as run
+use Rattle.ssb_query.specs.declared.query.QueryParts.{QueryParts}
+use Rattle.ssb_reply.specs.declared.run_fault.RunFault.{RunFault}
+use Rattle.ssb_reply.specs.declared.run_fault.RunFault.TheVariants as run
 
 -- the text spells a query that means something over the catalog, or the fault is the first that reading or binding answers
 abbrev pub Checks : List TableShape → List ℕ → Result (Unit {0}) RunFault → Type 0

@@ -7,10 +7,10 @@ use Rattle.ssb_sql.specs.declared.fault.SqlFault.{SqlFault}
 use Rattle.ssb_sql.specs.declared.fault.SqlFault.TheVariants as sql
 use Rattle.ssb_bind.specs.declared.fault.BindFault.{BindFault}
 use Rattle.ssb_bind.specs.declared.fault.BindFault.TheVariants as bind
-use Rattle.ssb_answer.specs.declared.fault.AnswerFault.{AnswerFault}
-use Rattle.ssb_answer.specs.declared.fault.AnswerFault.TheVariants as answer
-use Rattle.ssb_answer.specs.declared.run_fault.RunFault.{RunFault}
-use Rattle.ssb_answer.specs.declared.run_fault.RunFault.TheVariants as run
+use Rattle.ssb_rows.specs.declared.fault.AnswerFault.{AnswerFault}
+use Rattle.ssb_rows.specs.declared.fault.AnswerFault.TheVariants as answer
+use Rattle.ssb_reply.specs.declared.run_fault.RunFault.{RunFault}
+use Rattle.ssb_reply.specs.declared.run_fault.RunFault.TheVariants as run
 use Rattle.ssb_cli.specs.declared.fault.program.ProgramFault.{ProgramFault}
 use Rattle.ssb_cli.specs.declared.fault.program.ProgramFault.TheVariants as program
 

@@ -1,14 +1,12 @@
 // Files that are opened and read.
 
-ghost use Rattle.std.specs.Prelude.{◌≡◌, ◌≤◌, ◌<◌, ◌+◌, ◌++◌, [], ◌∷◌, List, IfOk, IfErr, IsNone, IsOk, IsErrAnd, IsUtf8, length, map, vec_len, string_bytes};
+ghost use Rattle.std.specs.Prelude.{◌≡◌, ◌≤◌, ◌<◌, ◌+◌, IfOk, IfErr, IsNone, IsOk, IsErrAnd, IsUtf8, length, map, vec_len, string_bytes};
 ghost use Rattle.std.specs.Io.Take.{take_limit};
-ghost use Rattle.std.specs.List.{AllZip};
 ghost use Rattle.ssb_load.specs.BuiltIn.{ssb_tables};
 ghost use Rattle.ssb_load.specs.Joined.{sources_in};
-ghost use Rattle.ssb_load.specs.Shapes.{TableShape};
 ghost use Rattle.ssb_cli.specs.Faults.{IsOpenFault, IsQueryFault};
 ghost use Rattle.ssb_cli.specs.Files.{has_key, longest_query, section_count};
-ghost use Rattle.ssb_cli.specs.Sections.{AreSectionsOf, AreSizes};
+ghost use Rattle.ssb_cli.specs.Sections.{AreOpened, AreSectionsOf, AreSizes, GainsTable};
 
 use crate::fault::{ProgramFault, RunFault, SqlFault};
 use crate::sections::{Section, sections_of};
@@ -172,7 +170,7 @@ fn add_source<R: Files + AllocGlobal>(
     sources: &mut Vec<Joined<Section<R::File>>>,
 ) -> Result<(), ProgramFault>
     ensures added { IfOk result (λ u. vec_len sources.new ≡ vec_len sources.old + 1) }
-    ensures sections { (tables : List TableShape) → AllZip (λ t source. AreSectionsOf t (map (λ s. take_limit s.begun.value) (sources_in source.lanes.items))) tables sources.old.items → IfOk result (λ u. AllZip (λ t source. AreSectionsOf t (map (λ s. take_limit s.begun.value) (sources_in source.lanes.items))) (tables ++ table.now ∷ []) sources.new.items) }
+    ensures sections { IfOk result (λ u. GainsTable (λ source. map (λ s. take_limit s.begun.value) (sources_in source.lanes.items)) table.now sources.old.items sources.new.items) }
     ensures fault { IfErr result IsOpenFault }
 {
     let source = open_table(rt, data, table, workers)?;
@@ -192,7 +190,7 @@ pub fn open_all<R: Files + AllocGlobal>(
     workers: u32,
 ) -> Result<Vec<Joined<Section<R::File>>>, ProgramFault>
     ensures sources { IfOk result (λ sources. vec_len sources ≡ length catalog.now) }
-    ensures sections { IfOk result (λ sources. AllZip (λ t source. AreSectionsOf t (map (λ s. take_limit s.begun.value) (sources_in source.lanes.items))) catalog.now sources.items) }
+    ensures sections { IfOk result (λ sources. AreOpened (λ source. map (λ s. take_limit s.begun.value) (sources_in source.lanes.items)) catalog.now sources.items) }
     ensures fault { IfErr result IsOpenFault }
 {
     let mut sources = Vec::new(rt.alloc());

@@ -3,7 +3,7 @@
 // of it.
 
 ghost use Rattle.std.specs.Prelude.{◌≡◌, ◌⊎◌, IfSome, IsNone, length, unwrap_or, vec_len};
-ghost use Rattle.ssb_answer.specs.Settings.{AreInRange};
+ghost use Rattle.ssb_reply.specs.Settings.{AreInRange};
 ghost use Rattle.ssb_cli.specs.Faults.{out_of_memory, program_status};
 
 use crate::check::check_text;
@@ -11,11 +11,9 @@ use crate::fault::{AnswerFault, ProgramFault, RunFault};
 use crate::files::{catalog_of, names_of, open_all, read_query};
 use crate::report::{OUT_OF_MEMORY, program_line, program_status_of};
 use crate::sections::Section;
-use ssb_answer::{
-    DEFAULT_MORSEL_SIZE, DEFAULT_PARTS, DEFAULT_WORKERS, MEMORY_LINE, NoGate, Out, Settings,
-    run_from,
-};
+use ssb_answer::{NoGate, run_from};
 use ssb_load::{Catalog, Joined, Source};
+use ssb_reply::{DEFAULT_MORSEL_SIZE, DEFAULT_PARTS, DEFAULT_WORKERS, MEMORY_LINE, Out, Settings};
 use ssb_words::{QuerySource, Task, WordsFault, task_of};
 use std::alloc::{AllocError, Global};
 use std::fs::File;

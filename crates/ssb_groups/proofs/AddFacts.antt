@@ -5,8 +5,8 @@ use Rattle.std.specs.List.{range_with_len}
 use Rattle.std.proofs.lemmas.List.{length-map}
 use Rattle.std.proofs.lemmas.List.Quantifiers.{position-Some}
 use Rattle.std.proofs.lemmas.Option.{same_Some}
-use Rattle.ssb_bind.specs.Star.{IsStar}
-use Rattle.ssb_bind.specs.Tables.{is_fact_table}
+use Rattle.ssb_query.specs.Star.{IsStar}
+use Rattle.ssb_query.specs.Tables.{is_fact_table}
 use Rattle.ssb_cells.specs.Cell.{null}
 use Rattle.ssb_cells.specs.Tables.{rows_in}
 use Rattle.ssb_job.specs.Kept.{Columns, IsCombination, JobShape, from_tables, rows_of}

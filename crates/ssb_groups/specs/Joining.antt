@@ -46,10 +46,14 @@ abbrev pub JoinsAt : Key → List Accumulator → List (Key × List Accumulator)
 JoinsAt k more before after = ((xs : List Accumulator) → lookup (key_eq k) before ≡ Some xs → FitEach xs more)
     → (q : Key) → lookup (key_eq q) after ≡ option_joined (lookup (key_eq q) before) (cond (key_eq q k) (Some more) None)
 
+-- the accumulators of each key that two tables have fit
+abbrev pub FitByKey : List (Key × List Accumulator) → List (Key × List Accumulator) → Type 0
+FitByKey more before = (k : Key) (xs ys : List Accumulator) → lookup (key_eq k) before ≡ Some xs → lookup (key_eq k) more ≡ Some ys → FitEach xs ys
+
 -- the groups of two tables are joined key by key, where those of each key fit
 abbrev pub JoinsEach : List (Key × List Accumulator) → List (Key × List Accumulator) → List (Key × List Accumulator) → Type 0
 JoinsEach more before after =
-    ((k : Key) (xs ys : List Accumulator) → lookup (key_eq k) before ≡ Some xs → lookup (key_eq k) more ≡ Some ys → FitEach xs ys)
+    FitByKey more before
     → (q : Key) → lookup (key_eq q) after ≡ option_joined (lookup (key_eq q) before) (lookup (key_eq q) more)
 
 -- accumulators are joined to those of a key, by whatever columns the keys are spelt

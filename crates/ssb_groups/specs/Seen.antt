@@ -2,9 +2,9 @@
 -- Source: SQL-92, 7.7 <group by clause>, 6.5 <set function specification>.
 use Rattle.std.specs.Prelude.{ℕ, ◌+◌, pos, List, map, slice_get, unwrap_or}
 use Rattle.ssb_cells.specs.Cell.{Cell, number}
-use Rattle.ssb_bind.specs.declared.condition.BoundColumn.{BoundColumn}
-use Rattle.ssb_bind.specs.declared.query.Aggregate.{Aggregate}
-use Rattle.ssb_bind.specs.declared.query.Aggregate.TheVariants as aggregate
+use Rattle.ssb_query.specs.declared.condition.BoundColumn.{BoundColumn}
+use Rattle.ssb_query.specs.declared.query.Aggregate.{Aggregate}
+use Rattle.ssb_query.specs.declared.query.Aggregate.TheVariants as aggregate
 use Rattle.ssb_job.specs.Kept.{JobShape, column_value, from_tables}
 use Rattle.ssb_groups.specs.Rows.{SeenRow}
 use Rattle.ssb_groups.specs.Value.{Outcome, known, value}

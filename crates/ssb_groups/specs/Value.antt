@@ -2,13 +2,13 @@
 -- Source: SQL-92, 6.12 <numeric value expression>, for nulls; the range, and that Over goes before null, are this project's own.
 use Rattle.std.specs.Prelude.{◌^◌, nat_lt, ℤ, pos, negsuc, ◌+ℤ◌, ◌-ℤ◌, ◌*ℤ◌, Bool, if◌then◌else◌, List, fold}
 use Rattle.ssb_cells.specs.Cell.{Cell, null, number, text}
-use Rattle.ssb_sql.specs.declared.expr.Adding.{Adding}
-use Rattle.ssb_sql.specs.declared.expr.Adding.TheVariants as adding
-use Rattle.ssb_bind.specs.declared.condition.BoundColumn.{BoundColumn}
-use Rattle.ssb_bind.specs.declared.expr.BoundExpr.{BoundExpr}
-use Rattle.ssb_bind.specs.declared.expr.BoundExpr.TheOpen.{BoundExpr-F, BoundStep-F}
-use Rattle.ssb_bind.specs.declared.expr.BoundExpr.TheFolds.{fold-BoundExpr, fold-BoundStep}
-use Rattle.ssb_bind.specs.declared.expr.BoundStep.{BoundStep}
+use Rattle.ssb_terms.specs.declared.operator.Adding.{Adding}
+use Rattle.ssb_terms.specs.declared.operator.Adding.TheVariants as adding
+use Rattle.ssb_query.specs.declared.condition.BoundColumn.{BoundColumn}
+use Rattle.ssb_query.specs.declared.expr.BoundExpr.{BoundExpr}
+use Rattle.ssb_query.specs.declared.expr.BoundExpr.TheOpen.{BoundExpr-F, BoundStep-F}
+use Rattle.ssb_query.specs.declared.expr.BoundExpr.TheFolds.{fold-BoundExpr, fold-BoundStep}
+use Rattle.ssb_query.specs.declared.expr.BoundStep.{BoundStep}
 
 -- null, a number, a text, or Over: beyond the range
 pub data Outcome : Type 0 where

@@ -3,15 +3,16 @@
 ghost use Rattle.std.specs.Prelude.{◌≡◌, ◌<◌, [], None, Some, length, map, option_map, slice_get, IfOk, OnOk};
 ghost use Rattle.ssb_cells.specs.Codes.{texts_of};
 ghost use Rattle.ssb_cells.specs.Values.{cell_of};
-ghost use Rattle.ssb_cells.specs.declared.value.ColType.TheVariants as kinds;
+ghost use Rattle.ssb_terms.specs.declared.rule.ColType.TheVariants as kinds;
 ghost use Rattle.ssb_job.specs.Kept.{IsCombination, from_tables};
 ghost use Rattle.ssb_groups.specs.Keys.{IsKept, IsKey, cells_in, code_cell, kept_cell, key_columns, key_of, spelt_cell};
 ghost use Rattle.ssb_groups.specs.Places.{HasSomeRow, IsPlace, IsSomePlace, cell_at_place, place_of, values_at};
 
 use crate::key::{GroupKey, KeyCell};
-use ssb_bind::BoundColumn;
-use ssb_cells::{ColType, Column, Table, Value, numbers_have_no_text};
+use ssb_cells::{Column, Table, Value, numbers_have_no_text};
 use ssb_job::{Job, JoinedRow};
+use ssb_query::BoundColumn;
+use ssb_terms::ColType;
 use std::alloc::{AllocError, Global};
 use std::marker::Model;
 use std::snapshot::Snapshot;

@@ -7,9 +7,9 @@ ghost use Rattle.ssb_groups.specs.Seen.{argument};
 ghost use Rattle.ssb_groups.specs.Value.{add_step, product, step_value, value};
 
 use crate::outcome::{Operation, Outcome};
-use ssb_bind::{Aggregate, BoundExpr, BoundStep};
 use ssb_job::{Job, JoinedRow};
-use ssb_sql::Adding;
+use ssb_query::{Aggregate, BoundExpr, BoundStep};
+use ssb_terms::Adding;
 
 fn add_step<'a>(so_far: Outcome<'a>, adding: Adding, term: Outcome<'a>) -> Outcome<'a>
     ensures { outcome_of result ≡ add_step (outcome_of so_far.entry) (adding, outcome_of term.entry) }

@@ -7,8 +7,8 @@ ghost use Rattle.ssb_groups.specs.Seen.{argument, fact_of};
 
 use crate::accumulator::Accumulator;
 use crate::evaluate::argument;
-use ssb_bind::Aggregate;
 use ssb_job::{Job, JoinedRow};
+use ssb_query::Aggregate;
 use std::alloc::AllocError;
 
 // The row of the fact table, from 1.

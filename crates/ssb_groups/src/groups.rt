@@ -23,7 +23,6 @@ use std::marker::Model;
 /// least fact row of an overflow and a count of rows.
 ///
 /// What they stand for does not depend on the order in which the rows come.
-#[derive(Drop)]
 pub struct Groups {
     alloc: Global,
     // Where the job's group columns stand, in tables that are the job's own.
@@ -32,6 +31,23 @@ pub struct Groups {
     // The key and the accumulators of the row that is added, whose room is used again for the next.
     key: GroupKey,
     more: Vec<Accumulator>,
+}
+
+// Written out, so that the crates above need no proof of how its parts are let go.
+impl Drop for Groups {
+    fn drop(self) {
+        let Groups {
+            alloc: _,
+            columns,
+            store,
+            key,
+            more,
+        } = self;
+        drop(columns);
+        drop(store);
+        drop(key);
+        drop(more);
+    }
 }
 
 impl Model for Groups {

@@ -9,14 +9,15 @@ use Rattle.ssb_load.specs.Intake.{Refuses, table}
 use Rattle.ssb_load.specs.Lines.{IsPartOfLine}
 use Rattle.ssb_load.specs.Moved.{moved}
 use Rattle.ssb_load.specs.Records.{Fields}
-use Rattle.ssb_load.specs.Rules.{columns_of, key_place}
+use Rattle.ssb_terms.specs.Roles.{key_place}
+use Rattle.ssb_load.specs.Rules.{columns_of}
 use Rattle.ssb_load.specs.TableIntake.{IsLoading, subject_of}
 use Rattle.ssb_load.specs.Tables.{first_fault}
 use Rattle.ssb_load.specs.declared.assembly.Assembly.{Assembly}
 use Rattle.ssb_load.specs.declared.fault.LoadFault.{LoadFault}
 use Rattle.ssb_load.specs.declared.fault.LoadFault.TheVariants as load
 use Rattle.ssb_load.specs.declared.fault.RecordFault.TheVariants as faults
-use Rattle.ssb_load.specs.declared.rule.Rule.{Rule}
+use Rattle.ssb_terms.specs.declared.rule.Rule.{Rule}
 use Rattle.ssb_load.specs.declared.table_intake.TableIntake.{TableIntake}
 use Rattle.ssb_load.proofs.Blocks.{no-records}
 use Rattle.ssb_load.proofs.FaultFacts.{fault-append, fault-none}

@@ -7,8 +7,8 @@ use Rattle.std.proofs.lemmas.Bool.{and_parts, leb-true}
 use Rattle.std.proofs.lemmas.Cmp.{nat_list_eq_equiv}
 use Rattle.std.proofs.lemmas.List.Elements.{All-cons, All-from_recursion, All-nil}
 use Rattle.std.proofs.lemmas.Map.Made.{IsDistinct-from_count}
-use Rattle.ssb_cells.specs.declared.value.ColType.{ColType}
-use Rattle.ssb_cells.specs.declared.value.ColType.TheVariants as kinds
+use Rattle.ssb_terms.specs.declared.rule.ColType.{ColType}
+use Rattle.ssb_terms.specs.declared.rule.ColType.TheVariants as kinds
 use Rattle.ssb_load.specs.BuiltIn.{ssb_tables}
 use Rattle.ssb_load.specs.Catalog.{IsCatalog, IsTable, is_key_column}
 use Rattle.ssb_load.specs.Rules.{is_int}

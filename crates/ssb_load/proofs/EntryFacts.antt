@@ -1,7 +1,7 @@
 -- What the words of a record are.
 use Rattle.std.proofs.Common.{◌≡◌, ◌&&◌, ℕ, Bool, true, false, List, length, refl}
 use Rattle.std.specs.Prelude.{nat_le}
-use Rattle.ssb_cells.specs.Names.{is_name}
+use Rattle.ssb_terms.specs.Names.{is_name}
 use Rattle.ssb_load.specs.Catalog.{is_short_name}
 
 and-first : (a b : Bool) → (a && b) ≡ true → a ≡ true

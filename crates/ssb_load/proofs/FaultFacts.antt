@@ -13,8 +13,8 @@ use Rattle.ssb_load.specs.Tables.{repeats, fault_of, first_fault, or_later}
 use Rattle.ssb_load.specs.Loader.{fault_by}
 use Rattle.ssb_load.specs.Width.{has_width}
 use Rattle.ssb_load.specs.Loader.{fails_some}
-use Rattle.ssb_load.specs.declared.rule.Rule.{Rule}
-use Rattle.ssb_load.specs.declared.rule.Test.TheVariants as tests
+use Rattle.ssb_terms.specs.declared.rule.Rule.{Rule}
+use Rattle.ssb_load.specs.declared.value.Test.TheVariants as tests
 use Rattle.ssb_load.specs.declared.fault.RecordFault.{RecordFault}
 
 -- a record that passes each test

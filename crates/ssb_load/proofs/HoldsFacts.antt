@@ -10,7 +10,7 @@ use Rattle.ssb_load.specs.Rules.{has_key, key_of, is_value, columns_from, column
 use Rattle.ssb_load.specs.Tables.{repeats, fault_of}
 use Rattle.ssb_load.specs.Loader.{fault_by}
 use Rattle.ssb_load.specs.Loader.{Holds, AddsKey, AreSized, seen_in, with_front, with_record}
-use Rattle.ssb_load.specs.declared.rule.Rule.{Rule}
+use Rattle.ssb_terms.specs.declared.rule.Rule.{Rule}
 
 -- the same keys give the same fault
 repeats-same : (key : Option ℤ) (a b : ℤ → Bool) → ((z : ℤ) → a z ≡ b z) → repeats key a ≡ repeats key b

@@ -1,5 +1,5 @@
 -- Sources one after the other: what a read of one of them changes.
-use Rattle.std.proofs.Common.{◌≡◌, ◌+◌, ◌≤◌, ◌<◌, ◌++◌, ◌∙◌, ◌==◌, ℕ, zero, suc, Bool, true, false, List, [], ◌∷◌, length, map, take, drop, get_or, set, refl, sym, ap, append_assoc, add-one, arith}
+use Rattle.std.proofs.Common.{◌≡◌, ◌+◌, ◌≤◌, ◌<◌, ◌++◌, ◌∙◌, ◌==◌, ℕ, zero, suc, Bool, true, false, List, [], ◌∷◌, length, map, take, drop, get_or, set, refl, sym, ap, append_assoc, add-one, arith, IfSome}
 use Rattle.std.proofs.Math.Seq.{map-set_same}
 use Rattle.std.proofs.lemmas.Bool.{false≢true}
 use Rattle.std.proofs.lemmas.List.{append-nil, drop-drop, drop-set-lt, drop_all, length-map, map-set, take-set, take_all, take_more, take_more_set, get_or-map}
@@ -7,8 +7,11 @@ use Rattle.std.proofs.lemmas.List.Concat.{flat_map-append}
 use Rattle.std.proofs.lemmas.List.Elements.{All-drop, All-head, All-nil, All-push, All-same, All-tail, All-take}
 use Rattle.std.specs.List.{All, flat_map}
 use Rattle.ssb_load.specs.Giving.{ends_at}
-use Rattle.ssb_load.specs.Joined.{IsJoined, given_upto, sources_in, unread}
+use Rattle.ssb_load.specs.Joined.{IsJoined, all_of, given_upto, sources_in, unread}
+use Rattle.ssb_load.specs.JoinedLaws.{joined_settled}
+use Rattle.ssb_load.specs.declared.joined.Joined.{Joined}
 use Rattle.ssb_load.specs.declared.lane.Lane.{Lane}
+use Rattle.ssb_load.specs.declared.source.Source.{Ghosts as Source}
 use Rattle.ssb_load.proofs.Cutting.{ended-more}
 
 -- a read that gave no byte into some room met an end
@@ -169,3 +172,12 @@ module _ {S : Type 0} (given : S → List ℕ) where
     joined-next lanes at lane new begun stopped begun_now stopped_now failures failures_now met joined is read going ended =
         let lt : at < length (sources_in lanes) = omega (arith, length-map lanes (λ l. l.source), is.inside) in
         rw (sources-set lanes at (record { source = new; read = lane.read })) (joined-moved (sources_in lanes) at begun stopped begun_now stopped_now failures failures_now met new joined lt read going ended)
+
+-- before any read it gave nothing
+pub none-given : {S : Type 0} (s : Source S) (j : Joined S s) → j.begun ≡ false → given_upto s.given j.at (sources_in j.lanes.items) ≡ []
+none-given s j unread = given-none s.given (sources_in j.lanes.items) j.at (j.joined.untouched unread).nothing
+
+-- once it met its end, it gave all bytes of its sources, where these are told
+pub all-settled : {S : Type 0} (s : Source S) → ((x : S) → IfSome (s.whole x) (λ all. take (length (s.given x)) all ≡ s.given x)) → ((x : S) → 0 < s.ends x → IfSome (s.whole x) (λ all. s.given x ≡ all))
+    → (j : Joined S s) → 0 < length j.ended.items → IfSome (all_of (map s.whole (sources_in j.lanes.items))) (λ all. given_upto s.given j.at (sources_in j.lanes.items) ≡ all)
+all-settled s begins settled j ended = joined_settled s.given s.ends s.whole begins settled (sources_in j.lanes.items) j.at (j.joined.over ended).1 j.joined.met

@@ -8,12 +8,12 @@ use Rattle.ssb_cells.specs.Tables.{AreLong, rows_in}
 use Rattle.ssb_load.specs.Assembly.{AreParts, all_in}
 use Rattle.ssb_load.specs.Intake.{table}
 use Rattle.ssb_load.specs.Joining.{AreColumnsOf, FitBehind, behind_each}
-use Rattle.ssb_load.specs.Lawful.{HasOneKey, IsLawful}
+use Rattle.ssb_cells.specs.Lawful.{HasOneKey, IsLawful}
 use Rattle.ssb_load.specs.Loading.{Loads}
 use Rattle.ssb_load.specs.Records.{Fields}
 use Rattle.ssb_load.specs.Rules.{columns_from, columns_of}
 use Rattle.ssb_load.specs.TableIntake.{subject_of}
-use Rattle.ssb_load.specs.declared.rule.Rule.{Rule}
+use Rattle.ssb_terms.specs.declared.rule.Rule.{Rule}
 use Rattle.ssb_load.specs.declared.table_intake.TableIntake.{TableIntake}
 use Rattle.ssb_load.proofs.HoldsFacts.{columns-sized, sized-table}
 use Rattle.ssb_load.proofs.LawfulFacts.{good-few, lawful}

@@ -6,16 +6,17 @@ use Rattle.std.proofs.lemmas.Bool.{lt-ltb, ltb-true, ltb_from_iff}
 use Rattle.std.proofs.lemmas.Bool.Decides.{eqb_tells}
 use Rattle.ssb_cells.specs.Cell.{null, number, text}
 use Rattle.ssb_cells.specs.Values.{cell_of}
-use Rattle.ssb_cells.specs.declared.value.ColType.{ColType}
-use Rattle.ssb_cells.specs.declared.value.ColType.TheVariants as kinds
+use Rattle.ssb_terms.specs.declared.rule.ColType.{ColType}
+use Rattle.ssb_terms.specs.declared.rule.ColType.TheVariants as kinds
 use Rattle.ssb_cells.specs.declared.value.Value.{Value}
 use Rattle.ssb_cells.specs.declared.value.Value.TheVariants as values
 use Rattle.ssb_load.specs.Loader.{fails_some, is_place, key_among, number_told}
 use Rattle.ssb_load.specs.Numbers.{number_of}
 use Rattle.ssb_load.specs.Records.{Fields, field}
-use Rattle.ssb_load.specs.Rules.{cell_in, is_empty, is_key, key_from, key_of, key_place, number_at}
-use Rattle.ssb_load.specs.declared.rule.Role.{Role}
-use Rattle.ssb_load.specs.declared.rule.Rule.{Rule}
+use Rattle.ssb_terms.specs.Roles.{is_key, key_from, key_place}
+use Rattle.ssb_load.specs.Rules.{cell_in, is_empty, key_of, number_at}
+use Rattle.ssb_terms.specs.declared.rule.Role.{Role}
+use Rattle.ssb_terms.specs.declared.rule.Rule.{Rule}
 
 some-of : (o : Option ℤ) (n : ℤ) (more : Bool) → (is_none o || more) ≡ false → number n ≡ number (unwrap_or o (pos 0)) → Some n ≡ o
 some-of None n more pass cell = cc pass

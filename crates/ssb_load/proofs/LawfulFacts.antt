@@ -10,18 +10,18 @@ use Rattle.std.proofs.lemmas.Bool.Decides.{Decides-int_eq, Decides-ltb, leb_tell
 use Rattle.std.proofs.lemmas.List.{append-nil, get_or-map, length-map}
 use Rattle.std.proofs.lemmas.List.Elements.{All-cons, All-nil}
 use Rattle.ssb_cells.specs.Cell.{Cell, Filled, null, number}
-use Rattle.ssb_cells.specs.declared.value.ColType.{ColType}
-use Rattle.ssb_cells.specs.declared.value.ColType.TheVariants as kinds
+use Rattle.ssb_terms.specs.declared.rule.ColType.{ColType}
+use Rattle.ssb_terms.specs.declared.rule.ColType.TheVariants as kinds
 use Rattle.ssb_load.specs.Records.{Fields, field}
 use Rattle.ssb_load.specs.Numbers.{number_of}
-use Rattle.ssb_load.specs.Rules.{any_from, needs_value, is_key, is_int, is_empty, key_place, key_of, is_value, has_key, value_in, cell_in, columns_from, columns_of}
+use Rattle.ssb_terms.specs.Roles.{needs_value, is_key, key_place}
+use Rattle.ssb_load.specs.Rules.{any_from, is_int, is_empty, key_of, is_value, has_key, value_in, cell_in, columns_from, columns_of}
 use Rattle.ssb_load.specs.Loader.{fails}
 use Rattle.ssb_load.specs.Tables.{fault_of, first_fault}
-use Rattle.ssb_load.specs.Lawful.{FitsType, EachObeys, HasOneKey, IsGiven, IsInt64, IsLawful}
-use Rattle.ssb_load.specs.declared.rule.Role.{Role}
-use Rattle.ssb_load.specs.declared.rule.Role.TheVariants as roles
-use Rattle.ssb_load.specs.declared.rule.Rule.{Rule}
-use Rattle.ssb_load.specs.declared.rule.Test.TheVariants as tests
+use Rattle.ssb_cells.specs.Lawful.{FitsType, EachObeys, HasOneKey, IsGiven, IsInt64, IsLawful}
+use Rattle.ssb_terms.specs.declared.rule.Rule.{Rule}
+use Rattle.ssb_load.specs.declared.value.Test.TheVariants as tests
+use Rattle.ssb_terms.proofs.RoleFacts.{key-needs}
 use Rattle.ssb_load.proofs.FaultFacts.{Passes, passes, later-none}
 
 all-map : {A B : Type 0} (f : A → B) (P : B → Type 0) (a : A) (xs : List A) → ((i : ℕ) → i < length xs → P (f (get_or xs i a))) → All P (map f xs)
@@ -167,11 +167,6 @@ length-take (suc j) (x ∷ xs) lt = let h = length-take j xs (omega arith) in om
 some-number : (o : Option ℤ) → is_none o ≡ false → (z : ℤ) × (o ≡ Some z)
 some-number None e = absurd (false≢true (sym e))
 some-number (Some z) e = (z, refl)
-
-pub key-needs : (role : Role) → is_key role ≡ true → needs_value role ≡ true
-key-needs roles.Key e = refl
-key-needs roles.Need e = cc e
-key-needs roles.Nullable e = cc e
 
 cell-number : (f : List ℕ) (z : ℤ) → is_empty f ≡ false → number_of f ≡ Some z → cell_in kinds.Int f ≡ number z
 cell-number f z full is = rw (full, is) refl

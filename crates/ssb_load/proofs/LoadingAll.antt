@@ -1,15 +1,15 @@
 -- Tables loaded, each of what its source gives: what their loads say of the whole.
-use Rattle.std.proofs.Common.{◌≡◌, ◌∙◌, ◌++◌, ◌∷◌, [], ◌+◌, ◌<◌, ◌≤◌, suc, get_or, take, ℕ, List, length, map, Option, None, Some, Ok, Err, Result, refl, sym, ap, subst, arith, IfSome, IfErr, IfOk, OnOk}
+use Rattle.std.proofs.Common.{◌≡◌, ◌∙◌, ◌++◌, ◌∷◌, [], ◌+◌, ◌<◌, ◌≤◌, suc, zero, get_or, drop, take, ℕ, List, length, map, Option, None, Some, Ok, Err, Result, refl, sym, ap, subst, arith, IfSome, IfErr, IfOk, OnOk}
 use Rattle.std.specs.Prelude.{slice_get, slice_index, slice_set, unwrap_or, Vec}
 use Rattle.std.specs.declared.alloc.Global.{Global}
-use Rattle.std.proofs.Math.Seq.{drop-length}
-use Rattle.std.proofs.lemmas.List.{append-nil}
+use Rattle.std.proofs.Math.Seq.{drop-length, take-add}
+use Rattle.std.proofs.lemmas.List.{append-nil, drop-drop, length-append, take_all}
 use Rattle.ssb_load.specs.CutShort.{IfRead, IsCutShort}
 use Rattle.ssb_load.specs.Files.{AreLawful, Bytes, Columns, FailedAt, FailsAt, GrewEach, LoadsAll, RoseEach, file_table, given_each, loaded_from}
 use Rattle.ssb_load.specs.Giving.{given_since}
-use Rattle.ssb_load.specs.Lawful.{most_rows}
+use Rattle.ssb_cells.specs.Lawful.{most_rows}
 use Rattle.ssb_load.specs.Loading.{AreGoodRows, rules_at}
-use Rattle.ssb_load.specs.Runs.{AreLoaded, FailedRead, Grew, IsLoaded, Ran, Stops}
+use Rattle.ssb_load.specs.Runs.{AreLoaded, ArePutTogether, FailedRead, Grew, IsLoaded, Ran, RanFrom, Stops}
 use Rattle.ssb_load.specs.Runs.AreLoaded.{none, more}
 use Rattle.ssb_load.specs.Runs.Stops.{here, behind, refused}
 use Rattle.ssb_load.specs.Shapes.{TableShape, rules_of}
@@ -155,6 +155,81 @@ lawful-all source (more h rest) = (h.lawful, lawful-all source rest)
 pub ran-lawful : {S : Type 0} (source : Source S) (n : ℕ) (ss : List TableShape) (bs later : List S) (r : Result (Vec Columns Global) FileFault) → Ran source n ss bs later r → IfOk r (λ tables. AreLawful ss tables.items)
 ran-lawful source n ss bs later (Ok tables) h = lawful-all source h
 ran-lawful source n ss bs later (Err e) h = tt
+
+-- ---- tables beside those behind them
+
+-- the tables of a catalog from this one on
+from-table : (catalog : List TableShape) (n : ℕ) → n < length catalog → (s : TableShape) × (drop n catalog ≡ s ∷ drop (suc n) catalog) × (rules_at catalog n ≡ rules_of s)
+from-table [] n lt = absurd (omega arith)
+from-table (s ∷ ss) zero lt = (s, refl, refl)
+from-table (s ∷ ss) (suc n) lt = from-table ss n (omega arith)
+
+-- one table alone was loaded
+pub ran-one : {S : Type 0} (source : Source S) (catalog : List TableShape) (n : ℕ) (b a : S) (t : Columns) (tables : Vec Columns Global) → n < length catalog → IsLoaded source (rules_at catalog n) b a (Ok t) → tables.items ≡ t ∷ []
+    → RanFrom source catalog n (b ∷ []) (a ∷ []) (Ok tables)
+ran-one source catalog n b a t tables lt h is = let at = from-table catalog n lt in rw (at.1, is) (more (subst (λ rules. IsLoaded source rules b a (Ok t)) at.2 h) none)
+
+-- it has a fault
+pub stops-one : {S : Type 0} (source : Source S) (catalog : List TableShape) (n : ℕ) (b a : S) (e : LoadFault) → n < length catalog → IsLoaded source (rules_at catalog n) b a (Err e)
+    → RanFrom source catalog n (b ∷ []) (a ∷ []) (Err (record { table = n; fault = e }))
+stops-one source catalog n b a e lt h = let at = from-table catalog n lt in rw at.1 (here (subst (λ rules. IsLoaded source rules b a (Err e)) at.2 h) tt)
+
+-- memory for the list of it is refused
+pub refused-one : {S : Type 0} (source : Source S) (catalog : List TableShape) (n : ℕ) (b a : S) (t : Columns) → n < length catalog → IsLoaded source (rules_at catalog n) b a (Ok t)
+    → RanFrom source catalog n (b ∷ []) (a ∷ []) (Err (record { table = n; fault = load.Memory }))
+refused-one source catalog n b a t lt h = refused (h.grows, tt)
+
+grew-both : {S : Type 0} (source : Source S) (bs later cs last : List S) → Grew source bs later → Grew source cs last → Grew source (bs ++ cs) (later ++ last)
+grew-both source [] [] cs last front back = back
+grew-both source [] (a ∷ later) cs last front back = absurd front
+grew-both source (b ∷ bs) [] cs last front back = absurd front
+grew-both source (b ∷ bs) (a ∷ later) cs last front back = (front.0, grew-both source bs later cs last front.1 back)
+
+loaded-both : {S : Type 0} (source : Source S) {ss rs : List TableShape} {bs later cs last : List S} {ts us : List Columns} → AreLoaded source ss bs later ts → AreLoaded source rs cs last us
+    → AreLoaded source (ss ++ rs) (bs ++ cs) (later ++ last) (ts ++ us)
+loaded-both source none back = back
+loaded-both source (more h rest) back = more h (loaded-both source rest back)
+
+stops-before : {S : Type 0} (source : Source S) {n k : ℕ} {ss : List TableShape} {bs later : List S} {e : LoadFault} (rs : List TableShape) (cs last : List S) → Stops source n ss bs later k e → Grew source cs last
+    → Stops source n (ss ++ rs) (bs ++ cs) (later ++ last) k e
+stops-before source rs cs last (here {bs = bs} {later = later} h grew) back = here h (grew-both source bs later cs last grew back)
+stops-before source rs cs last (behind h rest) back = behind h (stops-before source rs cs last rest back)
+stops-before source rs cs last (refused {bs = bs} {later = later} grew) back = refused (grew-both source bs later cs last grew back)
+
+stops-behind : {S : Type 0} (source : Source S) (n m : ℕ) {k : ℕ} {ss rs : List TableShape} {bs later cs last : List S} {ts : List Columns} {e : LoadFault} → m ≡ n + length bs → AreLoaded source ss bs later ts → Stops source m rs cs last k e
+    → Stops source n (ss ++ rs) (bs ++ cs) (later ++ last) k e
+stops-behind source n m {k = k} {rs = rs} {cs = cs} {last = last} {e = e} is none back =
+    let same : m ≡ n = omega (arith, is) in
+    subst (λ i. Stops source i rs cs last k e) same back
+stops-behind source n m is (more h rest) back = behind h (stops-behind source (n + 1) m (omega (arith, is)) rest back)
+
+put-both : {S : Type 0} (source : Source S) (n m : ℕ) (ss rs : List TableShape) (bs later cs last : List S) (front back r : Result (Vec Columns Global) FileFault) → m ≡ n + length bs → Ran source n ss bs later front → Ran source m rs cs last back
+    → ArePutTogether front back r → Ran source n (ss ++ rs) (bs ++ cs) (later ++ last) r
+put-both source n m ss rs bs later cs last (Err e) back r at h ran is =
+    subst (Ran source n (ss ++ rs) (bs ++ cs) (later ++ last)) (sym is) (stops-before source rs cs last h (ran-grows source m rs cs last back ran))
+put-both source n m ss rs bs later cs last (Ok ts) (Err e) r at h ran is = subst (Ran source n (ss ++ rs) (bs ++ cs) (later ++ last)) (sym is) (stops-behind source n m at h ran)
+put-both source n m ss rs bs later cs last (Ok ts) (Ok us) (Ok vs) at h ran is = subst (AreLoaded source (ss ++ rs) (bs ++ cs) (later ++ last)) (sym is) (loaded-both source h ran)
+put-both source n m ss rs bs later cs last (Ok ts) (Ok us) (Err e) at h ran is =
+    subst (Stops source n (ss ++ rs) (bs ++ cs) (later ++ last) e.table) (sym is) (refused (grew-both source bs later cs last (grew-all source h) (grew-all source ran)))
+
+-- tables were loaded, and those behind them
+pub ran-both : {S : Type 0} (source : Source S) (catalog : List TableShape) (n m : ℕ) (all bs later cs last : List S) (front back r : Result (Vec Columns Global) FileFault) → m ≡ n + length bs → all ≡ bs ++ cs
+    → RanFrom source catalog n bs later front → RanFrom source catalog m cs last back → ArePutTogether front back r → RanFrom source catalog n all (later ++ last) r
+ran-both source catalog n m all bs later cs last front back r at split h ran is =
+    let parts : take (length all) (drop n catalog) ≡ take (length bs) (drop n catalog) ++ take (length cs) (drop m catalog) =
+    ap (λ t. take (length t) (drop n catalog)) split ∙ ap (λ k. take k (drop n catalog)) (length-append bs cs) ∙ take-add (length bs) (length cs) (drop n catalog)
+    ∙ ap (λ t. take (length bs) (drop n catalog) ++ take (length cs) t) (drop-drop (length bs) n catalog ∙ ap (λ k. drop k catalog) (omega (arith, at))) in
+    subst (λ ss. Ran source n ss all (later ++ last) r) (sym parts)
+    (subst (λ xs. Ran source n (take (length bs) (drop n catalog) ++ take (length cs) (drop m catalog)) xs (later ++ last) r) (sym split) (put-both source n m _ _ bs later cs last front back r at h ran is))
+
+-- all tables of a catalog
+pub ran-whole : {S : Type 0} (source : Source S) (catalog : List TableShape) (bs later : List S) (r : Result (Vec Columns Global) FileFault) → length bs ≡ length catalog → RanFrom source catalog 0 bs later r → Ran source 0 catalog bs later r
+ran-whole source catalog bs later r long h = subst (λ ss. Ran source 0 ss bs later r) (take_all (length bs) catalog (omega (arith, long))) h
+
+-- what holds anyway holds of tables that come
+pub always-ok : {A E : Type 0} {P : Type 0} (r : Result A E) → P → OnOk r P
+always-ok (Ok x) p = p
+always-ok (Err e) p = tt
 
 -- ---- one table after the other
 

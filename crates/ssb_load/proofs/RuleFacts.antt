@@ -5,9 +5,10 @@ use Rattle.ssb_cells.specs.Cell.{Filled}
 use Rattle.ssb_cells.specs.Values.{IsOfType, cell_of}
 use Rattle.ssb_cells.specs.declared.value.Value.{Value}
 use Rattle.ssb_load.specs.Records.{Fields, field}
-use Rattle.ssb_load.specs.Rules.{any_from, key_from, is_key, cell_in}
+use Rattle.ssb_terms.specs.Roles.{key_from, is_key}
+use Rattle.ssb_load.specs.Rules.{any_from, cell_in}
 use Rattle.ssb_load.specs.Loader.{AreSized, with_cell, with_front}
-use Rattle.ssb_load.specs.declared.rule.Rule.{Rule}
+use Rattle.ssb_terms.specs.declared.rule.Rule.{Rule}
 
 -- what is left of the rules at a place
 any-suc : (t : Rule → List ℕ → Bool) (at k : ℕ) (ps : List Rule) (d : Rule) (r : Fields) → k < length ps

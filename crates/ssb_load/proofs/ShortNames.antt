@@ -4,7 +4,7 @@ use Rattle.std.specs.Prelude.{nat_le, is_none}
 use Rattle.std.specs.Char.{to_ascii_lowercase}
 use Rattle.std.proofs.lemmas.List.{length-map}
 use Rattle.std.proofs.lemmas.Bool.{and_parts, leb-true}
-use Rattle.ssb_cells.specs.Names.{is_name}
+use Rattle.ssb_terms.specs.Names.{is_name}
 use Rattle.ssb_load.specs.Records.{Fields, field}
 use Rattle.ssb_load.specs.Catalog.{column_in, is_short_name, kind_named, role_named, spelling_fault, table_in}
 use Rattle.ssb_load.specs.Width.{has_width}

@@ -1,23 +1,24 @@
 -- A table on its way: a record that is refused, and what the end says.
-use Rattle.std.proofs.Common.{◌≡◌, ◌∙◌, ◌++◌, ℕ, List, [], ◌∷◌, Option, None, Some, Ok, Err, IfSome, refl, sym, ap}
+use Rattle.std.proofs.Common.{◌≡◌, ◌∙◌, ◌++◌, ◌<◌, ℕ, List, [], ◌∷◌, Option, None, Some, Ok, Err, IfSome, refl, sym, ap}
 use Rattle.ssb_cells.specs.Cell.{Filled}
 use Rattle.ssb_load.specs.Intake as intake
-use Rattle.ssb_load.specs.Lawful.{HasOneKey, IsLawful}
+use Rattle.ssb_cells.specs.Lawful.{HasOneKey, IsLawful}
 use Rattle.ssb_load.specs.Loader.{IsFaultBy}
 use Rattle.ssb_load.specs.Giving.{given_since}
-use Rattle.ssb_load.specs.Loading.{AreGoodRows, Fails, IsTableFault, Loads}
+use Rattle.ssb_load.specs.Loading.{AreGoodRows, Fails, IsTableFault, Loads, LoadsFrom}
 use Rattle.ssb_load.specs.CutShort.{IfRead, IsCutShort}
 use Rattle.ssb_load.specs.Records.{Fields, records_of}
 use Rattle.ssb_load.specs.Rules.{columns_of}
 use Rattle.ssb_load.specs.TableIntake.{IsLoading, subject_of}
 use Rattle.ssb_load.specs.declared.fault.LoadFault.{LoadFault}
 use Rattle.ssb_load.specs.declared.fault.LoadFault.TheVariants as load
-use Rattle.ssb_load.specs.declared.rule.Rule.{Rule}
+use Rattle.ssb_terms.specs.declared.rule.Rule.{Rule}
 use Rattle.ssb_load.specs.declared.table_intake.TableIntake.{TableIntake}
 use Rattle.ssb_load.proofs.FaultFacts.{fault-here}
 use Rattle.ssb_load.proofs.HoldsFacts.{same-fault}
 use Rattle.ssb_load.proofs.LawfulFacts.{lawful}
 use Rattle.ssb_load.proofs.LineRecords.{good-lines}
+use Rattle.ssb_load.proofs.TakingAll.{of-all, refused-fails, refused-in}
 
 -- a faulty record behind good ones is refused for its fault
 pub refuses-here : (t : TableIntake) (good rest : List Fields) (r : Fields) (e : LoadFault) → IsLoading t good → IsFaultBy t.rules.items t.max_rows t.accepted t.loader.seen.keys r e
@@ -85,3 +86,47 @@ gives-table t rules m records columns is h are = rw (← rules-are t rules m is,
 pub all-lawful : (t : TableIntake) (rules : List Rule) (m : ℕ) (records : List Fields) (columns : List Filled) → HasOneKey rules → subject_of t ≡ intake.table rules m → IsLoading t records → columns ≡ columns_of t.rules.items records → IsLawful rules m columns
 all-lawful t rules m records columns one is h are =
     lawful rules m records columns one (rw (rules-are t rules m is, limit-is t rules m is) at h.clean) (are ∙ ap (λ rs. columns_of rs records) (rules-are t rules m is))
+
+-- ---- what a load answers
+
+-- why a source's load stops, said of what the load answers
+pub loads-stopped : {S : Type 0} (given : S → List ℕ) (failures ends : S → ℕ) (known : S → Option (List ℕ)) (s : intake.Subject) (rules : List Rule) (m : ℕ) (before after : S) (e : LoadFault) → s ≡ intake.table rules m
+    → given after ≡ given before ++ given_since (given before) (given after) → known after ≡ known before → IfRead e (λ n. failures before < failures after) → intake.Stops given known s before after e
+    → LoadsFrom given failures ends known rules m before after (Err e)
+loads-stopped given failures ends known s rules m before after e is grows whole broken stops =
+    let bytes = given_since (given before) (given after) in
+    record {
+      grows = grows;
+      loads = fails-given s rules m bytes e is stops.fails;
+      ended = tt;
+      broken = broken;
+      short = cut-short s rules m bytes e is stops.fails;
+      whole = whole;
+      told = fails-told (known before) (given before) s rules m e is stops.told;
+      lawful = tt;
+      faults = fault-kind s rules m bytes e is stops.fails;
+    }
+
+-- a record of bytes that are all of a source's, where these are known, was refused
+pub refused-stops : {S : Type 0} (given : S → List ℕ) (known : S → Option (List ℕ)) (s : intake.Subject) (before after : S) (e : LoadFault) → known after ≡ known before → IfSome (known after) (λ all. given after ≡ all)
+    → intake.Refuses s (records_of (given_since (given before) (given after))) e → intake.Stops given known s before after e
+refused-stops given known s before after e same settled refused = record {
+  fails = refused-fails s e (given_since (given before) (given after)) refused;
+  told = of-all (known before) (known after) (given after) (λ all. intake.StopsIn s (given_since (given before) all) e) same settled (refused-in s e (given_since (given before) (given after)) refused);
+}
+
+-- the table of bytes that are all of a source's, where these are known
+pub loads-table : {S : Type 0} (given : S → List ℕ) (failures ends : S → ℕ) (known : S → Option (List ℕ)) (rules : List Rule) (m : ℕ) (before after : S) (columns : List Filled) → given after ≡ given before ++ given_since (given before) (given after)
+    → known after ≡ known before → ends before < ends after → IfSome (known after) (λ all. given after ≡ all) → Loads rules m (records_of (given_since (given before) (given after))) (Ok columns) → IsLawful rules m columns
+    → LoadsFrom given failures ends known rules m before after (Ok columns)
+loads-table given failures ends known rules m before after columns grows whole ended settled loads lawful = record {
+  grows = grows;
+  loads = loads;
+  ended = ended;
+  broken = tt;
+  short = tt;
+  whole = whole;
+  told = of-all (known before) (known after) (given after) (λ all. Loads rules m (records_of (given_since (given before) all)) (Ok columns)) whole settled loads;
+  lawful = lawful;
+  faults = tt;
+}

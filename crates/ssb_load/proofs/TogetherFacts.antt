@@ -1,6 +1,8 @@
 -- Sources that are read side by side: why they stop, said of the bytes given and of all bytes.
 use Rattle.std.proofs.Common.{◌≡◌, ◌∙◌, ◌<◌, ◌++◌, ℕ, List, [], length, take, drop, sym, ap, subst, arith, append_assoc}
 use Rattle.std.specs.List.{All}
+use Rattle.std.specs.Prelude.{Vec}
+use Rattle.std.specs.declared.alloc.Global.{Global}
 use Rattle.std.proofs.lemmas.List.{append-nil, drop_all, get_or-map, length-map, take_all}
 use Rattle.ssb_load.specs.Assembly.{Halts}
 use Rattle.ssb_load.specs.CutShort.{IfRead}
@@ -15,10 +17,18 @@ use Rattle.ssb_load.proofs.LineRecords.{first-records}
 use Rattle.ssb_load.proofs.TakingAll.{grows, since-is}
 
 -- a list that was written over by one as long
-pub written : {A : Type 0} (n : ℕ) (old new : List A) → length old ≡ n → length new ≡ n → take n (new ++ drop (length new) old) ≡ new
+written : {A : Type 0} (n : ℕ) (old new : List A) → length old ≡ n → length new ≡ n → take n (new ++ drop (length new) old) ≡ new
 written n old new was is =
     let none : drop (length new) old ≡ [] = drop_all (length new) old (omega (arith, was, is)) in
     rw (none, append-nil new) (take_all n new (omega (arith, is)))
+
+-- lanes that were lent, as they came back
+pub record IsBack {S : Type 0} (old : Vec (Lane S) Global) (new : List (Lane S)) : Type 0 where
+  pub is : take old.len (new ++ drop (length new) old.items) ≡ new
+  pub count : length (sources_in new) ≡ old.len
+
+pub came-back : {S : Type 0} (old : Vec (Lane S) Global) (new : List (Lane S)) → length new ≡ old.len → IsBack old new
+came-back old new long = record { is = written old.len old.items new (sym old.ok.0) long; count = length-map new (λ l. l.source) ∙ long }
 
 -- what is told of each source is told of each lane's
 pub silent-lanes : {S : Type 0} (given : S → List ℕ) (lanes : List (Lane S)) → All (λ s. given s ≡ []) (sources_in lanes) → All (λ l. given l.source ≡ []) lanes
@@ -62,3 +72,7 @@ no-read s rs (load.Record f n) P h = tt
 no-read s rs (load.BadCatalog f n) P h = tt
 no-read s rs (load.Read n) P h = absurd h
 no-read s rs load.Memory P h = tt
+
+-- a count that rose is above nothing
+pub more-ends : (before after : ℕ) → before < after → 0 < after
+more-ends before after more = omega (arith, more)

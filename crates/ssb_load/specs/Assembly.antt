@@ -7,13 +7,15 @@ use Rattle.ssb_load.specs.CutShort.{IsCutShort}
 use Rattle.ssb_load.specs.Intake.{AreGood, Refuses, RefusesRow, Subject}
 use Rattle.ssb_load.specs.Lines.{EndsInLf, IsPartOfLine}
 use Rattle.ssb_load.specs.Records.{Fields, records_of}
-use Rattle.ssb_load.specs.Rules.{columns_of, key_place}
+use Rattle.ssb_terms.specs.Roles.{key_place}
+use Rattle.ssb_load.specs.Rules.{columns_of}
 use Rattle.ssb_load.specs.TableIntake.{IsLoading, subject_of}
 use Rattle.ssb_load.specs.Tables.{first_fault}
 use Rattle.ssb_load.specs.declared.assembly.Assembly.{Assembly}
 use Rattle.ssb_load.specs.declared.fault.LoadFault.{LoadFault}
 use Rattle.ssb_load.specs.declared.fault.LoadFault.TheVariants as load
-use Rattle.ssb_load.specs.declared.rule.Rule.{Rule}
+use Rattle.ssb_terms.specs.declared.rule.Rule.{Rule}
+use Rattle.ssb_load.specs.declared.table_intake.TableIntake.{TableIntake}
 
 -- the records of all lists, one list after the other
 abbrev pub all_in : List (List Fields) → List Fields
@@ -67,6 +69,15 @@ pub record AreParts (rules : List Rule) (max_rows : ℕ) (parts : List (List Fil
   pub split : records ≡ all_in lists
   pub columns : parts ≡ map (columns_of rules) lists
   pub clean : first_fault rules max_rows [] records ≡ None
+
+-- behind the records that are held one of these is refused, whatever comes behind them
+abbrev pub RefusesBehind : Assembly → List Fields → LoadFault → Type 0
+RefusesBehind a more e = (lists : List (List Fields)) (latest rest : List Fields) → IsHeld a lists latest → Refuses (subject_in a) (all_in lists ++ (latest ++ (more ++ rest))) e
+
+-- behind them one of a part's rows is refused, whatever comes behind these
+abbrev pub RefusesRows : Assembly → TableIntake → LoadFault → Type 0
+RefusesRows a rows e =
+    (lists : List (List Fields)) (latest good rest : List Fields) → IsHeld a lists latest → IsLoading rows good → Refuses (subject_in a) (all_in lists ++ (latest ++ (good ++ rest))) e
 
 -- a record of these bytes is refused, whatever comes behind them
 abbrev pub RefusesAll : Subject → List ℕ → LoadFault → Type 0

@@ -2,10 +2,10 @@
 -- Source: the Star Schema Benchmark (O'Neil, O'Neil and Chen) has the tables, the columns and their order; types and roles are this project's choice.
 use Prim.Native.String.{String}
 use Rattle.std.specs.Prelude.{List, [], ◌∷◌, codes}
-use Rattle.ssb_cells.specs.declared.value.ColType.TheVariants as kinds
+use Rattle.ssb_terms.specs.declared.rule.ColType.TheVariants as kinds
 use Rattle.ssb_load.specs.Shapes.{TableShape}
 use Rattle.ssb_load.specs.declared.catalog.ColumnDef.{ColumnDef}
-use Rattle.ssb_load.specs.declared.rule.Role.TheVariants as roles
+use Rattle.ssb_terms.specs.declared.rule.Role.TheVariants as roles
 
 -- a key, which is not null and has no value twice
 abbrev pub int_key : String → ColumnDef

@@ -3,18 +3,19 @@
 use Rattle.std.specs.Prelude.{◌≡◌, ◌<◌, ◌≤◌, ◌+◌, ◌++◌, ◌∷◌, ◌&&◌, ℕ, Bool, true, not, List, [], length, map, nat_le, Option, Some, None, is_none, unwrap_or, Result, Ok, Err, codes, if◌then◌else◌}
 use Rattle.std.specs.List.{All, IsDistinct, filter, list_any}
 use Rattle.std.specs.Str.{bytes_eq, str_to_ascii_lowercase}
-use Rattle.ssb_cells.specs.Names.{is_name}
-use Rattle.ssb_cells.specs.declared.value.ColType.{ColType}
-use Rattle.ssb_cells.specs.declared.value.ColType.TheVariants as kinds
+use Rattle.ssb_terms.specs.Names.{is_name}
+use Rattle.ssb_terms.specs.declared.rule.ColType.{ColType}
+use Rattle.ssb_terms.specs.declared.rule.ColType.TheVariants as kinds
 use Rattle.ssb_load.specs.Records.{Fields, field}
-use Rattle.ssb_load.specs.Rules.{is_int, is_key}
+use Rattle.ssb_terms.specs.Roles.{is_key}
+use Rattle.ssb_load.specs.Rules.{is_int}
 use Rattle.ssb_load.specs.Shapes.{TableShape}
 use Rattle.ssb_load.specs.Width.{has_width}
 use Rattle.ssb_load.specs.declared.catalog.ColumnDef.{ColumnDef}
 use Rattle.ssb_load.specs.declared.fault.CatalogFault.{CatalogFault}
 use Rattle.ssb_load.specs.declared.fault.CatalogFault.TheVariants as faults
-use Rattle.ssb_load.specs.declared.rule.Role.{Role}
-use Rattle.ssb_load.specs.declared.rule.Role.TheVariants as roles
+use Rattle.ssb_terms.specs.declared.rule.Role.{Role}
+use Rattle.ssb_terms.specs.declared.rule.Role.TheVariants as roles
 
 -- A record is `table|column|type|role`: what its words say.
 

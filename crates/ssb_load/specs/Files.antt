@@ -5,7 +5,7 @@ use Rattle.std.specs.declared.alloc.Global.{Global}
 use Rattle.ssb_cells.specs.Cell.{Filled}
 use Rattle.ssb_load.specs.CutShort.{IsCutShort}
 use Rattle.ssb_load.specs.Giving.{given_since}
-use Rattle.ssb_load.specs.Lawful.{IsLawful, most_rows}
+use Rattle.ssb_cells.specs.Lawful.{IsLawful, most_rows}
 use Rattle.ssb_load.specs.Loading.{AreGoodRows, rules_at}
 use Rattle.ssb_load.specs.Records.{records_of}
 use Rattle.ssb_load.specs.Shapes.{TableShape, rules_of}

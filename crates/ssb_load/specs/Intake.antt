@@ -12,7 +12,7 @@ use Rattle.ssb_load.specs.declared.fault.CatalogFault.{CatalogFault}
 use Rattle.ssb_load.specs.declared.fault.LoadFault.{LoadFault}
 use Rattle.ssb_load.specs.declared.fault.LoadFault.TheVariants as load
 use Rattle.ssb_load.specs.declared.fault.RecordFault.{RecordFault}
-use Rattle.ssb_load.specs.declared.rule.Rule.{Rule}
+use Rattle.ssb_terms.specs.declared.rule.Rule.{Rule}
 
 -- a table under these rules, of at most so many rows, or a catalog
 pub data Subject : Type 0 where

@@ -5,7 +5,7 @@ use Rattle.ssb_cells.specs.Cell.{Filled}
 use Rattle.ssb_load.specs.Assembly.{all_in}
 use Rattle.ssb_load.specs.Records.{Fields}
 use Rattle.ssb_load.specs.Rules.{columns_of}
-use Rattle.ssb_load.specs.declared.rule.Rule.{Rule}
+use Rattle.ssb_terms.specs.declared.rule.Rule.{Rule}
 
 -- the values of each column behind those of the column before it; a column that has none behind it stays
 abbrev pub behind_each : List Filled → List Filled → List Filled

@@ -14,7 +14,6 @@ pub mod JoinedSource
 pub mod Joining
 pub mod Lane
 pub mod Lanes
-pub mod Lawful
 pub mod Lines
 pub mod Listing
 pub mod Loader

@@ -2,7 +2,7 @@
 -- Source: own.
 use Rattle.std.specs.Prelude.{ℕ, Bool, List}
 use Rattle.std.specs.Str.{str_to_ascii_lowercase}
-use Rattle.ssb_cells.specs.Names.{is_name}
+use Rattle.ssb_terms.specs.Names.{is_name}
 use Rattle.ssb_load.specs.Shapes.{TableShape}
 use Rattle.ssb_load.specs.declared.benchmark.Line.{Line}
 use Rattle.ssb_load.specs.declared.catalog.ColumnDef.{ColumnDef}

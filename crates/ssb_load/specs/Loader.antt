@@ -12,9 +12,9 @@ use Rattle.ssb_load.specs.Records.{Fields, field}
 use Rattle.ssb_load.specs.Rules.{any_field, cell_in, columns_of, has_key, is_bad_number, is_missing, is_too_long, key_of}
 use Rattle.ssb_load.specs.Tables.{repeats}
 use Rattle.ssb_load.specs.Width.{has_width}
-use Rattle.ssb_load.specs.declared.rule.Rule.{Rule}
-use Rattle.ssb_load.specs.declared.rule.Test.{Test}
-use Rattle.ssb_load.specs.declared.rule.Test.TheVariants as tests
+use Rattle.ssb_terms.specs.declared.rule.Rule.{Rule}
+use Rattle.ssb_load.specs.declared.value.Test.{Test}
+use Rattle.ssb_load.specs.declared.value.Test.TheVariants as tests
 use Rattle.ssb_load.specs.declared.fault.RecordFault.{RecordFault}
 use Rattle.ssb_load.specs.declared.fault.RecordFault.TheVariants as faults
 use Rattle.ssb_load.specs.declared.fault.LoadFault.{LoadFault}

@@ -4,11 +4,11 @@ use Rattle.std.specs.Prelude.{◌≡◌, ◌<◌, ◌++◌, ℕ, List, [], slice
 use Rattle.ssb_cells.specs.Cell.{Filled}
 use Rattle.ssb_load.specs.CutShort.{IsCutShort, IsGoodBefore, IfRead}
 use Rattle.ssb_load.specs.Giving.{given_since}
-use Rattle.ssb_load.specs.Lawful.{IsLawful}
+use Rattle.ssb_cells.specs.Lawful.{IsLawful}
 use Rattle.ssb_load.specs.Records.{Fields, records_of}
 use Rattle.ssb_load.specs.Shapes.{TableShape, rules_of}
 use Rattle.ssb_load.specs.Tables.{first_fault, table_of}
-use Rattle.ssb_load.specs.declared.rule.Rule.{Rule}
+use Rattle.ssb_terms.specs.declared.rule.Rule.{Rule}
 use Rattle.ssb_load.specs.declared.fault.LoadFault.{LoadFault}
 use Rattle.ssb_load.specs.declared.fault.LoadFault.TheVariants as load
 

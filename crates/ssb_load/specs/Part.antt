@@ -25,6 +25,10 @@ pub record IsPart (p : Part) (bytes : List ℕ) : Type 0 where
   pub tail : IsPartOfLine p.tail.items
   pub head : IsUncut p lines ⊎ ((p.is_cut ≡ true) × EndsInLf p.head.items)
 
+-- some bytes make the part, and no line is begun in its tail
+abbrev pub IsAtLine : Part → Type 0
+IsAtLine p = (bytes : List ℕ) × (p.tail.items ≡ []) × IsPart p bytes
+
 -- a record of the lines behind the head was refused, whatever comes behind these lines
 pub record IsRefused (p : Part) (bytes : List ℕ) (e : LoadFault) : Type 0 where
   pub lines : List ℕ

@@ -4,13 +4,12 @@ use Rattle.std.specs.Prelude.{◌+◌, ◌∷◌, ◌==◌, ◌&&◌, ◌||◌, 
 use Rattle.std.specs.List.{list_any}
 use Rattle.std.specs.Ordering.{int_eq}
 use Rattle.ssb_cells.specs.Cell.{Cell, Filled, null, number, text}
-use Rattle.ssb_cells.specs.declared.value.ColType.{ColType}
-use Rattle.ssb_cells.specs.declared.value.ColType.TheVariants as kinds
+use Rattle.ssb_terms.specs.declared.rule.ColType.{ColType}
+use Rattle.ssb_terms.specs.declared.rule.ColType.TheVariants as kinds
 use Rattle.ssb_load.specs.Records.{Fields, field}
 use Rattle.ssb_load.specs.Numbers.{number_of}
-use Rattle.ssb_load.specs.declared.rule.Role.{Role}
-use Rattle.ssb_load.specs.declared.rule.Role.TheVariants as roles
-use Rattle.ssb_load.specs.declared.rule.Rule.{Rule}
+use Rattle.ssb_terms.specs.Roles.{needs_value, key_place}
+use Rattle.ssb_terms.specs.declared.rule.Rule.{Rule}
 
 abbrev pub is_empty : List ℕ → Bool
 is_empty bytes = length bytes == 0
@@ -18,16 +17,6 @@ is_empty bytes = length bytes == 0
 abbrev pub is_int : ColType → Bool
 is_int kinds.Int = true
 is_int kinds.Text = false
-
-abbrev pub needs_value : Role → Bool
-needs_value roles.Key = true
-needs_value roles.Need = true
-needs_value roles.Nullable = false
-
-abbrev pub is_key : Role → Bool
-is_key roles.Key = true
-is_key roles.Need = false
-is_key roles.Nullable = false
 
 -- a field of an `int` column that is not empty and spells no number of 64 bits
 abbrev pub is_bad_number : Rule → List ℕ → Bool
@@ -49,14 +38,6 @@ any_from t at (p ∷ ps) r = t p (field r at) || any_from t (at + 1) ps r
 -- some field of a record passes a test under its rule
 abbrev pub any_field : (Rule → List ℕ → Bool) → List Rule → Fields → Bool
 any_field t rules r = any_from t 0 rules r
-
--- the place of the first key
-abbrev pub key_from : ℕ → List Rule → Option ℕ
-key_from at [] = None
-key_from at (p ∷ ps) = if is_key p.role then Some at else key_from (at + 1) ps
-
-abbrev pub key_place : List Rule → Option ℕ
-key_place rules = key_from 0 rules
 
 abbrev pub number_at : Option ℕ → Fields → Option ℤ
 number_at None r = None

@@ -1,16 +1,16 @@
 -- Loading the tables of a catalog, each of what its source gives: as far as it went.
 -- Source: own.
-use Rattle.std.specs.Prelude.{◌+◌, ◌∷◌, ℕ, List, [], map, Result, Ok, Err, Vec}
+use Rattle.std.specs.Prelude.{◌≡◌, ◌+◌, ◌++◌, ◌<◌, ◌≤◌, ◌∷◌, ℕ, List, [], drop, length, map, take, Result, Ok, Err, Vec}
 use Rattle.std.specs.declared.alloc.Global.{Global}
 use Rattle.ssb_load.specs.CutShort.{IfRead}
 use Rattle.ssb_load.specs.Files.{Columns, FailedAt, GrewEach, given_each}
-use Rattle.ssb_load.specs.Lawful.{most_rows}
+use Rattle.ssb_cells.specs.Lawful.{most_rows}
 use Rattle.ssb_load.specs.Loading.{LoadsFrom}
 use Rattle.ssb_load.specs.Shapes.{TableShape, rules_of}
 use Rattle.ssb_load.specs.declared.fault.FileFault.{FileFault}
 use Rattle.ssb_load.specs.declared.fault.LoadFault.{LoadFault}
 use Rattle.ssb_load.specs.declared.fault.LoadFault.TheVariants as load
-use Rattle.ssb_load.specs.declared.rule.Rule.{Rule}
+use Rattle.ssb_terms.specs.declared.rule.Rule.{Rule}
 use Rattle.ssb_load.specs.declared.source.Source.{Ghosts as Source}
 
 -- a file's source was loaded, from its state before to that after
@@ -37,6 +37,21 @@ pub data Stops {S : Type 0} (source : Source S) : ℕ → List TableShape → Li
 abbrev pub Ran : {S : Type 0} → Source S → ℕ → List TableShape → List S → List S → Result (Vec Columns Global) FileFault → Type 0
 Ran source n shapes before after (Ok tables) = AreLoaded source shapes before after tables.items
 Ran source n shapes before after (Err e) = Stops source n shapes before after e.table e.fault
+
+-- from the n-th on a catalog has a table for each of these sources, of which there is one at least, and it has no more than 16
+abbrev pub HaveTables : {S : Type 0} → List TableShape → ℕ → List S → Type 0
+HaveTables catalog n sources = (0 < length sources) × (n + length sources ≤ length catalog) × (length catalog ≤ 16)
+
+-- what loading tables of a catalog from the n-th on answers, one for each source
+abbrev pub RanFrom : {S : Type 0} → Source S → List TableShape → ℕ → List S → List S → Result (Vec Columns Global) FileFault → Type 0
+RanFrom source catalog n before after r = Ran source n (take (length before) (drop n catalog)) before after r
+
+-- the answers of tables and of those behind them as one: the first fault of both, or all tables in their order, but for memory
+abbrev pub ArePutTogether : Result (Vec Columns Global) FileFault → Result (Vec Columns Global) FileFault → Result (Vec Columns Global) FileFault → Type 0
+ArePutTogether (Err e) back r = r ≡ Err e
+ArePutTogether (Ok front) (Err e) r = r ≡ Err e
+ArePutTogether (Ok front) (Ok back) (Ok tables) = tables.items ≡ front.items ++ back.items
+ArePutTogether (Ok front) (Ok back) (Err e) = e.fault ≡ load.Memory
 
 -- a failed read is told of a source only where it failed, behind tables and good records
 abbrev pub FailedRead : {S : Type 0} → Source S → List TableShape → List S → List S → FileFault → Type 0

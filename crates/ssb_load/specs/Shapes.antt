@@ -2,7 +2,7 @@
 -- Source: own.
 use Rattle.std.specs.Prelude.{ℕ, List, map}
 use Rattle.ssb_load.specs.declared.catalog.ColumnDef.{ColumnDef}
-use Rattle.ssb_load.specs.declared.rule.Rule.{Rule}
+use Rattle.ssb_terms.specs.declared.rule.Rule.{Rule}
 
 pub record TableShape : Type 0 where
   pub name : List ℕ

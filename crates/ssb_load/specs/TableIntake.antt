@@ -4,7 +4,7 @@ use Rattle.std.specs.Prelude.{◌≡◌, ◌≤◌, ◌<◌, ◌^◌, List, [], 
 use Rattle.ssb_load.specs.Intake.{Subject, table}
 use Rattle.ssb_load.specs.Loader.{Holds}
 use Rattle.ssb_load.specs.Records.{Fields}
-use Rattle.ssb_load.specs.Rules.{key_place}
+use Rattle.ssb_terms.specs.Roles.{key_place}
 use Rattle.ssb_load.specs.Tables.{first_fault}
 use Rattle.ssb_load.specs.declared.table_intake.TableIntake.{TableIntake}
 

@@ -1,10 +1,11 @@
-// Loading the tables of a catalog, each of several sources.
+// Loading the tables of a catalog, each of several sources, at the same time.
 
-ghost use Rattle.std.specs.Prelude.{◌≡◌, IfErr, IfOk, List, OnOk, Some, length, map};
+ghost use Rattle.std.specs.Prelude.{◌≡◌, ◌<◌, ◌∷◌, [], IfErr, IfOk, List, OnOk, Some, length, map};
+ghost use Rattle.std.specs.Thread.{IsSend, IsSync};
 ghost use Rattle.ssb_load.specs.Catalog.{IsCatalog};
 ghost use Rattle.ssb_load.specs.Files.{AreLawful, Bytes, GrewEach, LoadsAll, RoseEach, given_each};
 ghost use Rattle.ssb_load.specs.JoinedSource.{joined_source};
-ghost use Rattle.ssb_load.specs.Runs.{FailedRead};
+ghost use Rattle.ssb_load.specs.Runs.{ArePutTogether, FailedRead, HaveTables, RanFrom};
 
 use crate::catalog::Catalog;
 use crate::fault::{FileFault, LoadFault};
@@ -13,10 +14,119 @@ use crate::read_joined::load_with_in_pieces;
 use crate::source::Source;
 use ssb_cells::Table;
 use std::alloc::Global;
-use std::thread::Threads;
+use std::thread::{Threads, join_mut};
 
-/// [`load_all`](crate::load_all) over threads: a table without a key is read by a thread for each of
-/// its sources, as [`load_with`](crate::load_with) does.
+// How tables are loaded: with which allocator, and in pieces of how many bytes. It stands behind one
+// reference, since the borrow checker does not cover two closures that share a value.
+#[derive(Clone, Copy)]
+struct Manner {
+    alloc: Global,
+    piece_size: usize,
+}
+
+// The tables of one part of a catalog before those of the next, which begins with this number, or the
+// first fault of both.
+fn put_together(
+    number: u32,
+    front: Result<Vec<Table>, FileFault>,
+    back: Result<Vec<Table>, FileFault>,
+) -> Result<Vec<Table>, FileFault>
+    ensures { ArePutTogether front back result }
+{
+    let mut tables = front?;
+    let mut later = back?;
+    match tables.append(&mut later) {
+        Ok(()) => Ok(tables),
+        Err(_) => Err(FileFault {
+            table: number,
+            fault: LoadFault::Memory,
+        }),
+    }
+}
+
+// The table of this number alone.
+fn load_one<S: Source + Send, R: Threads + Sync>(
+    rt: &R,
+    manner: &Manner,
+    catalog: &Catalog,
+    number: u32,
+    source: &mut Joined<S>,
+) -> Result<Vec<Table>, FileFault>
+    requires { number < length catalog.now }
+    ensures { RanFrom joined_source catalog.now number (source.old ∷ []) (source.new ∷ []) result }
+{
+    let alloc = manner.alloc;
+    let size = manner.piece_size;
+    match load_with_in_pieces(rt, alloc, catalog, number as usize, u32::MAX, source, size) {
+        Ok(table) => {
+            let mut tables = Vec::new(alloc);
+            match tables.push(table) {
+                Ok(()) => Ok(tables),
+                Err(_) => Err(FileFault {
+                    table: number,
+                    fault: LoadFault::Memory,
+                }),
+            }
+        }
+        Err(fault) => Err(FileFault {
+            table: number,
+            fault,
+        }),
+    }
+}
+
+// The tables of two parts of a catalog, at the same time: the first part by a thread of its own, where
+// one can be made.
+#[cycle(tables)]
+fn load_both<S: Source + Send, R: Threads + Sync>(
+    rt: &R,
+    manner: &Manner,
+    catalog: &Catalog,
+    number: u32,
+    front: &mut [Joined<S>],
+    middle: u32,
+    back: &mut [Joined<S>],
+) -> (Result<Vec<Table>, FileFault>, Result<Vec<Table>, FileFault>)
+    requires front { HaveTables catalog.now number front.old }
+    requires back { HaveTables catalog.now middle back.old }
+    ensures front { RanFrom joined_source catalog.now number front.old front.new result.0 }
+    ensures back { RanFrom joined_source catalog.now middle back.old back.new result.1 }
+{
+    let mut first = || -> Result<Vec<Table>, FileFault>
+        requires { IsSync R.row × IsSend S.row × HaveTables catalog.now number front.now }
+        ensures { RanFrom joined_source catalog.entry.now number front.entry.now front.exit.now result }
+    { load_tables(rt, manner, catalog, number, front) };
+    let mut second = || -> Result<Vec<Table>, FileFault>
+        requires { IsSync R.row × IsSend S.row × HaveTables catalog.now middle back.now }
+        ensures { RanFrom joined_source catalog.entry.now middle back.entry.now back.exit.now result }
+    { load_tables(rt, manner, catalog, middle, back) };
+    join_mut(rt, &mut first, &mut second)
+}
+
+// The tables from this number on, at the same time, each of the sources that are joined for it.
+#[cycle(tables)]
+fn load_tables<S: Source + Send, R: Threads + Sync>(
+    rt: &R,
+    manner: &Manner,
+    catalog: &Catalog,
+    number: u32,
+    sources: &mut [Joined<S>],
+) -> Result<Vec<Table>, FileFault>
+    requires { HaveTables catalog.now number sources.old }
+    ensures { RanFrom joined_source catalog.now number sources.old sources.new result }
+{
+    let half = sources.len() / 2;
+    if half == 0 {
+        return load_one(rt, manner, catalog, number, &mut sources[0]);
+    }
+    let middle = number + half as u32;
+    let (front, back) = sources.split_at_mut(half);
+    let (first, second) = load_both(rt, manner, catalog, number, front, middle, back);
+    put_together(middle, first, second)
+}
+
+/// [`load_all`](crate::load_all) over threads: the tables are loaded at the same time, and one without
+/// a key is read by a thread for each of its sources, as [`load_with`](crate::load_with) does.
 ///
 /// # Errors
 ///
@@ -37,32 +147,8 @@ pub fn load_all_with<S: Source + Send, R: Threads + Sync>(
     ensures lawful { IfOk result (λ tables. AreLawful catalog.now tables.items) }
     ensures catalog { OnOk result (IsCatalog catalog.now) }
 {
-    let mut tables = Vec::new(alloc);
-    for number in 0..catalog.tables().len() {
-        match load_with_in_pieces(
-            rt,
-            alloc,
-            catalog,
-            number,
-            u32::MAX,
-            &mut sources[number],
-            piece_size,
-        ) {
-            Ok(table) => {
-                let Ok(()) = tables.push(table) else {
-                    return Err(FileFault {
-                        table: number as u32,
-                        fault: LoadFault::Memory,
-                    });
-                };
-            }
-            Err(fault) => {
-                return Err(FileFault {
-                    table: number as u32,
-                    fault,
-                });
-            }
-        }
-    }
-    Ok(tables)
+    // A catalog has 1 to 16 tables.
+    let _lawful = catalog.tables();
+    let manner = Manner { alloc, piece_size };
+    load_tables(rt, &manner, catalog, 0, sources)
 }

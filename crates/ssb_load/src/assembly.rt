@@ -1,12 +1,13 @@
 // Parts of a table, put together in their order.
 
 ghost use Rattle.std.specs.Prelude.{◌≡◌, ◌≢◌, ◌++◌, ◌+◌, ◌<◌, ◌≤◌, ◌∷◌, [], List, ℕ, IfErr, IfOk, OnOk, OnErr, None, map, true};
-ghost use Rattle.ssb_load.specs.Assembly.{AreParts, Halts, IsAssembled, IsHeld, IsWhole, RefusesAll, all_in, lead, subject_in};
+ghost use Rattle.ssb_load.specs.Assembly.{AreParts, Halts, IsAssembled, IsHeld, IsWhole, RefusesAll, RefusesBehind, RefusesRows, all_in, lead, subject_in};
 ghost use Rattle.ssb_load.specs.Intake.{Refuses, Subject, table};
 ghost use Rattle.ssb_load.specs.Lines.{EndsInLf};
 ghost use Rattle.ssb_load.specs.Part.{HaltsAt, IsBrokenOff, IsPart, IsRefused};
 ghost use Rattle.ssb_load.specs.Records.{Fields, records_of};
-ghost use Rattle.ssb_load.specs.Rules.{columns_of, key_place};
+ghost use Rattle.ssb_terms.specs.Roles.{key_place};
+ghost use Rattle.ssb_load.specs.Rules.{columns_of};
 ghost use Rattle.ssb_load.specs.TableIntake.{IsLoading, subject_of};
 ghost use Rattle.ssb_load.specs.Tables.{first_fault};
 ghost use Rattle.ssb_load.specs.declared.fault.LoadFault.TheVariants as load;
@@ -16,10 +17,10 @@ use crate::fault::{LoadFault, RecordFault};
 use crate::intake::take_text;
 use crate::moved::moved;
 use crate::part::{Part, keep};
-use crate::rule::Rule;
 use crate::table_intake::TableIntake;
 use csv::ByteRecord;
 use ssb_cells::Column;
+use ssb_terms::Rule;
 use std::alloc::{AllocError, Global};
 use std::mem;
 
@@ -91,7 +92,7 @@ impl Assembly {
         ensures subject { subject_in self.new ≡ subject_in self.old }
         ensures pending { self.new.pending ≡ self.old.pending }
         ensures taken { OnOk result ((lists : List (List Fields)) (latest : List Fields) → IsHeld self.old lists latest → IsHeld self.new lists (latest ++ records_of (lead self.old.is_cut ++ self.old.pending.items))) }
-        ensures refused { IfErr result (λ e. (lists : List (List Fields)) (latest rest : List Fields) → IsHeld self.old lists latest → Refuses (subject_in self.old) (all_in lists ++ (latest ++ (records_of (lead self.old.is_cut ++ self.old.pending.items) ++ rest))) e) }
+        ensures refused { IfErr result (RefusesBehind self.old (records_of (lead self.old.is_cut ++ self.old.pending.items))) }
     {
         let before = lead(self.is_cut);
         let mut row = ByteRecord::new(alloc);
@@ -125,7 +126,7 @@ impl Assembly {
         ensures subject { subject_in self.new ≡ subject_in self.old }
         ensures pending { (self.new.pending ≡ self.old.pending) × (self.new.is_cut ≡ self.old.is_cut) }
         ensures taken { OnOk result ((lists : List (List Fields)) (latest good : List Fields) → IsHeld self.old lists latest → IsLoading rows good → IsHeld self.new (lists ++ latest ∷ []) good) }
-        ensures refused { IfErr result (λ e. (lists : List (List Fields)) (latest good rest : List Fields) → IsHeld self.old lists latest → IsLoading rows good → Refuses (subject_in self.old) (all_in lists ++ (latest ++ (good ++ rest))) e) }
+        ensures refused { IfErr result (RefusesRows self.old rows) }
     {
         let last = mem::replace(&mut self.last, rows);
         self.earlier += last.accepted;

@@ -1,7 +1,6 @@
 // The tables of the benchmark, a line for each column.
 
-use crate::rule::{Role, Rule};
-use ssb_cells::ColType;
+use ssb_terms::{ColType, Role, Rule};
 
 // A column: its name, and its type and role.
 #[derive(Clone, Copy)]

@@ -2,13 +2,13 @@
 
 ghost use Rattle.std.specs.Prelude.{◌≡◌, IfOk, map, true};
 ghost use Rattle.std.specs.List.{list_all};
-ghost use Rattle.ssb_cells.specs.Names.{is_name};
+ghost use Rattle.ssb_terms.specs.Names.{is_name};
 ghost use Rattle.ssb_load.specs.BuiltIn.{ssb_tables};
 ghost use Rattle.ssb_load.specs.Listing.{column_of, is_named, table_named};
 
 use crate::benchmark::{CUSTOMER, DATE, LINEORDER, Line, PART, SUPPLIER};
 use crate::catalog::{Catalog, ColumnDef, TableDef};
-use ssb_cells::Name;
+use ssb_terms::Name;
 use std::alloc::{AllocError, Global};
 
 // The column that a line says.
@@ -44,7 +44,7 @@ fn table(alloc: Global, name: &str, lines: &[Line]) -> Result<TableDef, AllocErr
     Ok(TableDef::new(name, columns(alloc, lines)?))
 }
 
-#[tactic(auto, unfolding(ssb_cells::specs::Keywords::keyword_of))]
+#[tactic(auto, unfolding(ssb_terms::specs::Keywords::keyword_of))]
 fn tables(alloc: Global) -> Result<Vec<TableDef>, AllocError>
     ensures { IfOk result (λ ts. ts.items ≡ ssb_tables) }
 {

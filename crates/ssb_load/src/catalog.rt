@@ -3,8 +3,7 @@
 ghost use Rattle.std.specs.Prelude.{◌≡◌, ◌++◌, ◌∷◌, IfOk, OnOk, length, List};
 ghost use Rattle.ssb_load.specs.Catalog.{is_column_named, is_table_named};
 
-use crate::rule::Rule;
-use ssb_cells::Name;
+use ssb_terms::{Name, Rule};
 use std::alloc::AllocError;
 use std::marker::Model;
 
@@ -37,9 +36,16 @@ impl Model for TableDef {
 /// There are 1 to 16 of them, with different names, and 1 to 64 columns in each, with different
 /// names, each of at most 128 bytes. A table has at most one key, and it is `int`. One table has none:
 /// the fact table.
-#[derive(Drop)]
 pub struct Catalog {
     tables: Vec<TableDef>,
+}
+
+// Written out, so that the crates above need no proof of how its parts are let go.
+impl Drop for Catalog {
+    fn drop(self) {
+        let Catalog { tables } = self;
+        drop(tables);
+    }
 }
 
 impl Model for Catalog {

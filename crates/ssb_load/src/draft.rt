@@ -10,7 +10,7 @@ use crate::catalog::{ColumnDef, TableDef};
 use crate::entry::{Entry, read_entry};
 use crate::fault::{CatalogFault, LoadFault};
 use csv::ByteRecord;
-use ssb_cells::{ColType, Name};
+use ssb_terms::{ColType, Name};
 use std::alloc::{AllocError, Global};
 
 const MAX_TABLES: usize = 16;

@@ -8,9 +8,8 @@ ghost use Rattle.ssb_load.specs.Drafting.{Refuses};
 use crate::catalog::ColumnDef;
 use crate::fault::{CatalogFault, LoadFault};
 use crate::field::{field_bytes, is_wide};
-use crate::rule::{Role, Rule};
 use csv::ByteRecord;
-use ssb_cells::{ColType, Name, is_name};
+use ssb_terms::{ColType, Name, Role, Rule, is_name};
 use std::alloc::Global;
 
 const MAX_NAME: usize = 128;

@@ -17,19 +17,31 @@ impl<A> Model for History<A> {
     ghost also_owns = { λ _. ftrue };
 }
 
+// It owns nothing.
+unsafe impl<A: Send> Send for History<A> {}
+
 impl<A> History<A> {
+    // The history that its caller's proof names, by what it passes. It has no bytes, so the code is the
+    // same for each.
+    fn told_by<T, U>(_first: &T, _second: &U) -> History<A>
+        ghost told: { List A }
+        ensures { result.items ≡ told }
+    {
+        History { of: PhantomData }
+    }
+
     /// The history of nothing.
     pub fn new() -> History<A>
         ensures { result.items ≡ [] }
     {
-        History { of: PhantomData }
+        History::told_by(&(), &())
     }
 
     /// The history that has one value more at its end.
     pub fn and(&self, item: &A) -> History<A>
         ensures { result.items ≡ self.now.items ++ item.now ∷ [] }
     {
-        History { of: PhantomData }
+        History::told_by(self, item)
     }
 }
 

@@ -1,6 +1,6 @@
 // Sources one after the other as one.
 
-ghost use Rattle.std.specs.Prelude.{◌≡◌, ◌++◌, ◌<◌, [], false, length, map, IfErr, IfOk, IsTrue, OnOk};
+ghost use Rattle.std.specs.Prelude.{◌≡◌, ◌↔◌, ◌++◌, ◌<◌, [], false, length, map, IfErr, IfOk, IsTrue, OnOk};
 ghost use Rattle.std.specs.List.{All};
 ghost use Rattle.ssb_load.specs.Assembly.{IsAssembled, subject_in};
 ghost use Rattle.ssb_load.specs.CutShort.{IfRead};
@@ -21,7 +21,6 @@ use std::thread::Threads;
 /// Sources one after the other as one source: it gives what they give, in their order, and meets its
 /// end where the last of them does. After a failed read each further read fails, so that no source
 /// that failed, or was left in its middle, is passed over.
-#[derive(Drop)]
 pub struct Joined<S: Source> {
     lanes: Vec<Lane<S>>,
     // The lane that is read now, or their number once all have met their ends.
@@ -33,6 +32,21 @@ pub struct Joined<S: Source> {
     failed: History<()>,
     ended: History<()>,
     ghost joined: { IsJoined S.given S.ends (sources_in lanes.items) at begun stopped (length failed.items) (length ended.items) },
+}
+
+// Written out, so that the crates above need no proof of how its parts are let go.
+impl<S: Source + Drop> Drop for Joined<S> {
+    fn drop(self) {
+        let Joined {
+            lanes,
+            at: _,
+            begun: _,
+            stopped: _,
+            failed: _,
+            ended: _,
+        } = self;
+        drop(lanes);
+    }
 }
 
 // A lane for each source, in their order.
@@ -83,7 +97,7 @@ fn count_failure(failed: &mut History<()>, fault: LoadFault)
 impl<S: Source + Send> Joined<S> {
     // Whether there are several sources, and nothing was read of them.
     pub(crate) fn is_divided(&self) -> bool
-        ensures { IsTrue result → self.now.begun ≡ false }
+        ensures { IsTrue result ↔ ((self.now.begun ≡ false) × (1 < length self.now.lanes.items)) }
     {
         !self.begun && self.lanes.len() > 1
     }

@@ -6,8 +6,8 @@ ghost use Rattle.ssb_load.specs.Joining.{AreColumnsOf, FitBehind, behind_each};
 ghost use Rattle.ssb_load.specs.Records.{Fields};
 ghost use Rattle.ssb_load.specs.Rules.{columns_of};
 
-use crate::rule::Rule;
 use ssb_cells::{Column, ColumnParts, Table};
+use ssb_terms::Rule;
 use std::alloc::{AllocError, Global};
 use std::thread;
 use std::thread::Threads;

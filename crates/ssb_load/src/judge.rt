@@ -4,7 +4,8 @@ ghost use Rattle.std.specs.Prelude.{◌≡◌, ◌≢◌, ◌+◌, ◌^◌, ℤ,
 ghost use Rattle.std.specs.List.{list_all};
 ghost use Rattle.std.specs.Str.{is_utf8};
 ghost use Rattle.csv.specs.Records.{fields_of};
-ghost use Rattle.ssb_load.specs.Rules.{any_field, key_place, number_at};
+ghost use Rattle.ssb_terms.specs.Roles.{key_place};
+ghost use Rattle.ssb_load.specs.Rules.{any_field, number_at};
 ghost use Rattle.ssb_load.specs.Tables.{repeats};
 ghost use Rattle.ssb_load.specs.Loader.{fault_by};
 ghost use Rattle.ssb_load.specs.Loader.{fails, seen_in, IsFaultBy};
@@ -12,9 +13,9 @@ ghost use Rattle.ssb_load.specs.Loader.{fails, seen_in, IsFaultBy};
 use crate::fault::{LoadFault, RecordFault};
 use crate::field::{field_text, is_all_text, is_wide};
 use crate::number::number;
-use crate::rule::{Rule, Test};
-use crate::value::fails_test;
+use crate::value::{Test, fails_test};
 use csv::ByteRecord;
+use ssb_terms::Rule;
 use std::collections::HashSet;
 
 // Whether some field fails a test of its rule.

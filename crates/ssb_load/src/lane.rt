@@ -8,8 +8,8 @@ ghost use Rattle.ssb_load.specs.Lane.{IsLaneRead};
 
 use crate::fault::LoadFault;
 use crate::part::Part;
-use crate::rule::Rule;
 use crate::source::Source;
+use ssb_terms::Rule;
 use std::alloc::Global;
 use std::thread;
 use std::thread::Threads;

@@ -5,7 +5,8 @@ ghost use Rattle.std.specs.List.{list_all};
 ghost use Rattle.std.specs.Str.{is_utf8};
 ghost use Rattle.csv.specs.Records.{fields_of};
 ghost use Rattle.ssb_cells.specs.Tables.{AreLong, rows_in};
-ghost use Rattle.ssb_load.specs.Rules.{any_from, key_place, key_of, columns_of};
+ghost use Rattle.ssb_terms.specs.Roles.{key_place};
+ghost use Rattle.ssb_load.specs.Rules.{any_from, key_of, columns_of};
 ghost use Rattle.ssb_load.specs.Tables.{repeats};
 ghost use Rattle.ssb_load.specs.Loader.{seen_in, AddsKey, AreSized, IsFaultBy, fails_some, fault_by, is_place, number_told, with_record};
 
@@ -13,10 +14,10 @@ use crate::fault::LoadFault;
 use crate::field::{field_text, is_all_text, is_wide};
 use crate::judge::refuse;
 use crate::number::number;
-use crate::rule::Rule;
 use crate::value::value_of;
 use csv::ByteRecord;
 use ssb_cells::{Column, Table, Value};
+use ssb_terms::Rule;
 use std::alloc::{AllocError, Global};
 use std::collections::HashSet;
 

@@ -7,11 +7,11 @@ ghost use Rattle.ssb_load.specs.declared.fault.LoadFault.TheVariants as load;
 use crate::fault::LoadFault;
 use crate::intake::take_text;
 use crate::pieces::{Pieces, split_lines};
-use crate::rule::Rule;
 use crate::source::Source;
 use crate::table_intake::TableIntake;
 use csv::ByteRecord;
 use memchr::memchr;
+use ssb_terms::Rule;
 use std::alloc::{AllocError, Global};
 
 const LF: u8 = b'\n';
@@ -54,7 +54,7 @@ impl Part {
     ghost use Rattle.ssb_load.specs.CutShort.{IfRead};
     ghost use Rattle.ssb_load.specs.Giving.{given_since};
     ghost use Rattle.ssb_load.specs.Intake.{table};
-    ghost use Rattle.ssb_load.specs.Part.{HaltsAt, IsPart, RefusesPart};
+    ghost use Rattle.ssb_load.specs.Part.{HaltsAt, IsAtLine, IsPart, RefusesPart};
     ghost use Rattle.ssb_load.specs.TableIntake.{subject_of};
 
     // Of no byte yet.
@@ -80,8 +80,7 @@ impl Part {
         row: &mut ByteRecord,
     ) -> Result<(), LoadFault>
         requires cut { self.old.is_cut ≡ true }
-        requires tail { self.old.tail.items ≡ [] }
-        requires part { (done : List ℕ) × IsPart self.old done }
+        requires line { IsAtLine self.old }
         ensures subject { subject_of self.new.rows ≡ subject_of self.old.rows }
         ensures taken { OnOk result ((done : List ℕ) → IsPart self.old done → IsPart self.new (done ++ text.now)) }
         ensures lines { OnOk result (AreLines text.now → self.new.tail.items ≡ []) }
@@ -99,8 +98,7 @@ impl Part {
         piece: &[u8],
         row: &mut ByteRecord,
     ) -> Result<(), LoadFault>
-        requires tail { self.old.tail.items ≡ [] }
-        requires part { (done : List ℕ) × IsPart self.old done }
+        requires { IsAtLine self.old }
         ensures subject { subject_of self.new.rows ≡ subject_of self.old.rows }
         ensures taken { OnOk result ((done : List ℕ) → IsPart self.old done → IsPart self.new (done ++ piece.now)) }
         ensures lines { OnOk result (EndsInLf piece.now → self.new.tail.items ≡ []) }

@@ -1,7 +1,7 @@
 // Reading a table, from what a source gives or from a reader.
 
 ghost use Rattle.std.specs.Prelude.{◌≡◌, ◌<◌, ℕ, List, IfSome, IfOk, IfErr, length, map};
-ghost use Rattle.ssb_load.specs.Lawful.{HasOneKey, IsLawful};
+ghost use Rattle.ssb_cells.specs.Lawful.{HasOneKey, IsLawful};
 ghost use Rattle.ssb_load.specs.Loading.{IsTableFault, Loads, LoadsFrom, rules_at};
 ghost use Rattle.ssb_load.specs.Records.{records_of};
 
@@ -9,10 +9,10 @@ use crate::catalog::{Catalog, ColumnDef};
 use crate::fault::LoadFault;
 use crate::intake::take_all;
 use crate::reader::In;
-use crate::rule::Rule;
 use crate::source::Source;
 use crate::table_intake::TableIntake;
 use ssb_cells::{Memory, Table};
+use ssb_terms::Rule;
 use std::alloc::Global;
 use std::io::Read;
 

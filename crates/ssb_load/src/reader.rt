@@ -12,7 +12,6 @@ use std::snapshot::Snapshot;
 
 /// A reader, with the history of what it gave, of its failures and of its ends. The histories take no
 /// memory.
-#[derive(Drop)]
 pub struct In<R: Read> {
     reader: R,
     begun: Snapshot<R>,
@@ -21,6 +20,13 @@ pub struct In<R: Read> {
     ended: History<()>,
     // What the reader has left, where that is known.
     ghost known: { ∥ Leaves (R.remaining begun.value) (R.remaining reader) given.items (length ended.items) ∥₁ },
+}
+
+// Written out, so that the crates above need no proof of how its parts are let go.
+impl<R: Read + Drop> Drop for In<R> {
+    fn drop(self) {
+        drop(self.into_reader());
+    }
 }
 
 impl<R: Read> In<R> {

@@ -6,9 +6,9 @@ use crate::fault::LoadFault;
 use crate::intake::Intake;
 use crate::judge::key_place;
 use crate::loader::Loader;
-use crate::rule::Rule;
 use csv::ByteRecord;
 use ssb_cells::{Column, Table};
+use ssb_terms::Rule;
 use std::alloc::{AllocError, Global};
 
 // The rules, how many rows there may be, and the rows so far.
@@ -23,7 +23,7 @@ pub(crate) struct TableIntake {
 
 impl TableIntake {
     ghost use Rattle.ssb_load.specs.Intake.{Subject, table};
-    ghost use Rattle.ssb_load.specs.Lawful.{HasOneKey, IsLawful};
+    ghost use Rattle.ssb_cells.specs.Lawful.{HasOneKey, IsLawful};
     ghost use Rattle.ssb_load.specs.Records.{Fields};
     ghost use Rattle.ssb_load.specs.Rules.{columns_of};
     ghost use Rattle.ssb_load.specs.TableIntake.{IsLoading, subject_of};

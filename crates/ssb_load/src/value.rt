@@ -4,13 +4,24 @@ ghost use Rattle.std.specs.Prelude.{◌≡◌, ◌||◌, is_none, IfSome};
 ghost use Rattle.ssb_cells.specs.Values.{cell_of, IsOfType};
 ghost use Rattle.ssb_load.specs.Rules.{cell_in};
 ghost use Rattle.ssb_load.specs.Loader.{fails};
-ghost use Rattle.ssb_load.specs.declared.rule.Test.TheVariants as tests;
+ghost use Rattle.ssb_load.specs.declared.value.Test.TheVariants as tests;
 
 use crate::number::number;
-use crate::rule::{Rule, Test};
-use ssb_cells::{ColType, Value};
+use ssb_cells::Value;
+use ssb_terms::{ColType, Rule};
 
 const MAX_TEXT: usize = 4096;
+
+/// What a field under a rule may fail.
+#[derive(Clone, Copy, PartialEq, Eq)]
+pub(crate) enum Test {
+    /// To spell a number, where it is not empty and the type is that of numbers.
+    Number,
+    /// To be a value, where one is needed.
+    Value,
+    /// To be no longer than a text may be.
+    Length,
+}
 
 // The value of a field under its rule, where it fails no test.
 pub(crate) fn value_of<'a>(rule: Rule, text: &'a str) -> Option<Value<'a>>

@@ -23,34 +23,27 @@ use Rattle.ssb_cells.specs.contracts.numbers.Kept as Kept
 use Rattle.ssb_cells.specs.contracts.numbers.Numbers as Numbers
 use Rattle.ssb_cells.specs.contracts.numbers.Numbers.TheInside as InNumbers
 use Rattle.ssb_cells.specs.contracts.texts.Texts as Texts
-use Rattle.ssb_cells.specs.contracts.name.Name as Name
+use Rattle.ssb_terms.specs.contracts.name.Name as Name
 use Rattle.ssb_cells.specs.contracts.table.Table as Table
 use Rattle.ssb_cells.specs.contracts.table.Table.TheInside as InTable
-use Rattle.ssb_sql.specs.contracts.condition.Literal as Literal
-use Rattle.ssb_bind.specs.contracts.condition.BoundCondition as Condition
-use Rattle.ssb_bind.specs.contracts.condition.BoundCondition.TheKnot as condition_knot
-use Rattle.ssb_bind.specs.contracts.condition.BoundOperand as Operand
-use Rattle.ssb_bind.specs.contracts.expr.BoundExpr as Expr
-use Rattle.ssb_bind.specs.contracts.expr.BoundExpr.TheKnot as expr_knot
-use Rattle.ssb_bind.specs.contracts.query.Aggregate as Aggregate
-use Rattle.ssb_bind.specs.contracts.query.BoundItem as Item
-use Rattle.ssb_bind.specs.contracts.query.Query as Query
-use Rattle.ssb_bind.specs.contracts.query.Query.TheInside as InQuery
-use Rattle.ssb_bind.specs.contracts.query.QueryParts as QueryParts
-use Rattle.ssb_bind.specs.contracts.query.TableRules as TableRules
-use Rattle.ssb_bind.specs.declared.condition.BoundCondition.TheBlock.{member-BoundCondition}
-use Rattle.ssb_bind.specs.declared.expr.BoundExpr.TheBlock.{member-BoundExpr, member-BoundStep}
+use Rattle.ssb_terms.specs.contracts.literal.Literal as Literal
+use Rattle.ssb_query.specs.contracts.condition.BoundCondition as Condition
+use Rattle.ssb_query.specs.contracts.condition.BoundCondition.TheKnot as condition_knot
+use Rattle.ssb_query.specs.contracts.condition.BoundOperand as Operand
+use Rattle.ssb_query.specs.contracts.expr.BoundExpr as Expr
+use Rattle.ssb_query.specs.contracts.expr.BoundExpr.TheKnot as expr_knot
+use Rattle.ssb_query.specs.contracts.query.Aggregate as Aggregate
+use Rattle.ssb_query.specs.contracts.query.BoundItem as Item
+use Rattle.ssb_query.specs.contracts.query.Query as Query
+use Rattle.ssb_query.specs.contracts.query.Query.TheInside as InQuery
+use Rattle.ssb_query.specs.contracts.query.QueryParts as QueryParts
+use Rattle.ssb_query.specs.contracts.query.TableRules as TableRules
+use Rattle.ssb_query.specs.declared.condition.BoundCondition.TheBlock.{member-BoundCondition}
+use Rattle.ssb_query.specs.declared.expr.BoundExpr.TheBlock.{member-BoundExpr, member-BoundStep}
 use Rattle.ssb_pipeline.proofs.Crossing.{Crosses, as_row_crosses, declared_crosses, fix_crosses, variants_crosses, vec, view_crosses}
 
 packed : Crosses Packed.the_row
-packed =
-    variants_crosses Packed.enum (
-      ((search (as_row_send, crosses, sendable) depth 20, search (as_row_sync, crosses, sendable) depth 20), tt),
-      (
-        ((search (as_row_send, crosses, sendable) depth 20, search (as_row_sync, crosses, sendable) depth 20), tt),
-        (((search (as_row_send, crosses, sendable) depth 20, search (as_row_sync, crosses, sendable) depth 20), tt), tt),
-      ),
-    )
+packed = (search (crosses, sendable) depth 20, search (crosses, sendable) depth 20)
 
 codes : Crosses Codes.the_row
 codes = view_crosses InCodes.the_row _ _ _ _ (declared_crosses InCodes.the_type ((search (as_row_send, crosses, sendable) depth 20, search (as_row_sync, crosses, sendable) depth 20), (packed, tt)))
@@ -66,17 +59,7 @@ texts : Crosses Texts.the_row
 texts = declared_crosses Texts.the_type (dictionary, (codes, tt))
 
 kept : Crosses Kept.the_row
-kept =
-    variants_crosses Kept.enum (
-      ((search (as_row_send, crosses, sendable) depth 20, search (as_row_sync, crosses, sendable) depth 20), tt),
-      (
-        ((search (as_row_send, crosses, sendable) depth 20, search (as_row_sync, crosses, sendable) depth 20), tt),
-        (
-          ((search (as_row_send, crosses, sendable) depth 20, search (as_row_sync, crosses, sendable) depth 20), tt),
-          (((search (as_row_send, crosses, sendable) depth 20, search (as_row_sync, crosses, sendable) depth 20), tt), tt),
-        ),
-      ),
-    )
+kept = (search (crosses, sendable) depth 20, search (crosses, sendable) depth 20)
 
 numbers : Crosses Numbers.the_row
 numbers = view_crosses InNumbers.the_row _ _ _ _ (declared_crosses InNumbers.the_type ((search (as_row_send, crosses, sendable) depth 20, search (as_row_sync, crosses, sendable) depth 20), (kept, tt)))

@@ -133,19 +133,18 @@ takes pass v x items views (inr (inl f)) at =
     )
 takes pass v x items views (inr (inr o)) at = absurd (no_item x items o.empty)
 
-pub forks : (pass : ℕ) (v : Knows) → v.opened ≡ true → v.holds ≡ false → Forks Ruled pass v v (newcomer v)
-forks pass v opened free items views (inl n) at = absurd (true≢false (sym opened ∙ alone views pass v n.1 at))
-forks pass v opened free items views (inr (inl f)) at =
-    let vs = set_again views pass v at in
-    subst (λ l. Ruled items (l ++ newcomer v ∷ [])) (sym vs) (inr (inl (record {
+-- one more pass, which has seen as much as another
+more_keeps : (pass : ℕ) (v : Knows) (items : List PartState) (views : List Knows) → v.opened ≡ true → get_elem? views pass ≡ some v → Ruled items views → Ruled items (views ++ newcomer v ∷ [])
+more_keeps pass v items views opened at (inl n) = absurd (true≢false (sym opened ∙ alone views pass v n.1 at))
+more_keeps pass v items views opened at (inr (inl f)) =
+    inr (inl (record {
       part = f.part;
       only = f.only;
       lawful = f.lawful;
       passes = all_more (λ _ u. (u.holds ≡ false) × Follows f.part u.seen) views (newcomer v) f.passes (λ j. (refl, (f.passes pass v at).1));
-    })))
-forks pass v opened free items views (inr (inr o)) at =
-    let vs = set_again views pass v at in
-    subst (λ l. Ruled items (l ++ newcomer v ∷ [])) (sym vs) (inr (inr (record {
+    }))
+more_keeps pass v items views opened at (inr (inr o)) =
+    inr (inr (record {
       empty = o.empty;
       holder = o.holder;
       known = o.known;
@@ -154,4 +153,7 @@ forks pass v opened free items views (inr (inr o)) at =
       opened = o.opened;
       lawful = o.lawful;
       passes = all_more (λ j u. (u.holds ≡ true → j ≡ o.holder) × Follows o.known.seen u.seen) views (newcomer v) o.passes (λ j. ((λ h. absurd (true≢false (sym h))), (o.passes pass v at).1));
-    })))
+    }))
+
+pub forks : (pass : ℕ) (v : Knows) → v.opened ≡ true → v.holds ≡ false → Forks Ruled pass v v (newcomer v)
+forks pass v opened free items views rule at = subst (λ l. Ruled items (l ++ newcomer v ∷ [])) (sym (set_again views pass v at)) (more_keeps pass v items views opened at rule)

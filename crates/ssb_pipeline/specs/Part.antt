@@ -149,10 +149,13 @@ WholeSectionsStand = (p : PartState) → IsLawful p → IsWhole p → Stands p.g
 abbrev pub EveryRunIsLawful : Type 0
 EveryRunIsLawful = (es : List Event) (j : JobShape) (m s k : ℕ) (opening p : PartState) → IsOpening j m s k opening → IsLawful opening → Runs es opening p → IsLawful p
 
+-- a part's groups stand for the kept combinations of a whole section
+abbrev pub StandsForSection : JobShape → ℕ → ℕ → ℕ → PartState → Type 0
+StandsForSection j m s k p = Stands p.groups (seen_in j m (section (morsel_count (fact_rows j) m) k s))
+
 -- a law: where all of its section came back, its groups stand for the kept combinations of the whole section
 abbrev pub EveryRunStands : Type 0
-EveryRunStands = (es : List Event) (j : JobShape) (m s k : ℕ) (opening p : PartState) → IsOpening j m s k opening → IsLawful opening → Runs es opening p → IsWhole p
-    → Stands p.groups (seen_in j m (section (morsel_count (fact_rows j) m) k s))
+EveryRunStands = (es : List Event) (j : JobShape) (m s k : ℕ) (opening p : PartState) → IsOpening j m s k opening → IsLawful opening → Runs es opening p → IsWhole p → StandsForSection j m s k p
 
 -- a law: where the one section of a lawful part came back, its groups stand for all that WHERE keeps
 abbrev pub OneSectionIsAll : Type 0

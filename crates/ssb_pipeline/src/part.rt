@@ -19,7 +19,6 @@ use std::sync::Arc;
 
 /// One section of a job's morsels: which were handed out, which came back, and the groups over those.
 /// It hands out each of them once.
-#[derive(Drop)]
 pub struct Part {
     alloc: Global,
     job: Arc<Job, Global>,
@@ -34,6 +33,13 @@ pub struct Part {
     back: u32,
     gave_up: bool,
     groups: Groups,
+}
+
+// Written out, so that the crates above need no proof of how its parts are let go.
+impl Drop for Part {
+    fn drop(self) {
+        drop(self.into_groups());
+    }
 }
 
 impl Model for Part {
@@ -286,6 +292,21 @@ impl Part {
         ensures groups { result ≡ self.groups }
         ensures few { result.counted ≤ length (rows_in self.job self.size self.returned) }
     {
-        self.groups
+        let Part {
+            alloc: _,
+            job,
+            size: _,
+            section: _,
+            sections: _,
+            first: _,
+            next: _,
+            marks,
+            back: _,
+            gave_up: _,
+            groups,
+        } = self;
+        drop(job);
+        drop(marks);
+        groups
     }
 }

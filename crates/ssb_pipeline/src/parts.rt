@@ -19,13 +19,27 @@ use std::marker::Model;
 use std::sync::{Arc, Wait};
 
 /// The parts. Contracts see the names of their queues, and the job.
-#[derive(Drop)]
 pub struct Parts {
     alloc: Global,
     queues: Vec<Line>,
     sections: u32,
     job: Arc<Job, Global>,
     size: u32,
+}
+
+// Written out, so that the crates above need no proof of how its parts are let go.
+impl Drop for Parts {
+    fn drop(self) {
+        let Parts {
+            alloc: _,
+            queues,
+            sections: _,
+            job,
+            size: _,
+        } = self;
+        drop(queues);
+        drop(job);
+    }
 }
 
 impl Model for Parts {
@@ -46,9 +60,16 @@ impl Model for Parts {
 }
 
 /// One worker's knowledge of all parts.
-#[derive(Drop)]
 pub struct PartsPass {
     passes: Vec<LinePass>,
+}
+
+// Written out, so that the crates above need no proof of how its parts are let go.
+impl Drop for PartsPass {
+    fn drop(self) {
+        let PartsPass { passes } = self;
+        drop(passes);
+    }
 }
 
 impl Model for PartsPass {

@@ -1,16 +1,16 @@
 -- Each condition of the grammar is read.
 use Rattle.std.proofs.Common.{◌≡◌, ℕ, zero, suc, ◌≤◌, Bool, true, false, List, [], ◌∷◌, length, Option, Some, None, refl, arith}
-use Rattle.ssb_cells.specs.declared.value.Op.{Op}
-use Rattle.ssb_cells.specs.declared.value.Op.TheVariants as op
+use Rattle.ssb_terms.specs.declared.operator.Op.{Op}
+use Rattle.ssb_terms.specs.declared.operator.Op.TheVariants as op
 use Rattle.ssb_sql.specs.declared.token.Token.{Token}
 use Rattle.ssb_sql.specs.declared.token.Token.TheVariants.{Fixed, Number}
 use Rattle.ssb_sql.specs.declared.token.Sign.{Sign}
-use Rattle.ssb_cells.specs.declared.keyword.Keyword.{Keyword}
-use Rattle.ssb_cells.specs.declared.keyword.Keyword.TheVariants as words
+use Rattle.ssb_terms.specs.declared.keyword.Keyword.{Keyword}
+use Rattle.ssb_terms.specs.declared.keyword.Keyword.TheVariants as words
 use Rattle.ssb_sql.specs.declared.token.Mark.TheVariants as marks
 use Rattle.ssb_sql.specs.declared.token.Sign.TheVariants as s
 use Rattle.ssb_sql.specs.declared.expr.ColumnName.{ColumnName}
-use Rattle.ssb_sql.specs.declared.condition.Literal.{Literal}
+use Rattle.ssb_terms.specs.declared.literal.Literal.{Literal}
 use Rattle.ssb_sql.specs.declared.condition.Operand.{Operand}
 use Rattle.ssb_sql.specs.declared.condition.Operand.TheVariants as o
 use Rattle.ssb_sql.specs.declared.condition.Condition.{Condition}
@@ -31,7 +31,7 @@ use Rattle.ssb_sql.specs.Steps.{Parser, after, is_fixed, is_sign, chain_at, more
 use Rattle.ssb_sql.specs.ReadParts.{literal_at, operand_at}
 use Rattle.ssb_sql.specs.ReadConditions.{op_at, limits_at, members_at, among_at, between_of, in_of, range_at, nulled_at, null_at, compared_at, tail_at, bare_at, test_at, neg_at, conj_at, cond_at}
 use Rattle.ssb_sql.proofs.StepFacts.{Stops, stops, differs, sees}
-use Rattle.ssb_sql.proofs.Shapes.{Complete, GoesOn, turn_done, turn_goes, more_goes, closed_read, parens_read, open_read, list_read}
+use Rattle.ssb_sql.proofs.Shapes.{Complete, GoesOn, turn_done, sign_goes, more_goes, closed_read, parens_read, open_read, list_read}
 use Rattle.ssb_sql.proofs.PartFacts.{tame_literal, literal_read, operand_read}
 use Rattle.ssb_sql.proofs.Depth.{all_within}
 use Rattle.ssb_sql.proofs.ExpressionComplete.{column_begins}
@@ -210,10 +210,19 @@ ands_end : {from to : List Token} {xs : List Condition} → IsAnds IsTested from
 ands_end no_and sign p h = h
 ands_end (and {from = from} a b) sign p h = stops (s.Word words.And) sign from p
 
+ors_dot : {from to : List Token} {xs : List Condition} → IsOrs IsTested from to xs → EndsCond to → Stops (s.Mark marks.Dot) from
+ors_dot b z = ors_end b (s.Mark marks.Dot) (differs (s.Word words.Or) (s.Mark marks.Dot) refl) z.dot
+
+ors_and : {from to : List Token} {xs : List Condition} → IsOrs IsTested from to xs → EndsCond to → Stops (s.Word words.And) from
+ors_and b z = ors_end b (s.Word words.And) (differs (s.Word words.Or) (s.Word words.And) refl) z.and
+
+ands_dot : {from to : List Token} {xs : List Condition} → IsAnds IsTested from to xs → Stops (s.Mark marks.Dot) to → Stops (s.Mark marks.Dot) from
+ands_dot b n = ands_end b (s.Mark marks.Dot) (differs (s.Word words.And) (s.Mark marks.Dot) refl) n
+
 mutual
   pub cond_read : {from to : List Token} {x : Condition} → IsCond IsTested from to x → (d : ℕ) → HasRoom d from → EndsCond to → cond_at (suc d) from ≡ Some (x, to)
   cond_read (cond {from = from} {mid = mid} {to = to} {x = x} {xs = xs} a b) d h z =
-      disj_goes d from mid to x xs (conj_read a d h (ors_end b (s.Mark marks.Dot) (differs (s.Word words.Or) (s.Mark marks.Dot) refl) z.dot) (ors_end b (s.Word words.And) (differs (s.Word words.Or) (s.Word words.And) refl) z.and))
+      disj_goes d from mid to x xs (conj_read a d h (ors_dot b z) (ors_and b z))
       (more_goes (after (s.Word words.Or)) (conj_at (cond_at d)) (x ∷ []) xs mid to (ors_read b d (length mid) (conj_within a d h) (omega arith) z))
 
   pub ors_read : {from to : List Token} {xs : List Condition} → IsOrs IsTested from to xs → (d k : ℕ) → HasRoom d from → length from ≤ k → EndsCond to → chain_at (after (s.Word words.Or)) (conj_at (cond_at d)) k from ≡ Some (xs, to)
@@ -221,12 +230,11 @@ mutual
   ors_read (or a b) d zero h l z = absurd (omega arith)
   ors_read (or {from = from} {mid = mid} {to = to} {x = x} {xs = xs} a b) d (suc k) h l z =
       let lt = conj_shorter a in
-      turn_goes (after (s.Word words.Or)) (conj_at (cond_at d)) k (Fixed (s.Word words.Or) ∷ from) mid to from x xs (sees (s.Word words.Or) from)
-      (conj_read a d h (ors_end b (s.Mark marks.Dot) (differs (s.Word words.Or) (s.Mark marks.Dot) refl) z.dot) (ors_end b (s.Word words.And) (differs (s.Word words.Or) (s.Word words.And) refl) z.and)) (ors_read b d k (conj_within a d h) (omega arith) z)
+      sign_goes (s.Word words.Or) (conj_at (cond_at d)) k from mid to x xs (conj_read a d h (ors_dot b z) (ors_and b z)) (ors_read b d k (conj_within a d h) (omega arith) z)
 
   pub conj_read : {from to : List Token} {x : Condition} → IsConj IsTested from to x → (d : ℕ) → HasRoom d from → Stops (s.Mark marks.Dot) to → Stops (s.Word words.And) to → conj_at (cond_at d) from ≡ Some (x, to)
   conj_read (conj {from = from} {mid = mid} {to = to} {x = x} {xs = xs} a b) d h n m =
-      conj_goes (cond_at d) from mid to x xs (neg_read a d h (ands_end b (s.Mark marks.Dot) (differs (s.Word words.And) (s.Mark marks.Dot) refl) n))
+      conj_goes (cond_at d) from mid to x xs (neg_read a d h (ands_dot b n))
       (more_goes (after (s.Word words.And)) (neg_at (cond_at d)) (x ∷ []) xs mid to (ands_read b d (length mid) (neg_within a d h) (omega arith) n m))
 
   pub ands_read : {from to : List Token} {xs : List Condition} → IsAnds IsTested from to xs → (d k : ℕ) → HasRoom d from → length from ≤ k → Stops (s.Mark marks.Dot) to → Stops (s.Word words.And) to → chain_at (after (s.Word words.And)) (neg_at (cond_at d)) k from ≡ Some (xs, to)
@@ -234,8 +242,7 @@ mutual
   ands_read (and a b) d zero h l n m = absurd (omega arith)
   ands_read (and {from = from} {mid = mid} {to = to} {x = x} {xs = xs} a b) d (suc k) h l n m =
       let lt = neg_shorter a in
-      turn_goes (after (s.Word words.And)) (neg_at (cond_at d)) k (Fixed (s.Word words.And) ∷ from) mid to from x xs (sees (s.Word words.And) from)
-      (neg_read a d h (ands_end b (s.Mark marks.Dot) (differs (s.Word words.And) (s.Mark marks.Dot) refl) n)) (ands_read b d k (neg_within a d h) (omega arith) n m)
+      sign_goes (s.Word words.And) (neg_at (cond_at d)) k from mid to x xs (neg_read a d h (ands_dot b n)) (ands_read b d k (neg_within a d h) (omega arith) n m)
 
   pub neg_read : {from to : List Token} {x : Condition} → IsNeg IsTested from to x → (d : ℕ) → HasRoom d from → Stops (s.Mark marks.Dot) to → neg_at (cond_at d) from ≡ Some (x, to)
   neg_read (plain {from = from} {to = to} {x = x} a) d h n = plain_goes (cond_at d) from to x (test_begins a) (test_read a d h n)

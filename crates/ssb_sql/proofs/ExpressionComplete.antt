@@ -6,8 +6,8 @@ use Rattle.ssb_sql.specs.declared.token.Sign.{Sign}
 use Rattle.ssb_sql.specs.declared.token.Mark.TheVariants as marks
 use Rattle.ssb_sql.specs.declared.token.Sign.TheVariants as s
 use Rattle.ssb_sql.specs.declared.expr.ColumnName.{ColumnName}
-use Rattle.ssb_sql.specs.declared.expr.Adding.{Adding}
-use Rattle.ssb_sql.specs.declared.expr.Adding.TheVariants as a
+use Rattle.ssb_terms.specs.declared.operator.Adding.{Adding}
+use Rattle.ssb_terms.specs.declared.operator.Adding.TheVariants as a
 use Rattle.ssb_sql.specs.declared.expr.Step.{Step}
 use Rattle.ssb_sql.specs.declared.expr.Expr.{Expr}
 use Rattle.ssb_sql.specs.declared.expr.Expr.TheVariants as e
@@ -24,7 +24,7 @@ use Rattle.ssb_sql.specs.Room.{HasRoom}
 use Rattle.ssb_sql.specs.Steps.{Parser, after, is_fixed, is_sign, chain_at, more_at, chained_at}
 use Rattle.ssb_sql.specs.ReadExpressions.{bare_primary_at, primary_at, adding_at, signed, factor_at, term_at, step_at, expr_at}
 use Rattle.ssb_sql.proofs.StepFacts.{Stops, stops, differs, sees}
-use Rattle.ssb_sql.proofs.Shapes.{turn_done, turn_goes, more_goes, parens_read, open_read}
+use Rattle.ssb_sql.proofs.Shapes.{turn_done, turn_goes, sign_goes, more_goes, parens_read, open_read}
 use Rattle.ssb_sql.proofs.PartFacts.{column_read}
 use Rattle.ssb_sql.proofs.ExpressionSound.{adding_mark, term_shorter, factor_shorter, term_within, factor_within}
 
@@ -132,6 +132,9 @@ steps_dot b z = steps_end b (s.Mark marks.Dot) (differs (s.Mark marks.Plus) (s.M
 steps_times : {from to : List Token} {xs : List Step} → IsSteps from to xs → EndsExpr to → Stops (s.Mark marks.Times) from
 steps_times b z = steps_end b (s.Mark marks.Times) (differs (s.Mark marks.Plus) (s.Mark marks.Times) refl) (differs (s.Mark marks.Minus) (s.Mark marks.Times) refl) z.times
 
+factors_dot : {from to : List Token} {xs : List Expr} → IsFactors from to xs → Stops (s.Mark marks.Dot) to → Stops (s.Mark marks.Dot) from
+factors_dot b n = factors_end b (s.Mark marks.Dot) (differs (s.Mark marks.Times) (s.Mark marks.Dot) refl) n
+
 mutual
   pub expr_read : {from to : List Token} {x : Expr} → IsExpr from to x → (d : ℕ) → HasRoom d from → EndsExpr to → expr_at (suc d) from ≡ Some (x, to)
   expr_read (expr {from = from} {mid = mid} {to = to} {x = x} {xs = xs} f b) d h z =
@@ -152,7 +155,7 @@ mutual
 
   pub term_read : {from to : List Token} {x : Expr} → IsTerm from to x → (d : ℕ) → HasRoom d from → Stops (s.Mark marks.Dot) to → Stops (s.Mark marks.Times) to → term_at (expr_at d) from ≡ Some (x, to)
   term_read (term {from = from} {mid = mid} {to = to} {x = x} {xs = xs} f b) d h n m =
-      term_goes (expr_at d) from mid to x xs (factor_read f d h (factors_end b (s.Mark marks.Dot) (differs (s.Mark marks.Times) (s.Mark marks.Dot) refl) n))
+      term_goes (expr_at d) from mid to x xs (factor_read f d h (factors_dot b n))
       (more_goes (after (s.Mark marks.Times)) (factor_at (expr_at d)) (x ∷ []) xs mid to (factors_read b d (length mid) (factor_within f d h) (omega arith) n m))
 
   pub factors_read : {from to : List Token} {xs : List Expr} → IsFactors from to xs → (d k : ℕ) → HasRoom d from → length from ≤ k → Stops (s.Mark marks.Dot) to → Stops (s.Mark marks.Times) to → chain_at (after (s.Mark marks.Times)) (factor_at (expr_at d)) k from ≡ Some (xs, to)
@@ -160,8 +163,7 @@ mutual
   factors_read (times f b) d zero h l n m = absurd (omega arith)
   factors_read (times {from = from} {mid = mid} {to = to} {x = x} {xs = xs} f b) d (suc k) h l n m =
       let lt = factor_shorter f in
-      turn_goes (after (s.Mark marks.Times)) (factor_at (expr_at d)) k (Fixed (s.Mark marks.Times) ∷ from) mid to from x xs (sees (s.Mark marks.Times) from)
-      (factor_read f d h (factors_end b (s.Mark marks.Dot) (differs (s.Mark marks.Times) (s.Mark marks.Dot) refl) n)) (factors_read b d k (factor_within f d h) (omega arith) n m)
+      sign_goes (s.Mark marks.Times) (factor_at (expr_at d)) k from mid to x xs (factor_read f d h (factors_dot b n)) (factors_read b d k (factor_within f d h) (omega arith) n m)
 
   pub factor_read : {from to : List Token} {x : Expr} → IsFactor from to x → (d : ℕ) → HasRoom d from → Stops (s.Mark marks.Dot) to → factor_at (expr_at d) from ≡ Some (x, to)
   factor_read (plain {from = from} {to = to} {x = x} f) d h n =

@@ -7,8 +7,8 @@ use Rattle.ssb_sql.specs.declared.token.Token.TheVariants.{Fixed, Name, Number, 
 use Rattle.ssb_sql.specs.declared.token.Mark.TheVariants as marks
 use Rattle.ssb_sql.specs.declared.token.Sign.TheVariants as s
 use Rattle.ssb_sql.specs.declared.expr.ColumnName.{ColumnName}
-use Rattle.ssb_sql.specs.declared.condition.Literal.{Literal}
-use Rattle.ssb_sql.specs.declared.condition.Literal.TheVariants as l
+use Rattle.ssb_terms.specs.declared.literal.Literal.{Literal}
+use Rattle.ssb_terms.specs.declared.literal.Literal.TheVariants as l
 use Rattle.ssb_sql.specs.declared.condition.Operand.{Operand}
 use Rattle.ssb_sql.specs.declared.condition.Operand.TheVariants as o
 use Rattle.ssb_sql.specs.Forms.{IsNamed, IsColumn, IsLiteral, IsOperand}

@@ -3,9 +3,9 @@ use Rattle.std.proofs.Common.{◌≡◌, ℕ, true, false, List, Option, Some, N
 use Rattle.std.specs.Prelude.{not}
 use Rattle.std.specs.Option.{is_some}
 use Rattle.std.proofs.lemmas.Bool.{and_from, and_parts, not-true, not_from_false}
-use Rattle.ssb_cells.specs.Keywords.{keyword_of}
-use Rattle.ssb_cells.specs.Names.{is_name, is_reserved, is_word}
-use Rattle.ssb_cells.specs.declared.keyword.Keyword.{Keyword}
+use Rattle.ssb_terms.specs.Keywords.{keyword_of}
+use Rattle.ssb_terms.specs.Names.{is_name, is_reserved, is_word}
+use Rattle.ssb_terms.specs.declared.keyword.Keyword.{Keyword}
 
 none_is : (o : Option Keyword) → is_some o ≡ false → o ≡ None
 none_is None h = refl

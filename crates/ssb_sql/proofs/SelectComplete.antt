@@ -3,8 +3,8 @@ use Rattle.std.proofs.Common.{◌≡◌, ℕ, zero, suc, true, false, List, [], 
 use Rattle.ssb_sql.specs.declared.token.Token.{Token}
 use Rattle.ssb_sql.specs.declared.token.Token.TheVariants.{Fixed, Name}
 use Rattle.ssb_sql.specs.declared.token.Sign.{Sign}
-use Rattle.ssb_cells.specs.declared.keyword.Keyword.{Keyword}
-use Rattle.ssb_cells.specs.declared.keyword.Keyword.TheVariants as words
+use Rattle.ssb_terms.specs.declared.keyword.Keyword.{Keyword}
+use Rattle.ssb_terms.specs.declared.keyword.Keyword.TheVariants as words
 use Rattle.ssb_sql.specs.declared.token.Mark.TheVariants as marks
 use Rattle.ssb_sql.specs.declared.token.Sign.TheVariants as s
 use Rattle.ssb_sql.specs.declared.expr.ColumnName.{ColumnName}

@@ -196,6 +196,10 @@ module _ {A L : Type 0} (link : List Token → Option L) (piece : L → Option (
   unfolding more_at
   more_goes front xs ts to e = ap (with_front front) e
 
+-- one more piece behind its sign
+pub sign_goes : {A : Type 0} (sign : Sign) (p : Parser A) (n : ℕ) (from mid to : List Token) (x : A) (xs : List A) → p from ≡ Some (x, mid) → chain_at (after sign) p n mid ≡ Some (xs, to) → chain_at (after sign) p (suc n) (Fixed sign ∷ from) ≡ Some (x ∷ xs, to)
+sign_goes sign p n from mid to x xs e f = turn_goes (after sign) p n (Fixed sign ∷ from) mid to from x xs (sees sign from) e f
+
 -- what may follow each member of a list
 pub record GoesOn (F : List Token → Type 0) : Type 0 where
   pub comma : (ts : List Token) → F (Fixed (s.Mark marks.Comma) ∷ ts)
@@ -210,7 +214,7 @@ module _ {A : Type 0} (p : Parser A) (R : Spelling A) (t : Tame R) (d : ℕ) (F 
   more_read (comma a b) zero w l f n = absurd (omega arith)
   more_read (comma {from = from} {mid = mid} {to = to} {x = x} {xs = xs} a b) (suc k) w l f n =
       let lt = t.shorter a in
-      turn_goes (after (s.Mark marks.Comma)) p k (Fixed (s.Mark marks.Comma) ∷ from) mid to from x xs (sees (s.Mark marks.Comma) from) (h.by a w (more_ends b f)) (more_read b k (t.within a d w) (omega arith) f n)
+      sign_goes (s.Mark marks.Comma) p k from mid to x xs (h.by a w (more_ends b f)) (more_read b k (t.within a d w) (omega arith) f n)
 
   pub list_read : {from to : List Token} {xs : List A} → IsList R from to xs → HasRoom d from → F to → Stops (s.Mark marks.Comma) to → list_at p from ≡ Some (xs, to)
   unfolding chained_at

@@ -4,7 +4,7 @@ use denote.Enum.Bare.{same_true, true_same}
 use Rattle.ssb_sql.specs.declared.token.Token.{Token}
 use Rattle.ssb_sql.specs.declared.token.Token.TheVariants.{Fixed, Name, Number, Text}
 use Rattle.ssb_sql.specs.declared.token.Sign.{Sign}
-use Rattle.ssb_cells.specs.contracts.keyword.Keyword as words
+use Rattle.ssb_terms.specs.contracts.keyword.Keyword as words
 use Rattle.ssb_sql.specs.contracts.token.Mark as marks
 use Rattle.ssb_sql.specs.declared.token.Sign.TheVariants as s
 use Rattle.ssb_sql.specs.Reading.{◌>>=◌}

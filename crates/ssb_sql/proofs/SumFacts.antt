@@ -1,6 +1,6 @@
 -- Reading a sum: its first term, and then the steps, each a sign and a term.
 use Rattle.std.proofs.Common.{◌≡◌, ℕ, suc, List, [], Some, refl}
-use Rattle.ssb_sql.specs.declared.expr.Adding.{Adding}
+use Rattle.ssb_terms.specs.declared.operator.Adding.{Adding}
 use Rattle.ssb_sql.specs.declared.expr.Expr.{Expr}
 use Rattle.ssb_sql.specs.declared.expr.Step.{Step}
 use Rattle.ssb_sql.specs.declared.steps.Stop.{Stop}

@@ -1,15 +1,15 @@
 -- What is read as a test with no parentheses is one.
 use Rattle.std.proofs.Common.{◌≡◌, ℕ, zero, suc, ◌<◌, Bool, true, false, List, ◌∷◌, length, Some, None, refl, ap, subst, ◌∙◌, arith, inl, inr}
-use Rattle.ssb_cells.specs.declared.value.Op.{Op}
-use Rattle.ssb_cells.specs.declared.value.Op.TheVariants as op
+use Rattle.ssb_terms.specs.declared.operator.Op.{Op}
+use Rattle.ssb_terms.specs.declared.operator.Op.TheVariants as op
 use Rattle.ssb_sql.specs.declared.token.Token.{Token}
 use Rattle.ssb_sql.specs.declared.token.Token.TheVariants.{Fixed}
-use Rattle.ssb_cells.specs.declared.keyword.Keyword.TheVariants as words
+use Rattle.ssb_terms.specs.declared.keyword.Keyword.TheVariants as words
 use Rattle.ssb_sql.specs.declared.token.Mark.{Mark}
 use Rattle.ssb_sql.specs.declared.token.Mark.TheVariants as marks
 use Rattle.ssb_sql.specs.declared.token.Sign.TheVariants as s
 use Rattle.ssb_sql.specs.declared.expr.ColumnName.{ColumnName}
-use Rattle.ssb_sql.specs.declared.condition.Literal.{Literal}
+use Rattle.ssb_terms.specs.declared.literal.Literal.{Literal}
 use Rattle.ssb_sql.specs.declared.condition.Operand.{Operand}
 use Rattle.ssb_sql.specs.declared.condition.Operand.TheVariants as o
 use Rattle.ssb_sql.specs.declared.condition.Condition.{Condition}

@@ -3,7 +3,7 @@ use Rattle.std.proofs.Common.{◌≡◌, ℕ, ◌<◌, ◌≤◌, ◌^◌, true,
 use Rattle.std.specs.Prelude.{nat_le}
 use Rattle.std.specs.Char.{is_ascii_digit}
 use Rattle.std.proofs.lemmas.Bool.{le-leb, lt-leb}
-use Rattle.ssb_cells.specs.Names.{is_word_byte}
+use Rattle.ssb_terms.specs.Names.{is_word_byte}
 use Rattle.ssb_sql.specs.declared.class.Class.TheVariants as k
 use Rattle.ssb_sql.specs.declared.token.Mark.{Mark}
 use Rattle.ssb_sql.specs.declared.token.Token.{Token}

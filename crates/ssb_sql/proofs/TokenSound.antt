@@ -6,11 +6,11 @@ use Rattle.std.specs.List.{list_all}
 use Rattle.std.proofs.lemmas.Bool.{and_from, and_parts, eqb-true, leb-true, not-false}
 use Rattle.std.proofs.lemmas.Bool.Decides.{nat_tests}
 use Rattle.ssb_sql.proofs.StepFacts.{bind_some}
-use Rattle.ssb_cells.specs.Keywords.{keyword_of}
-use Rattle.ssb_cells.specs.Names.{is_word, is_word_byte}
+use Rattle.ssb_terms.specs.Keywords.{keyword_of}
+use Rattle.ssb_terms.specs.Names.{is_word, is_word_byte}
 use Rattle.ssb_sql.specs.declared.class.Class.{Class}
 use Rattle.ssb_sql.specs.declared.class.Class.TheVariants as k
-use Rattle.ssb_cells.specs.declared.keyword.Keyword.{Keyword}
+use Rattle.ssb_terms.specs.declared.keyword.Keyword.{Keyword}
 use Rattle.ssb_sql.specs.declared.token.Mark.{Mark}
 use Rattle.ssb_sql.specs.declared.token.Mark.TheVariants as marks
 use Rattle.ssb_sql.specs.declared.token.Sign.TheVariants as s

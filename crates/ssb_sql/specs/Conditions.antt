@@ -3,14 +3,14 @@
 -- and 8.12 <search condition>, cut down.
 -- The families take what spells an operand, or a test with no parentheses, as a parameter.
 use Rattle.std.specs.Prelude.{List, [], ◌∷◌}
-use Rattle.ssb_cells.specs.declared.value.Op.{Op}
-use Rattle.ssb_cells.specs.declared.value.Op.TheVariants as op
+use Rattle.ssb_terms.specs.declared.operator.Op.{Op}
+use Rattle.ssb_terms.specs.declared.operator.Op.TheVariants as op
 use Rattle.ssb_sql.specs.declared.token.Token.{Token}
 use Rattle.ssb_sql.specs.declared.token.Mark.{Mark}
-use Rattle.ssb_cells.specs.declared.keyword.Keyword.TheVariants as words
+use Rattle.ssb_terms.specs.declared.keyword.Keyword.TheVariants as words
 use Rattle.ssb_sql.specs.declared.token.Mark.TheVariants as marks
 use Rattle.ssb_sql.specs.declared.expr.ColumnName.{ColumnName}
-use Rattle.ssb_sql.specs.declared.condition.Literal.{Literal}
+use Rattle.ssb_terms.specs.declared.literal.Literal.{Literal}
 use Rattle.ssb_sql.specs.declared.condition.Operand.{Operand}
 use Rattle.ssb_sql.specs.declared.condition.Condition.{Condition}
 use Rattle.ssb_sql.specs.declared.condition.Condition.TheVariants as c

@@ -4,13 +4,13 @@
 use Rattle.std.specs.Prelude.{ℕ, ◌≤◌, List, [], ◌∷◌, Some, None, pos, neg_ℤ}
 use Rattle.ssb_sql.specs.declared.token.Token.{Token}
 use Rattle.ssb_sql.specs.declared.token.Token.TheVariants.{Fixed, Name, Number, Text}
-use Rattle.ssb_cells.specs.declared.keyword.Keyword.{Keyword}
+use Rattle.ssb_terms.specs.declared.keyword.Keyword.{Keyword}
 use Rattle.ssb_sql.specs.declared.token.Mark.{Mark}
 use Rattle.ssb_sql.specs.declared.token.Mark.TheVariants as marks
 use Rattle.ssb_sql.specs.declared.token.Sign.TheVariants as s
 use Rattle.ssb_sql.specs.declared.expr.ColumnName.{ColumnName}
-use Rattle.ssb_sql.specs.declared.condition.Literal.{Literal}
-use Rattle.ssb_sql.specs.declared.condition.Literal.TheVariants as l
+use Rattle.ssb_terms.specs.declared.literal.Literal.{Literal}
+use Rattle.ssb_terms.specs.declared.literal.Literal.TheVariants as l
 use Rattle.ssb_sql.specs.declared.condition.Operand.{Operand}
 use Rattle.ssb_sql.specs.declared.condition.Operand.TheVariants as o
 

@@ -1,23 +1,22 @@
 -- Reading conditions.
 -- For the contracts inside this crate.
 use Rattle.std.specs.Prelude.{ℕ, zero, suc, Bool, true, false, List, ◌∷◌, Option, Some, None}
-use Rattle.ssb_cells.specs.declared.value.Op.{Op}
-use Rattle.ssb_cells.specs.declared.value.Op.TheVariants as op
+use Rattle.ssb_terms.specs.declared.operator.Op.{Op}
+use Rattle.ssb_terms.specs.declared.operator.Op.TheVariants as op
 use Rattle.ssb_sql.specs.declared.token.Token.{Token}
 use Rattle.ssb_sql.specs.declared.token.Token.TheVariants.{Fixed}
 use Rattle.ssb_sql.specs.declared.token.Mark.{Mark}
-use Rattle.ssb_cells.specs.declared.keyword.Keyword.TheVariants as words
+use Rattle.ssb_terms.specs.declared.keyword.Keyword.TheVariants as words
 use Rattle.ssb_sql.specs.declared.token.Mark.TheVariants as marks
 use Rattle.ssb_sql.specs.declared.token.Sign.TheVariants as s
-use Rattle.ssb_sql.specs.declared.condition.Literal.{Literal}
+use Rattle.ssb_terms.specs.declared.literal.Literal.{Literal}
 use Rattle.ssb_sql.specs.declared.condition.Operand.{Operand}
 use Rattle.ssb_sql.specs.declared.condition.Operand.TheVariants as o
 use Rattle.ssb_sql.specs.declared.condition.Condition.{Condition}
 use Rattle.ssb_sql.specs.declared.condition.Condition.TheVariants as c
 use Rattle.ssb_sql.specs.Reading.{◌>>=◌}
-use Rattle.ssb_sql.specs.Steps.{Parser, choose, after, chained_at, list_at, enclosed_at, parens_at}
+use Rattle.ssb_sql.specs.Steps.{Parser, choose, after, made_at, list_at, enclosed_at, parens_at}
 use Rattle.ssb_sql.specs.ReadParts.{literal_at, operand_at}
-use Rattle.ssb_sql.specs.Conditions.{or_chain, and_chain}
 
 abbrev pub op_of : Mark → Option Op
 op_of marks.Equal = Some op.Eq
@@ -96,10 +95,10 @@ unfoldable pub neg_at : Parser Condition → Parser Condition
 neg_at inner ts = choose (after (s.Word words.Not) ts) (λ rest. test_at inner rest >>= λ x. Some (c.Not x.0, x.1)) (test_at inner ts)
 
 unfoldable pub conj_at : Parser Condition → Parser Condition
-conj_at inner ts = chained_at (s.Word words.And) (neg_at inner) ts >>= λ xs. Some (and_chain xs.0, xs.1)
+conj_at inner ts = made_at c.All (s.Word words.And) (neg_at inner) ts
 
 abbrev pub disj_at : Parser Condition → Parser Condition
-disj_at inner ts = chained_at (s.Word words.Or) (conj_at inner) ts >>= λ xs. Some (or_chain xs.0, xs.1)
+disj_at inner = made_at c.Any (s.Word words.Or) (conj_at inner)
 
 -- a condition with fewer than this many open parentheses
 unfoldable pub cond_at : ℕ → Parser Condition

@@ -5,15 +5,15 @@ use Rattle.ssb_sql.specs.declared.token.Token.{Token}
 use Rattle.ssb_sql.specs.declared.token.Token.TheVariants.{Number}
 use Rattle.ssb_sql.specs.declared.token.Mark.TheVariants as marks
 use Rattle.ssb_sql.specs.declared.token.Sign.TheVariants as s
-use Rattle.ssb_sql.specs.declared.expr.Adding.{Adding}
-use Rattle.ssb_sql.specs.declared.expr.Adding.TheVariants as a
+use Rattle.ssb_terms.specs.declared.operator.Adding.{Adding}
+use Rattle.ssb_terms.specs.declared.operator.Adding.TheVariants as a
 use Rattle.ssb_sql.specs.declared.expr.Step.{Step}
 use Rattle.ssb_sql.specs.declared.expr.Expr.{Expr}
 use Rattle.ssb_sql.specs.declared.expr.Expr.TheVariants as e
 use Rattle.ssb_sql.specs.Reading.{◌>>=◌}
-use Rattle.ssb_sql.specs.Steps.{Parser, choose, after, more_at, chained_at, enclosed_at}
+use Rattle.ssb_sql.specs.Steps.{Parser, choose, after, more_at, made_at, enclosed_at}
 use Rattle.ssb_sql.specs.ReadParts.{column_at}
-use Rattle.ssb_sql.specs.Expressions.{sum_of, times_of}
+use Rattle.ssb_sql.specs.Expressions.{sum_of}
 
 unfoldable pub bare_primary_at : Parser Expr
 bare_primary_at (Number n ∷ ts) = Some (e.Number n, ts)
@@ -35,7 +35,7 @@ unfoldable pub factor_at : Parser Expr → Parser Expr
 factor_at inner ts = choose (adding_at ts) (λ l. primary_at inner l.1 >>= λ x. Some (signed l.0 x.0, x.1)) (primary_at inner ts)
 
 unfoldable pub term_at : Parser Expr → Parser Expr
-term_at inner ts = chained_at (s.Mark marks.Times) (factor_at inner) ts >>= λ xs. Some (times_of xs.0, xs.1)
+term_at inner ts = made_at e.Times (s.Mark marks.Times) (factor_at inner) ts
 
 unfoldable pub step_at : Parser Expr → Adding × List Token → Option (Step × List Token)
 step_at inner l = term_at inner l.1 >>= λ x. Some (record { adding = l.0; term = x.0 }, x.1)

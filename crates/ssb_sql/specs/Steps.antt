@@ -2,6 +2,7 @@
 -- For the contracts inside this crate.
 use Rattle.std.specs.Prelude.{◌≡◌, ℕ, zero, suc, Bool, true, false, if◌then◌else◌, List, [], ◌∷◌, ◌++◌, length, ◌<◌, Option, Some, None, Result, Ok, Err}
 use Rattle.std.specs.Borrow.{Bor}
+use Rattle.ssb_sql.specs.Forms.{chain_of}
 use Rattle.ssb_sql.specs.Reading.{◌>>=◌, seen}
 use Rattle.ssb_sql.specs.declared.token.Token.{Token}
 use Rattle.ssb_sql.specs.declared.token.Token.TheVariants.{Fixed, Name, Number, Text}
@@ -83,6 +84,10 @@ more_at link piece front ts = with_front front (chain_at link piece (length ts) 
 unfoldable pub chained_at : {A : Type 0} → Sign → Parser A → Parser (List A)
 chained_at sign p ts = p ts >>= λ x. more_at (after sign) p (x.0 ∷ []) x.1
 
+-- p {sign p} as one thing: a piece alone is that piece, and of more of them one is made
+abbrev pub made_at : {A : Type 0} → (List A → A) → Sign → Parser A → Parser A
+made_at make sign p ts = chained_at sign p ts >>= λ xs. Some (chain_of make xs.0, xs.1)
+
 -- p {"," p}
 abbrev pub list_at : {A : Type 0} → Parser A → Parser (List A)
 list_at p = chained_at (s.Mark marks.Comma) p
@@ -95,6 +100,10 @@ pub record Shrinks {A L : Type 0} (link : List Token → Option L) (piece : L �
 -- a closure that returns this reads what p does
 abbrev pub Reads : {A : Type 0} → (Bor (List Token) → Result (A × Bor (List Token)) Stop → Type 0) → Parser A → Type 0
 Reads returns p = (ts : Bor (List Token)) (r : Result _ Stop) → returns ts r → Gives seen r (p ts.now)
+
+-- a closure that returns this makes what make does
+abbrev pub Makes : {A : Type 0} → (List A → A → Type 0) → (List A → A) → Type 0
+Makes returns make = (xs : List _) (x : _) → returns xs x → x ≡ make xs
 
 -- what was read, and what follows the sign behind it
 abbrev pub followed_at : {A : Type 0} → A → Sign → List Token → Option (A × List Token)

@@ -1,8 +1,8 @@
 // Reading chains: lists with commas, conditions with AND and OR, products.
 
-ghost use Rattle.std.specs.Prelude.{◌≡◌, [], ◌∷◌};
+ghost use Rattle.std.specs.Prelude.{◌≡◌, List, [], ◌∷◌};
 ghost use Rattle.ssb_sql.specs.Reading.{seen};
-ghost use Rattle.ssb_sql.specs.Steps.{Gives, Parser, Reads, Shrinks, after, chained_at};
+ghost use Rattle.ssb_sql.specs.Steps.{Gives, Makes, Parser, Reads, Shrinks, after, chained_at, made_at};
 
 use crate::steps::{Stop, after};
 use crate::token::{Mark, Sign, Token};
@@ -35,4 +35,28 @@ where
         rest = end;
     }
     Ok((all, rest))
+}
+
+/// Reads such a chain as one thing: a piece alone is that piece, and of more of them one is made.
+pub(crate) fn made<T: Drop, F, G>(
+    alloc: Global,
+    sign: Sign,
+    tokens: &[Token],
+    make: G,
+    piece: F,
+) -> Result<(T, &[Token]), Stop>
+where
+    F: Fn(&[Token]) -> Result<(T, &[Token]), Stop>,
+    G: FnOnce(Items<T>) -> T,
+    requires can { F.IsAlwaysCallable piece }
+    requires makes { G.IsAlwaysCallable make }
+    requires shrinks { (p : Parser T) × Shrinks (after sign) p × Reads (F.post piece) p }
+    ensures { (m : List T → T) → Makes (G.post make) m → (p : Parser T) → Shrinks (after sign) p → Reads (F.post piece) p → Gives seen result (made_at m sign p tokens.now) }
+{
+    let (mut all, rest) = chain(alloc, sign, tokens, piece)?;
+    if all.len() == 1 {
+        Ok((all.remove(0), rest))
+    } else {
+        Ok((make(all), rest))
+    }
 }

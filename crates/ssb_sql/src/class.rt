@@ -24,35 +24,21 @@ pub(crate) enum Class {
 pub(crate) fn class_of(byte: u8) -> Class
     ensures { result ≡ class_of byte }
 {
-    if byte.is_ascii_alphabetic() {
-        Class::Letter
-    } else if byte.is_ascii_digit() {
-        Class::Digit
-    } else if byte == b'\'' {
-        Class::Quote
-    } else if byte == b'(' {
-        Class::Mark(Mark::Open)
-    } else if byte == b')' {
-        Class::Mark(Mark::Close)
-    } else if byte == b',' {
-        Class::Mark(Mark::Comma)
-    } else if byte == b'.' {
-        Class::Mark(Mark::Dot)
-    } else if byte == b';' {
-        Class::Mark(Mark::Semicolon)
-    } else if byte == b'+' {
-        Class::Mark(Mark::Plus)
-    } else if byte == b'-' {
-        Class::Mark(Mark::Minus)
-    } else if byte == b'*' {
-        Class::Mark(Mark::Times)
-    } else if byte == b'=' {
-        Class::Mark(Mark::Equal)
-    } else if byte == b'<' {
-        Class::Mark(Mark::Less)
-    } else if byte == b'>' {
-        Class::Mark(Mark::Greater)
-    } else {
-        Class::Other
+    match byte {
+        b'a'..=b'z' | b'A'..=b'Z' => Class::Letter,
+        b'0'..=b'9' => Class::Digit,
+        b'\'' => Class::Quote,
+        b'(' => Class::Mark(Mark::Open),
+        b')' => Class::Mark(Mark::Close),
+        b',' => Class::Mark(Mark::Comma),
+        b'.' => Class::Mark(Mark::Dot),
+        b';' => Class::Mark(Mark::Semicolon),
+        b'+' => Class::Mark(Mark::Plus),
+        b'-' => Class::Mark(Mark::Minus),
+        b'*' => Class::Mark(Mark::Times),
+        b'=' => Class::Mark(Mark::Equal),
+        b'<' => Class::Mark(Mark::Less),
+        b'>' => Class::Mark(Mark::Greater),
+        _ => Class::Other,
     }
 }

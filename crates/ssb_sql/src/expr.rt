@@ -1,7 +1,7 @@
 // Expressions, as they are written.
 
 use sqlite_items::{Boxed, Items};
-use ssb_cells::Name;
+use ssb_terms::{Adding, Name};
 
 /// A column, with its table's name where that is written.
 #[derive(Drop)]
@@ -10,15 +10,6 @@ pub struct ColumnName {
     pub table: Option<Name>,
     /// The column's name.
     pub column: Name,
-}
-
-/// How a chain of terms goes on.
-#[derive(Clone, Copy, PartialEq, Eq, Debug)]
-pub enum Adding {
-    /// `+`
-    Plus,
-    /// `-`
-    Minus,
 }
 
 /// A further term of a chain, with the sign before it.

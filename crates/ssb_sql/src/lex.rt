@@ -13,7 +13,7 @@ use crate::fault::SqlFault;
 use crate::scan::{TOO_LARGE, begins_with_word_byte, next, number, skip, text, word};
 use crate::token::{Mark, Sign, Token};
 use sqlite_items::Items;
-use ssb_cells::{Name, Text, keyword_of};
+use ssb_terms::{Name, Text, keyword_of};
 use std::alloc::Global;
 
 // The word in front: a reserved word or a name.

@@ -23,8 +23,8 @@ pub mod select;
 mod steps;
 pub mod token;
 
-pub use condition::{Condition, Literal, Operand, copy_literals};
-pub use expr::{Adding, ColumnName, Expr, Step};
+pub use condition::{Condition, Operand};
+pub use expr::{ColumnName, Expr, Step};
 pub use fault::SqlFault;
 pub use lex::one_list_of_tokens;
 pub use parse::one_meaning;

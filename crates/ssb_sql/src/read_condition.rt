@@ -1,43 +1,20 @@
 // Reading conditions. Only parentheses nest.
 
 ghost use Rattle.std.specs.Prelude.{◌≡◌, [], ◌∷◌};
-ghost use Rattle.ssb_sql.specs.Conditions.{or_chain, and_chain};
 ghost use Rattle.ssb_sql.specs.Reading.{seen};
-ghost use Rattle.ssb_sql.specs.Steps.{Gives, after, chained_at, closed_at};
+ghost use Rattle.ssb_sql.specs.Steps.{Gives, Makes, after, made_at, closed_at};
 ghost use Rattle.ssb_sql.specs.ReadConditions.{neg_at, conj_at, cond_at, test_at};
-ghost use Rattle.ssb_cells.specs.declared.keyword.Keyword.TheVariants as words;
+ghost use Rattle.ssb_terms.specs.declared.keyword.Keyword.TheVariants as words;
 ghost use Rattle.ssb_sql.specs.declared.token.Sign.TheVariants as s;
 
-use crate::chain::chain;
+use crate::chain::made;
 use crate::condition::Condition;
 use crate::read_test::bare;
 use crate::steps::{Stop, after, closing};
 use crate::token::{Mark, Sign, Token};
-use sqlite_items::{Boxed, Items};
-use ssb_cells::Keyword;
+use sqlite_items::Boxed;
+use ssb_terms::Keyword;
 use std::alloc::Global;
-
-#[tactic(auto, using(crate::proofs::Chains::one, crate::proofs::Chains::many))]
-fn or_chain(mut all: Items<Condition>) -> Condition
-    ensures { result ≡ or_chain all }
-{
-    if all.len() == 1 {
-        all.remove(0)
-    } else {
-        Condition::Any(all)
-    }
-}
-
-#[tactic(auto, using(crate::proofs::Chains::one, crate::proofs::Chains::many))]
-fn and_chain(mut all: Items<Condition>) -> Condition
-    ensures { result ≡ and_chain all }
-{
-    if all.len() == 1 {
-        all.remove(0)
-    } else {
-        Condition::All(all)
-    }
-}
 
 #[cycle(condition)]
 #[tactic(auto, unfolding(crate::specs::Steps::enclosed_at, crate::specs::Steps::closed_at))]
@@ -72,15 +49,15 @@ fn negation(alloc: Global, depth: usize, tokens: &[Token]) -> Result<(Condition,
 fn conjunction(alloc: Global, depth: usize, tokens: &[Token]) -> Result<(Condition, &[Token]), Stop>
     ensures { Gives seen result (conj_at (cond_at depth) tokens.now) }
 {
-    let (all, rest) = chain(
+    made(
         alloc,
         Sign::Word(Keyword::And),
         tokens,
+        Condition::All,
         |start: &[Token]|
             ensures { Gives seen result (neg_at (cond_at depth) start.now) }
         { negation(alloc, depth, start) },
-    )?;
-    Ok((and_chain(all), rest))
+    )
 }
 
 /// Reads a condition inside fewer than `depth` parentheses.
@@ -97,13 +74,13 @@ pub(crate) fn condition(
         return Err(Stop::Syntax);
     }
     let inside = depth - 1;
-    let (all, rest) = chain(
+    made(
         alloc,
         Sign::Word(Keyword::Or),
         tokens,
+        Condition::Any,
         |start: &[Token]|
             ensures { Gives seen result (conj_at (cond_at inside) start.now) }
         { conjunction(alloc, inside, start) },
-    )?;
-    Ok((or_chain(all), rest))
+    )
 }

@@ -1,19 +1,20 @@
 // Reading expressions. Only parentheses nest.
 
 ghost use Rattle.std.specs.Prelude.{◌≡◌, [], ◌∷◌, IfOk};
-ghost use Rattle.ssb_sql.specs.Expressions.{sum_of, times_of};
+ghost use Rattle.ssb_sql.specs.Expressions.{sum_of};
 ghost use Rattle.ssb_sql.specs.Reading.{seen, seen_if};
-ghost use Rattle.ssb_sql.specs.Steps.{Gives, after, chained_at, more_at, closed_at};
+ghost use Rattle.ssb_sql.specs.Steps.{Gives, Makes, after, made_at, more_at, closed_at};
 ghost use Rattle.ssb_sql.specs.ReadExpressions.{bare_primary_at, primary_at, adding_at, signed, factor_at, term_at, step_at, expr_at};
 ghost use Rattle.ssb_sql.specs.declared.token.Mark.TheVariants as marks;
 ghost use Rattle.ssb_sql.specs.declared.token.Sign.TheVariants as s;
 
-use crate::chain::chain;
-use crate::expr::{Adding, Expr, Step};
+use crate::chain::made;
+use crate::expr::{Expr, Step};
 use crate::read_parts::column;
 use crate::steps::{Stop, after, closing};
 use crate::token::{Mark, Sign, Token};
 use sqlite_items::{Boxed, Items};
+use ssb_terms::Adding;
 use std::alloc::{AllocError, Global};
 
 #[tactic(auto, using(crate::proofs::Chains::sum_one, crate::proofs::Chains::sum_many))]
@@ -24,17 +25,6 @@ fn sum_of(alloc: Global, first: Expr, steps: Items<Step>) -> Result<Expr, AllocE
         Ok(first)
     } else {
         Ok(Expr::Chain(Boxed::new(alloc, first)?, steps))
-    }
-}
-
-#[tactic(auto, using(crate::proofs::Chains::one, crate::proofs::Chains::many))]
-fn times_of(mut all: Items<Expr>) -> Expr
-    ensures { result ≡ times_of all }
-{
-    if all.len() == 1 {
-        all.remove(0)
-    } else {
-        Expr::Times(all)
     }
 }
 
@@ -108,15 +98,15 @@ fn factor(alloc: Global, depth: usize, tokens: &[Token]) -> Result<(Expr, &[Toke
 fn term(alloc: Global, depth: usize, tokens: &[Token]) -> Result<(Expr, &[Token]), Stop>
     ensures { Gives seen result (term_at (expr_at depth) tokens.now) }
 {
-    let (all, rest) = chain(
+    made(
         alloc,
         Sign::Mark(Mark::Times),
         tokens,
+        Expr::Times,
         |start: &[Token]|
             ensures { Gives seen result (factor_at (expr_at depth) start.now) }
         { factor(alloc, depth, start) },
-    )?;
-    Ok((times_of(all), rest))
+    )
 }
 
 #[cycle(expression)]

@@ -15,7 +15,7 @@ use crate::select::{Item, Key, Order, Output};
 use crate::steps::{Stop, after, closing, expect, name};
 use crate::token::{Mark, Sign, Token};
 use sqlite_items::Items;
-use ssb_cells::{Keyword, Name};
+use ssb_terms::{Keyword, Name};
 use std::alloc::Global;
 
 // An expression and the `)` behind it.

@@ -6,10 +6,11 @@ ghost use Rattle.ssb_sql.specs.Steps.{Gives, after, list_at, name_at};
 ghost use Rattle.ssb_sql.specs.ReadParts.{column_at, small_at, below_at, plain_literal_at, literal_at, operand_at};
 ghost use Rattle.ssb_sql.specs.declared.token.Sign.TheVariants as s;
 
-use crate::condition::{Literal, Operand};
+use crate::condition::Operand;
 use crate::expr::ColumnName;
 use crate::steps::{Stop, after, is_name_next, name, number};
 use crate::token::{Mark, Sign, Token};
+use ssb_terms::Literal;
 use std::alloc::Global;
 
 #[tactic(auto, unfolding(crate::specs::ReadParts::column_at))]

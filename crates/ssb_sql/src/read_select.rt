@@ -18,7 +18,7 @@ use crate::select::{Order, Select};
 use crate::steps::{Stop, after, expect, name};
 use crate::token::{Mark, Sign, Token};
 use sqlite_items::Items;
-use ssb_cells::{Keyword, Name};
+use ssb_terms::{Keyword, Name};
 use std::alloc::Global;
 
 #[tactic(auto, unfolding(crate::specs::ReadSelects::where_at))]
@@ -38,27 +38,42 @@ fn condition_if(
     }
 }
 
-// The word, BY and a list of pieces; or nothing.
+// The word, BY and a list; or nothing.
 #[tactic(auto, unfolding(crate::specs::ReadSelects::by_at))]
 fn by<T: Drop, F>(
     alloc: Global,
     word: Keyword,
     tokens: &[Token],
-    piece: F,
+    list: F,
 ) -> Result<(Items<T>, &[Token]), Stop>
 where
-    F: Fn(&[Token]) -> Result<(T, &[Token]), Stop>,
-    requires can { F.IsAlwaysCallable piece }
-    requires shrinks { (p : Parser T) × Shrinks (after (s.Mark marks.Comma)) p × Reads (F.post piece) p }
-    ensures { (p : Parser T) → Shrinks (after (s.Mark marks.Comma)) p → Reads (F.post piece) p → Gives seen result (by_at word p tokens.now) }
+    F: FnOnce(&[Token]) -> Result<(Items<T>, &[Token]), Stop>,
+    requires { F.IsAlwaysCallable list }
+    ensures { (p : Parser T) → Reads (F.post list) (list_at p) → Gives seen result (by_at word p tokens.now) }
 {
     match after(tokens, Sign::Word(word)) {
         Some(rest) => {
             let start = expect(rest, Sign::Word(Keyword::By))?;
-            chain(alloc, COMMA, start, piece)
+            list(start)
         }
         None => Ok((Items::new(alloc), tokens)),
     }
+}
+
+// The columns of GROUP BY.
+#[tactic(auto, using(crate::proofs::PartFacts::column_shrinks))]
+fn columns(alloc: Global, tokens: &[Token]) -> Result<(Items<ColumnName>, &[Token]), Stop>
+    ensures { Gives seen result (list_at column_at tokens.now) }
+{
+    chain(alloc, COMMA, tokens, |start: &[Token]| column(alloc, start))
+}
+
+// The keys of ORDER BY.
+#[tactic(auto, using(crate::proofs::ItemFacts::order_shrinks))]
+fn orders(alloc: Global, tokens: &[Token]) -> Result<(Items<Order>, &[Token]), Stop>
+    ensures { Gives seen result (list_at order_at tokens.now) }
+{
+    chain(alloc, COMMA, tokens, |start: &[Token]| order(alloc, start))
 }
 
 fn is_nil(tokens: &[Token]) -> bool
@@ -82,16 +97,11 @@ fn ends(tokens: &[Token]) -> bool
 }
 
 // ORDER BY, with nothing behind it but the end.
-#[tactic(auto, unfolding(crate::specs::ReadSelects::ordered_at), using(crate::proofs::ItemFacts::order_shrinks))]
+#[tactic(auto, unfolding(crate::specs::ReadSelects::ordered_at))]
 fn ordered(alloc: Global, tokens: &[Token]) -> Result<Items<Order>, Stop>
     ensures { Gives (λ x. x) result (ordered_at tokens.now) }
 {
-    let (orders, rest) = by(
-        alloc,
-        Keyword::Order,
-        tokens,
-        |start: &[Token]| order(alloc, start),
-    )?;
+    let (orders, rest) = by(alloc, Keyword::Order, tokens, |list| orders(alloc, list))?;
     if ends(rest) {
         Ok(orders)
     } else {
@@ -100,16 +110,11 @@ fn ordered(alloc: Global, tokens: &[Token]) -> Result<Items<Order>, Stop>
 }
 
 // GROUP BY, and what follows.
-#[tactic(auto, unfolding(crate::specs::ReadSelects::grouped_at), using(crate::proofs::PartFacts::column_shrinks))]
+#[tactic(auto, unfolding(crate::specs::ReadSelects::grouped_at))]
 fn grouped(alloc: Global, tokens: &[Token]) -> Result<(Items<ColumnName>, Items<Order>), Stop>
     ensures { Gives (λ x. x) result (grouped_at tokens.now) }
 {
-    let (groups, rest) = by(
-        alloc,
-        Keyword::Group,
-        tokens,
-        |start: &[Token]| column(alloc, start),
-    )?;
+    let (groups, rest) = by(alloc, Keyword::Group, tokens, |list| columns(alloc, list))?;
     ordered(alloc, rest).map(|orders| (groups, orders))
 }
 

@@ -8,12 +8,12 @@ ghost use Rattle.ssb_sql.specs.ReadConditions.{op_of, op_at, limits_at, among_at
 ghost use Rattle.ssb_sql.specs.declared.token.Sign.TheVariants as s;
 
 use crate::chain::{COMMA, chain};
-use crate::condition::{Condition, Literal, Operand};
+use crate::condition::{Condition, Operand};
 use crate::read_parts::{literal, operand};
 use crate::steps::{Stop, after, closing, expect, followed};
 use crate::token::{Mark, Sign, Token};
 use sqlite_items::Items;
-use ssb_cells::{Keyword, Op};
+use ssb_terms::{Keyword, Literal, Op};
 use std::alloc::Global;
 
 fn op_of(mark: Mark) -> Option<Op>

@@ -2,13 +2,13 @@
 
 ghost use Rattle.std.specs.Prelude.{◌≡◌, ◌^◌, false, min, Some, [], ◌∷◌, ◌++◌, OnOk};
 ghost use Rattle.std.specs.Char.{is_ascii_digit};
-ghost use Rattle.ssb_cells.specs.Names.{is_word_byte};
+ghost use Rattle.ssb_terms.specs.Names.{is_word_byte};
 ghost use Rattle.ssb_sql.specs.Tokens.{begins, is_blank, is_dash, value_of};
 ghost use Rattle.ssb_sql.specs.Reading.{seen, seen_if};
 ghost use Rattle.ssb_sql.specs.Scanning.{Gives, closing_at, first, first_if, past, piece_at, run, skip, skip_step, text_at};
 
 use crate::fault::SqlFault;
-use ssb_cells::is_word_byte;
+use ssb_terms::is_word_byte;
 use std::alloc::{AllocError, Global};
 
 /// The first byte, and what follows it.

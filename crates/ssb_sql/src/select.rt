@@ -3,7 +3,7 @@
 use crate::condition::Condition;
 use crate::expr::{ColumnName, Expr};
 use sqlite_items::Items;
-use ssb_cells::Name;
+use ssb_terms::Name;
 
 /// What an item of the select list gives.
 #[derive(Drop)]
@@ -46,7 +46,6 @@ pub struct Order {
 }
 
 /// A query, as it is written. Names are in lower case.
-#[derive(Drop)]
 pub struct Select {
     /// The select list.
     pub items: Items<Item>,
@@ -58,4 +57,22 @@ pub struct Select {
     pub groups: Items<ColumnName>,
     /// The keys of ORDER BY; none where it is not there.
     pub orders: Items<Order>,
+}
+
+// Written out, so that the crates above need no proof of how its parts are let go.
+impl Drop for Select {
+    fn drop(self) {
+        let Select {
+            items,
+            from,
+            condition,
+            groups,
+            orders,
+        } = self;
+        drop(items);
+        drop(from);
+        drop(condition);
+        drop(groups);
+        drop(orders);
+    }
 }

@@ -8,7 +8,7 @@ ghost use Rattle.ssb_sql.specs.declared.token.Mark.TheVariants as marks;
 ghost use Rattle.ssb_sql.specs.declared.token.Sign.TheVariants as s;
 
 use crate::token::{Mark, Sign, Token};
-use ssb_cells::Name;
+use ssb_terms::Name;
 use std::alloc::{AllocError, Global};
 
 /// Why nothing was read.

@@ -1,6 +1,6 @@
 // What a query text is made of.
 
-use ssb_cells::{Keyword, Name, Text};
+use ssb_terms::{Keyword, Name, Text};
 
 /// A mark.
 #[derive(Clone, Copy, PartialEq, Eq)]

@@ -35,38 +35,26 @@ q1_3 =
     ∷ "and lo_discount between 5 and 7 and lo_quantity between 26 and 35;"
     ∷ [])
 
-abbrev pub q2_1 : List ℕ
-q2_1 =
+-- the second flight: what sales of parts made, with this condition on parts and suppliers
+abbrev pub sales_of_parts : String → List ℕ
+sales_of_parts condition =
     in_lines
     ("select sum(lo_revenue), d_year, p_brand1"
     ∷ "from lineorder, date, part, supplier"
     ∷ "where lo_orderdate = d_datekey and lo_partkey = p_partkey"
     ∷ "and lo_suppkey = s_suppkey"
-    ∷ "and p_category = 'MFGR#12' and s_region = 'AMERICA'"
+    ∷ condition
     ∷ "group by d_year, p_brand1 order by d_year, p_brand1;"
     ∷ [])
+
+abbrev pub q2_1 : List ℕ
+q2_1 = sales_of_parts "and p_category = 'MFGR#12' and s_region = 'AMERICA'"
 
 abbrev pub q2_2 : List ℕ
-q2_2 =
-    in_lines
-    ("select sum(lo_revenue), d_year, p_brand1"
-    ∷ "from lineorder, date, part, supplier"
-    ∷ "where lo_orderdate = d_datekey and lo_partkey = p_partkey"
-    ∷ "and lo_suppkey = s_suppkey"
-    ∷ "and p_brand1 between 'MFGR#2221' and 'MFGR#2228' and s_region = 'ASIA'"
-    ∷ "group by d_year, p_brand1 order by d_year, p_brand1;"
-    ∷ [])
+q2_2 = sales_of_parts "and p_brand1 between 'MFGR#2221' and 'MFGR#2228' and s_region = 'ASIA'"
 
 abbrev pub q2_3 : List ℕ
-q2_3 =
-    in_lines
-    ("select sum(lo_revenue), d_year, p_brand1"
-    ∷ "from lineorder, date, part, supplier"
-    ∷ "where lo_orderdate = d_datekey and lo_partkey = p_partkey"
-    ∷ "and lo_suppkey = s_suppkey"
-    ∷ "and p_brand1 = 'MFGR#2221' and s_region = 'EUROPE'"
-    ∷ "group by d_year, p_brand1 order by d_year, p_brand1;"
-    ∷ [])
+q2_3 = sales_of_parts "and p_brand1 = 'MFGR#2221' and s_region = 'EUROPE'"
 
 abbrev pub q3_1 : List ℕ
 q3_1 =
@@ -80,42 +68,39 @@ q3_1 =
     ∷ "group by c_nation, s_nation, d_year order by d_year asc, revenue desc;"
     ∷ [])
 
-abbrev pub q3_2 : List ℕ
-q3_2 =
+-- the third flight by cities: what sales between these made, with such conditions
+abbrev pub sales_between_cities : List String → List ℕ
+sales_between_cities conditions =
     in_lines
     ("select c_city, s_city, d_year, sum(lo_revenue) as revenue"
     ∷ "from customer, lineorder, supplier, date"
     ∷ "where lo_custkey = c_custkey and lo_suppkey = s_suppkey"
     ∷ "and lo_orderdate = d_datekey"
-    ∷ "and c_nation = 'UNITED STATES' and s_nation = 'UNITED STATES'"
+    ∷ [])
+    ++ in_lines conditions
+    ++ in_lines ("group by c_city, s_city, d_year order by d_year asc, revenue desc;" ∷ [])
+
+abbrev pub q3_2 : List ℕ
+q3_2 =
+    sales_between_cities
+    ("and c_nation = 'UNITED STATES' and s_nation = 'UNITED STATES'"
     ∷ "and d_year >= 1992 and d_year <= 1997"
-    ∷ "group by c_city, s_city, d_year order by d_year asc, revenue desc;"
     ∷ [])
 
 abbrev pub q3_3 : List ℕ
 q3_3 =
-    in_lines
-    ("select c_city, s_city, d_year, sum(lo_revenue) as revenue"
-    ∷ "from customer, lineorder, supplier, date"
-    ∷ "where lo_custkey = c_custkey and lo_suppkey = s_suppkey"
-    ∷ "and lo_orderdate = d_datekey"
-    ∷ "and (c_city = 'UNITED KI1' or c_city = 'UNITED KI5')"
+    sales_between_cities
+    ("and (c_city = 'UNITED KI1' or c_city = 'UNITED KI5')"
     ∷ "and (s_city = 'UNITED KI1' or s_city = 'UNITED KI5')"
     ∷ "and d_year >= 1992 and d_year <= 1997"
-    ∷ "group by c_city, s_city, d_year order by d_year asc, revenue desc;"
     ∷ [])
 
 abbrev pub q3_4 : List ℕ
 q3_4 =
-    in_lines
-    ("select c_city, s_city, d_year, sum(lo_revenue) as revenue"
-    ∷ "from customer, lineorder, supplier, date"
-    ∷ "where lo_custkey = c_custkey and lo_suppkey = s_suppkey"
-    ∷ "and lo_orderdate = d_datekey"
-    ∷ "and (c_city = 'UNITED KI1' or c_city = 'UNITED KI5')"
+    sales_between_cities
+    ("and (c_city = 'UNITED KI1' or c_city = 'UNITED KI5')"
     ∷ "and (s_city = 'UNITED KI1' or s_city = 'UNITED KI5')"
     ∷ "and d_yearmonth = 'Dec1997'"
-    ∷ "group by c_city, s_city, d_year order by d_year asc, revenue desc;"
     ∷ [])
 
 abbrev pub q4_1 : List ℕ

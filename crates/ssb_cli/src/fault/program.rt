@@ -1,7 +1,7 @@
 // Why the program has no answer.
 
-use ssb_answer::RunFault;
 use ssb_load::LoadFault;
+use ssb_reply::RunFault;
 use std::alloc::AllocError;
 
 /// The first fault of the program, in the order of its work.

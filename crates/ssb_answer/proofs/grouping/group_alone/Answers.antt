@@ -3,7 +3,7 @@ use Rattle.std.specs.Arc.{arc_value}
 use Rattle.ssb_job.specs.Kept.{JobShape}
 use Rattle.ssb_groups.specs.Stands.{GroupMap, Stands}
 use Rattle.ssb_pipeline.specs.Part.{IsOpening}
-use Rattle.ssb_answer.specs.Reply.{seen_rows}
+use Rattle.ssb_reply.specs.Reply.{seen_rows}
 use Rattle.ssb_answer.proofs.Alone.{worked-off}
 use Rattle.ssb_answer.proofs.grouping.group_alone.Goals as goal
 

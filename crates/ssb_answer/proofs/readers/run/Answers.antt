@@ -1,6 +1,6 @@
 use Rattle.std.proofs.Common.{map}
 use Rattle.ssb_load.specs.Joined.{all_of, given_upto, sources_in}
-use Rattle.ssb_answer.specs.Reply.{Replies}
+use Rattle.ssb_reply.specs.Reply.{Replies}
 use Rattle.ssb_answer.proofs.Fresh.{told-whole}
 use Rattle.ssb_answer.proofs.readers.run.Goals as goal
 

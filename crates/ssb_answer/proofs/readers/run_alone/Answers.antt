@@ -1,4 +1,4 @@
-use Rattle.ssb_answer.specs.Reply.{Replies}
+use Rattle.ssb_reply.specs.Reply.{Replies}
 use Rattle.ssb_answer.proofs.Fresh.{told-whole}
 use Rattle.ssb_answer.proofs.readers.run_alone.Goals as goal
 

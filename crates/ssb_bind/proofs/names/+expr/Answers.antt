@@ -2,6 +2,7 @@ use Rattle.std.proofs.Common.{◌≡◌, Some, None, find, map, sym, ◌∙◌, 
 use Rattle.std.specs.Option.{option_copied}
 use Rattle.ssb_bind.specs.Columns.{is_wrong}
 use Rattle.ssb_bind.specs.Names as names
+use Rattle.ssb_query.specs.Star.{concat}
 use Rattle.ssb_bind.proofs.Finding.{find_front, find_back, part_has, part_lacks}
 use Rattle.ssb_bind.proofs.ExprFacts.{names_of_chain, names_of_step}
 use Rattle.ssb_bind.proofs.names.+expr.Goals as goal
@@ -32,5 +33,5 @@ pub in_expr-returns-in-None : goal.in_expr-returns-in-None
 in_expr-returns-in-None t c =
     let wrong = is_wrong c.args.sought.catalog.now c.args.sought.from.now c.args.sought.wrong in
     let none : find wrong (names.expr_names c.in-Chain.first) ≡ None = search rules in
-    let rest : find wrong (names.concat (map names.step_names c.in-Chain.steps)) ≡ option_copied c.in_steps.result = search rules in
+    let rest : find wrong (concat (map names.step_names c.in-Chain.steps)) ≡ option_copied c.in_steps.result = search rules in
     rw c.in-Chain.is (sym (ap (find wrong) (names_of_chain c.in-Chain.first c.in-Chain.steps) ∙ find_back wrong (names.expr_names c.in-Chain.first) _ none ∙ rest))

@@ -1,6 +1,7 @@
 use Rattle.std.proofs.Common.{◌≡◌, find, drop, map}
 use Rattle.ssb_bind.specs.Columns.{is_wrong}
-use Rattle.ssb_bind.specs.Names.{concat, step_names, expr_names}
+use Rattle.ssb_query.specs.Star.{concat}
+use Rattle.ssb_bind.specs.Names.{step_names, expr_names}
 use Rattle.ssb_bind.proofs.names.+expr.Given as goal
 
 abbrev pub invariant-in_steps-loop-step : goal.invariant-in_steps-loop-step

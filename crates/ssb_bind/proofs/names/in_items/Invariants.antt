@@ -1,6 +1,7 @@
 use Rattle.std.proofs.Common.{◌≡◌, find, drop, map}
 use Rattle.ssb_bind.specs.Columns.{is_wrong}
-use Rattle.ssb_bind.specs.Names.{concat, item_names}
+use Rattle.ssb_query.specs.Star.{concat}
+use Rattle.ssb_bind.specs.Names.{item_names}
 use Rattle.ssb_bind.proofs.names.in_items.Given as goal
 
 abbrev pub invariant-loop-item : goal.invariant-loop-item

@@ -4,7 +4,7 @@ use Rattle.ssb_cells.specs.Codes.{texts_of}
 use Rattle.ssb_cells.specs.Stored.{cells_by, cells_in, kind_of}
 use Rattle.ssb_cells.specs.declared.column.Stored.{Stored}
 use Rattle.ssb_cells.specs.declared.column.Stored.TheVariants as stored
-use Rattle.ssb_cells.specs.declared.value.ColType.TheVariants as kinds
+use Rattle.ssb_terms.specs.declared.rule.ColType.TheVariants as kinds
 use Rattle.ssb_cells.proofs.column.numbers_have_no_text.Goals as goal
 
 no-text : (nulls : List Bool) (numbers : List ℤ) → texts_of (cells_by number nulls numbers) ≡ []

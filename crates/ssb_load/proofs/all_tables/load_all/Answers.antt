@@ -1,7 +1,5 @@
-use Rattle.std.proofs.Common.{◌≡◌, ◌<◌, ◌≤◌, Err, Ok, add-one, ap, get_or, length, refl, subst, arith}
+use Rattle.std.proofs.Common.{◌<◌, ◌≤◌, Err, Ok, add-one, length, refl, arith}
 use Rattle.std.specs.Prelude.{slice_set}
-use Rattle.ssb_load.specs.Loading.{rules_at}
-use Rattle.ssb_load.specs.Runs.{IsLoaded}
 use Rattle.ssb_load.proofs.LoadingAll.{begun-all, begun-length, begun-next, begun-refused, begun-stops, ran-ended, ran-failed, ran-grows, ran-lawful, ran-loads, ran-told}
 use Rattle.ssb_load.proofs.LoadingAll.Begun.{start}
 use Rattle.ssb_load.proofs.all_tables.load_all.Goals as goal
@@ -13,19 +11,13 @@ pub returns-in_default-clause-grows : goal.returns-in_default-clause-grows
 returns-in_default-clause-grows g c =
     let same = c.requires in
     let lt : c.loop-number.number < length c.args.catalog.now = rw (← c.tables-number-end.ensures.tables) c.loop-number-test.true in
-    let k = c.loop-number.number in
-    let d = get_or c.loop-number.sources k c.index-sources-number.result in
-    let here : d ≡ get_or c.loop-number.sources k d = ap (λ x. get_or c.loop-number.sources k x) c.index-sources-number.is in
-    begun-refused g.S.Source d c.load_in_pieces.new.source c.loop-number.invariant.begun (omega (arith, lt, same)) (rw (← here) c.load_in_pieces.ensures.grows)
+    begun-refused g.S.Source c.index-sources-number.result c.load_in_pieces.new.source c.loop-number.invariant.begun (omega (arith, lt, same)) c.load_in_pieces.ensures.grows
 
 pub returns-in-Err : goal.returns-in-Err
 returns-in-Err g c =
     let lt : c.loop-number.number < length c.args.catalog.now = rw (← c.tables-number-end.ensures.tables) c.loop-number-test.true in
     let k = c.loop-number.number in
-    let d = get_or c.loop-number.sources k c.index-sources-number.result in
-    let here : d ≡ get_or c.loop-number.sources k d = ap (λ x. get_or c.loop-number.sources k x) c.index-sources-number.is in
-    let turn = subst (λ x. IsLoaded g.S.Source (rules_at c.args.catalog.now k) x c.load_in_pieces.new.source (Err c.in-Err.fault)) here c.in-Err.ensures in
-    let stops = begun-stops g.S.Source 0 k d c.load_in_pieces.new.source c.in-Err.fault (omega arith) c.loop-number.invariant.begun lt c.requires turn in
+    let stops = begun-stops g.S.Source 0 k c.index-sources-number.result c.load_in_pieces.new.source c.in-Err.fault (omega arith) c.loop-number.invariant.begun lt c.requires c.in-Err.ensures in
     let after = slice_set c.loop-number.sources k c.load_in_pieces.new.source in
     let r = Err (record { table = k; fault = c.in-Err.fault }) in
     record {
@@ -41,12 +33,8 @@ returns-in-Err g c =
 pub loop-number-preserved : goal.loop-number-preserved
 loop-number-preserved g c =
     let lt : c.loop-number.number < length c.args.catalog.now = rw (← c.tables-number-end.ensures.tables) c.loop-number-test.true in
-    let k = c.loop-number.number in
-    let d = get_or c.loop-number.sources k c.index-sources-number.result in
-    let here : d ≡ get_or c.loop-number.sources k d = ap (λ x. get_or c.loop-number.sources k x) c.index-sources-number.is in
-    let turn = subst (λ x. IsLoaded g.S.Source (rules_at c.args.catalog.now k) x c.load_in_pieces.new.source (Ok c.in-Ok.table)) here c.in-Ok.ensures in
-    let begun = begun-next g.S.Source d c.load_in_pieces.new.source c.in-Ok.table c.loop-number.invariant.begun lt c.requires turn in
-    record { count = begun-length g.S.Source begun; begun = rw (c.in-Ok-push.ensures.items, add-one k) begun }
+    let begun = begun-next g.S.Source c.index-sources-number.result c.load_in_pieces.new.source c.in-Ok.table c.loop-number.invariant.begun lt c.requires c.in-Ok.ensures in
+    record { count = begun-length g.S.Source begun; begun = rw (c.in-Ok-push.ensures.items, add-one c.loop-number.number) begun }
 
 pub returns : goal.returns
 returns g c =

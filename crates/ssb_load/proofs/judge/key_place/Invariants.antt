@@ -1,5 +1,5 @@
 use Rattle.std.proofs.Common.{◌≡◌, drop}
-use Rattle.ssb_load.specs.Rules.{key_from}
+use Rattle.ssb_terms.specs.Roles.{key_from}
 use Rattle.ssb_load.proofs.judge.key_place.Given as goal
 
 abbrev pub invariant-loop-k : goal.invariant-loop-k

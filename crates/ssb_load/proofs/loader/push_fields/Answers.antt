@@ -2,8 +2,8 @@ use Rattle.std.proofs.Common.{◌≡◌, ◌∙◌, length, sym, ap, arith}
 use Rattle.csv.specs.Records.{fields_of}
 use Rattle.ssb_load.proofs.RuleFacts.{sized-len, front-len, front-more, any-step, column-size, column-kind}
 use Rattle.ssb_load.specs.Loader.{fails_some}
-use Rattle.ssb_cells.specs.declared.value.ColType.TheVariants as kinds
-use Rattle.ssb_load.specs.declared.rule.Role.TheVariants as roles
+use Rattle.ssb_terms.specs.declared.rule.ColType.TheVariants as kinds
+use Rattle.ssb_terms.specs.declared.rule.Role.TheVariants as roles
 use Rattle.ssb_load.proofs.KeyFacts.{among-all, among-more, told}
 use Rattle.ssb_load.proofs.loader.push_fields.Goals as goal
 

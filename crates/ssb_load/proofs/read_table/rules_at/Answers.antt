@@ -1,5 +1,5 @@
 use Rattle.std.proofs.Common.{◌≡◌, ◌<◌, ◌∙◌, ap, length}
-use Rattle.ssb_load.specs.Lawful.{HasOneKey}
+use Rattle.ssb_cells.specs.Lawful.{HasOneKey}
 use Rattle.ssb_load.specs.Loading.{rules_at}
 use Rattle.ssb_load.proofs.OneKey.{HasRules, has-rules, ok-map, rule_list}
 use Rattle.ssb_load.proofs.read_table.rules_at.Goals as goal

@@ -1,5 +1,5 @@
 use Rattle.std.proofs.Common.{◌≡◌, true, sym, subst, ◌∙◌}
-use Rattle.ssb_cells.specs.Names.{is_word}
+use Rattle.ssb_terms.specs.Names.{is_word}
 use Rattle.ssb_sql.proofs.ReservedWords.{name_from_no_keyword}
 use Rattle.ssb_sql.proofs.TokenSound.{run_is_word}
 use Rattle.ssb_sql.proofs.lex.word_token.Goals as goal

@@ -10,11 +10,11 @@ decreases-test l = 6 * l.depth + 1
 abbrev pub decreases-negation : goal.decreases-negation
 decreases-negation l = 6 * l.depth + 2
 
-abbrev pub decreases-conjunction-chain : goal.decreases-conjunction-chain
-decreases-conjunction-chain l = 6 * l.depth + 3
+abbrev pub decreases-conjunction-made : goal.decreases-conjunction-made
+decreases-conjunction-made l = 6 * l.depth + 3
 
 abbrev pub decreases-conjunction : goal.decreases-conjunction
 decreases-conjunction l = 6 * l.depth + 4
 
-abbrev pub decreases-condition-chain : goal.decreases-condition-chain
-decreases-condition-chain l = 6 * l.inside + 5
+abbrev pub decreases-condition-made : goal.decreases-condition-made
+decreases-condition-made l = 6 * l.inside + 5

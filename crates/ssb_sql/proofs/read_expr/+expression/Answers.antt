@@ -1,24 +1,19 @@
-use Rattle.std.proofs.Common.{[], refl, sym, arith, rules}
+use Rattle.std.proofs.Common.{[], sym, arith, rules}
 use Rattle.std.proofs.lemmas.Result.{err_from_is_err_and}
+use Rattle.ssb_sql.specs.declared.expr.Expr.TheVariants as expressions
 use Rattle.ssb_sql.specs.Steps.{more_at}
 use Rattle.ssb_sql.specs.ReadExpressions.{factor_at, term_at, adding_at, step_at, expr_at}
-use Rattle.ssb_sql.proofs.Loop.{bind_fails, goes_on, is_done, turn_fails, shorter_by}
+use Rattle.ssb_sql.proofs.Loop.{goes_on, is_done, turn_fails, shorter_by}
 use Rattle.ssb_sql.proofs.ExpressionSound.{factor_shrinks, step_shrinks}
 use Rattle.ssb_sql.proofs.SumFacts.{step_reads, step_stops, sum_reads, sum_stops}
 use Rattle.ssb_sql.proofs.read_expr.+expression.Goals as goal
 
-pub term-chain-requires-clause-shrinks : goal.term-chain-requires-clause-shrinks
-term-chain-requires-clause-shrinks t c = (factor_at (expr_at c.args.depth), factor_shrinks c.args.depth, λ ts r h. search rules)
-
-pub term-returns-in_err-all : goal.term-returns-in_err-all
-unfolding term_at
-term-returns-in_err-all t c =
-    let q = err_from_is_err_and c.from_residual.result c.from_residual.ensures.1 in
-    rw (q.1, q.2) (bind_fails c.in_err-all.field-0.0 _ _ (c.in_err-all.ensures (factor_at (expr_at c.args.depth)) (factor_shrinks c.args.depth) (λ ts r h. search rules)))
+pub term-made-requires-clause-shrinks : goal.term-made-requires-clause-shrinks
+term-made-requires-clause-shrinks t c = (factor_at (expr_at c.args.depth), factor_shrinks c.args.depth, λ ts r h. search rules)
 
 pub term-returns : goal.term-returns
 unfolding term_at
-term-returns t c = rw (c.in_ok-all.ensures (factor_at (expr_at c.args.depth)) (factor_shrinks c.args.depth) (λ ts r h. search rules), c.times_of.ensures) refl
+term-returns t c = c.made.ensures expressions.Times (λ xs x h. search rules) (factor_at (expr_at c.args.depth)) (factor_shrinks c.args.depth) (λ ts r h. search rules)
 
 pub more_terms-returns-in_err-term : goal.more_terms-returns-in_err-term
 more_terms-returns-in_err-term t c =

@@ -12,8 +12,8 @@ decreases-primary l = 6 * l.depth + 1
 abbrev pub decreases-factor : goal.decreases-factor
 decreases-factor l = 6 * l.depth + 2
 
-abbrev pub decreases-term-chain : goal.decreases-term-chain
-decreases-term-chain l = 6 * l.depth + 3
+abbrev pub decreases-term-made : goal.decreases-term-made
+decreases-term-made l = 6 * l.depth + 3
 
 abbrev pub decreases-term : goal.decreases-term
 decreases-term l = 6 * l.depth + 4

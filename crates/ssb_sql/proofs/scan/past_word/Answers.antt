@@ -1,5 +1,5 @@
 use Rattle.std.proofs.Common.{sym, ◌∙◌}
-use Rattle.ssb_cells.specs.Names.{is_word_byte}
+use Rattle.ssb_terms.specs.Names.{is_word_byte}
 use Rattle.ssb_sql.proofs.ScanSteps.{ends, takes}
 use Rattle.ssb_sql.proofs.scan.past_word.Goals as goal
 

@@ -1,5 +1,5 @@
 use Rattle.std.proofs.Common.{◌≡◌, length}
-use Rattle.ssb_cells.specs.Names.{is_word_byte}
+use Rattle.ssb_terms.specs.Names.{is_word_byte}
 use Rattle.ssb_sql.specs.Scanning.{past}
 use Rattle.ssb_sql.proofs.scan.past_word.Given as goal
 

@@ -1,4 +1,4 @@
-use Rattle.ssb_cells.specs.Names.{is_word_byte}
+use Rattle.ssb_terms.specs.Names.{is_word_byte}
 use Rattle.ssb_sql.proofs.ScanSteps.{past_le, run_taken}
 use Rattle.ssb_sql.proofs.scan.word.Goals as goal
 

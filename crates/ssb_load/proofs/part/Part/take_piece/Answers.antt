@@ -3,9 +3,9 @@ use Rattle.ssb_load.specs.Part.{RefusesPart, IsPart}
 use Rattle.ssb_load.proofs.PartTaking.{back-lines, cut-head, if-err, on-ok}
 use Rattle.ssb_load.proofs.part.Part.take_piece.Goals as goal
 
-pub take_lines-requires-2-clause-part : goal.take_lines-requires-2-clause-part
-take_lines-requires-2-clause-part c =
-    (_, cut-head c.args.self.now _ c.requires.part.0 c.in-Some.front.now c.if-self.false c.requires.part.1 refl c.in_ok-keep.ensures.kept refl refl c.in-Some.ensures.line)
+pub take_lines-requires-2-clause-line : goal.take_lines-requires-2-clause-line
+take_lines-requires-2-clause-line c =
+    (_, c.requires.1, cut-head c.args.self.now _ c.requires.0 c.in-Some.front.now c.if-self.false c.requires.2 refl c.in_ok-keep.ensures.kept refl refl c.in-Some.ensures.line)
 
 pub returns-clause-taken : goal.returns-clause-taken
 returns-clause-taken c =

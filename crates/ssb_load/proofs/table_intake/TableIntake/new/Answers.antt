@@ -1,5 +1,5 @@
 use Rattle.std.proofs.Common.{◌∙◌, refl, ap, arith}
-use Rattle.ssb_load.specs.Rules.{key_place}
+use Rattle.ssb_terms.specs.Roles.{key_place}
 use Rattle.ssb_load.proofs.FaultFacts.{fault-none}
 use Rattle.ssb_load.proofs.HoldsFacts.{holds-none}
 use Rattle.ssb_load.proofs.table_intake.TableIntake.new.Goals as goal

@@ -1,0 +1,2 @@
+pub mod Star
+pub mod Tables

@@ -1,0 +1,53 @@
+// How the work of a run is cut and shared.
+
+ghost use Rattle.std.specs.Prelude.{◌≡◌, MatchOption};
+ghost use Rattle.ssb_reply.specs.Settings.{AreInRange};
+
+/// How many workers there are where nothing else is said.
+pub const DEFAULT_WORKERS: u32 = 4;
+
+/// How many rows a morsel has where nothing else is said.
+pub const DEFAULT_MORSEL_SIZE: u32 = 10_000;
+
+/// How many parts there are where nothing else is said.
+pub const DEFAULT_PARTS: u32 = 1;
+
+/// How the work of a run is cut and shared. It changes no answer.
+#[derive(Clone, Copy)]
+pub struct Settings {
+    /// How many workers take morsels, each in a thread of its own: 1 to 64.
+    pub workers: u32,
+    /// How many rows of the fact table are one morsel: 1 to 1,048,576.
+    pub morsel_size: u32,
+    /// Of how many parts, one for each section of the morsels, workers take them: 1 to 16.
+    pub parts: u32,
+    ghost in_range: { AreInRange workers morsel_size parts },
+}
+
+impl Settings {
+    const MAX_WORKERS: u32 = 64;
+
+    const MAX_MORSEL_SIZE: u32 = 1_048_576;
+
+    const MAX_PARTS: u32 = 16;
+
+    /// Settings of these numbers; none where one is outside its range.
+    pub fn new(workers: u32, morsel_size: u32, parts: u32) -> Option<Settings>
+        ensures { MatchOption result (AreInRange workers morsel_size parts → ⊥) (λ s. (s.workers ≡ workers) × (s.morsel_size ≡ morsel_size) × (s.parts ≡ parts)) }
+    {
+        if workers == 0 || workers > Settings::MAX_WORKERS {
+            return None;
+        }
+        if morsel_size == 0 || morsel_size > Settings::MAX_MORSEL_SIZE {
+            return None;
+        }
+        if parts == 0 || parts > Settings::MAX_PARTS {
+            return None;
+        }
+        Some(Settings {
+            workers,
+            morsel_size,
+            parts,
+        })
+    }
+}

@@ -1,0 +1,6 @@
+pub mod Bridge
+pub mod EntryFacts
+pub mod Going
+pub mod Members
+pub mod Orders
+pub mod Written

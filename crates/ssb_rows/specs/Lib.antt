@@ -1,0 +1,6 @@
+pub mod Entries
+pub mod Order
+pub mod Result
+pub mod Taking
+pub mod Text
+pub mod Writing

@@ -1,0 +1,89 @@
+-- What a query answers of the rows that WHERE keeps: a row for each group, or the overflow.
+-- Source: SQL-92, 6.5 <set function specification>, 7.7 <group by clause>, 7.9 <query specification>; that an overflow of a row goes before one of a
+-- sum, and that only the exact sum has a range, are this project's own.
+use Rattle.std.specs.Prelude.{◌≡◌, ℕ, ◌==◌, pos, Bool, true, false, not, if◌then◌else◌, List, [], ◌∷◌, map, length, Option, None, Some, Result, Ok, Err, slice_get, unwrap_or, ⊤, All}
+use Rattle.std.specs.List.{filter, list_any, range_with_len}
+use Rattle.ssb_cells.specs.Cell.{Cell, null, number, text}
+use Rattle.ssb_query.specs.declared.condition.BoundColumn.{BoundColumn}
+use Rattle.ssb_query.specs.declared.query.Aggregate.{Aggregate}
+use Rattle.ssb_query.specs.declared.query.Aggregate.TheVariants as aggregate
+use Rattle.ssb_query.specs.declared.query.QueryParts.{QueryParts}
+use Rattle.ssb_query.specs.declared.query.Origin.{Origin}
+use Rattle.ssb_query.specs.declared.query.Origin.TheVariants as origin
+use Rattle.ssb_groups.specs.Rows.{Key, key_eq, SeenRow}
+use Rattle.ssb_groups.specs.Stands.{overflows, least, value_count, exact_sum, arguments_at, group}
+use Rattle.ssb_groups.specs.Value.{Outcome, in_range}
+use Rattle.ssb_rows.specs.Order.{Row, IsOrdered}
+use Rattle.ssb_rows.specs.declared.fault.AnswerFault.{AnswerFault}
+use Rattle.ssb_rows.specs.declared.fault.AnswerFault.TheVariants as fault
+
+-- ---- groups
+
+-- each key once
+abbrev pub distinct : List Key → List Key
+distinct [] = []
+distinct (k ∷ ks) = k ∷ filter (λ j. not (key_eq k j)) (distinct ks)
+
+-- the keys of the rows, nulls equal
+abbrev pub present : List SeenRow → List Key
+present R = distinct (map (λ r. r.key) R)
+
+-- the keys of the groups: without GROUP BY the whole is one group, also where it is empty
+abbrev pub keys : List BoundColumn → List SeenRow → List Key
+keys [] R = [] ∷ []
+keys (x ∷ xs) R = present R
+
+-- ---- aggregates
+
+-- the value of an aggregate over its argument's values: SUM is null over no value, else the exact sum; COUNT counts values
+abbrev pub agg : Aggregate → List Outcome → Cell
+agg (aggregate.Sum e) xs = if value_count xs == 0 then null else number (exact_sum xs)
+agg aggregate.CountRows xs = number (pos (value_count xs))
+agg (aggregate.Count e) xs = number (pos (value_count xs))
+
+abbrev pub agg_if : Option Aggregate → List Outcome → Cell
+agg_if None xs = null
+agg_if (Some a) xs = agg a xs
+
+-- the i-th aggregate of a group
+abbrev pub agg_at : QueryParts → List SeenRow → ℕ → Cell
+agg_at q G i = agg_if (slice_get q.aggregates i) (arguments_at i G)
+
+-- a value is beyond the range of an `int`; a COUNT of fewer than 2^63 rows is not
+abbrev pub is_beyond : Cell → Bool
+is_beyond null = false
+is_beyond (number n) = not (in_range n)
+is_beyond (text t) = false
+
+abbrev pub has_beyond : QueryParts → List SeenRow → Bool
+has_beyond q G = list_any (λ i. is_beyond (agg_at q G i)) (range_with_len 0 (length q.aggregates))
+
+-- some sum of a group leaves the range
+abbrev pub leaves_range : QueryParts → List SeenRow → Bool
+leaves_range q R = list_any (λ k. has_beyond q (group k R)) (keys q.groups R)
+
+-- ---- rows
+
+abbrev pub item_cell : QueryParts → List SeenRow → Key → Origin → Cell
+item_cell q G k (origin.Group i) = unwrap_or (slice_get k i) null
+item_cell q G k (origin.Aggregate i) = agg_at q G i
+
+-- the row of a group
+abbrev pub row_of : QueryParts → List SeenRow → Key → Row
+row_of q G k = map (λ item. item_cell q G k item.origin) q.items
+
+-- one row for each key, in no order
+abbrev pub bag : QueryParts → List SeenRow → List Row
+bag q R = map (λ k. row_of q (group k R) k) (keys q.groups R)
+
+-- keys have a value for each group column
+abbrev pub AreKeyed : QueryParts → List SeenRow → Type 0
+AreKeyed q R = All (λ r. length r.key ≡ length q.groups) R
+
+-- The ordered rows; or the least fact row of an overflow; or, where there is none, that a sum leaves the range; or that a growth was refused.
+abbrev pub Answers : QueryParts → List SeenRow → Result (List Row) AnswerFault → Type 0
+Answers q R (Ok rows) = (least (overflows R) ≡ None) × (leaves_range q R ≡ false) × IsOrdered q.orders (bag q R) rows
+Answers q R (Err (fault.RowOverflow n)) = least (overflows R) ≡ Some n
+Answers q R (Err fault.SumOutOfRange) = (least (overflows R) ≡ None) × (leaves_range q R ≡ true)
+Answers q R (Err fault.Memory) = ⊤
+Answers q R (Err fault.Write) = ⊥

@@ -1,0 +1,3 @@
+pub mod LowerFacts
+pub mod NameFacts
+pub mod RoleFacts

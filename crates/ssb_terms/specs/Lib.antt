@@ -1,0 +1,3 @@
+pub mod Keywords
+pub mod Names
+pub mod Roles

@@ -2,7 +2,7 @@ use Rattle.std.proofs.Common.{◌++◌, ◌∙◌, Bool, ap, subst, sym}
 use Rattle.std.proofs.lemmas.Result.{err_from_is_err_and}
 use Rattle.ssb_load.specs.Part.{IsPart}
 use Rattle.ssb_load.specs.Pieces.{Hands, handed, rest_of}
-use Rattle.ssb_load.proofs.PartReading.{halts-given, read-never, tail-next}
+use Rattle.ssb_load.proofs.PartReading.{broken-off, halts-given, read-never, tail-next}
 use Rattle.ssb_load.proofs.part.Part.read.Goals as goal
 
 pub returns-in_err-take_piece-clause-halts : goal.returns-in_err-take_piece-clause-halts
@@ -32,3 +32,14 @@ loop-preserved g c =
       part = subst (IsPart c.take_piece.new.self) (sym c.fill.ensures.handed) (rw c.piece.ensures at (c.in_ok-take_piece.ensures.taken (handed c.loop.pieces) inv.part));
       tail = tail-next c.take_piece.new.self q hands (rw c.piece.ensures at c.in_ok-take_piece.ensures.lines);
     }
+
+pub returns-in-Ok-false-clause-halts : goal.returns-in-Ok-false-clause-halts
+returns-in-Ok-false-clause-halts g c =
+    let inv = c.loop.invariant in
+    let p = c.loop.pieces in
+    let q = c.fill.new.self in
+    let begun = ap (λ s. s.value) c.fill.ensures.begun ∙ inv.begun in
+    let told = c.fill.ensures.follows.told ∙ ap (λ s. g.S.Source.given s ++ (handed q ++ rest_of q)) begun in
+    let failed = sym c.has_failed.ensures ∙ c.if-has_failed.true in
+    let hands = let P : Bool → Type 0 = λ b. Hands b q in subst P c.in-Ok-false.field-0-test c.in-Ok-false.ensures.hands in
+    broken-off c.loop.self p q _ _ failed hands c.fill.ensures.handed told c.fill.ensures.stays inv.tail inv.part

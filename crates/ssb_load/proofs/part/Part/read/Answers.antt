@@ -35,11 +35,11 @@ loop-preserved g c =
 
 pub returns-in-Ok-false-clause-halts : goal.returns-in-Ok-false-clause-halts
 returns-in-Ok-false-clause-halts g c =
-    let inv = c.loop.invariant in
-    let p = c.loop.pieces in
     let q = c.fill.new.self in
-    let begun = ap (λ s. s.value) c.fill.ensures.begun ∙ inv.begun in
-    let told = c.fill.ensures.follows.told ∙ ap (λ s. g.S.Source.given s ++ (handed q ++ rest_of q)) begun in
-    let failed = sym c.has_failed.ensures ∙ c.if-has_failed.true in
-    let hands = let P : Bool → Type 0 = λ b. Hands b q in subst P c.in-Ok-false.field-0-test c.in-Ok-false.ensures.hands in
-    broken-off c.loop.self p q _ _ failed hands c.fill.ensures.handed told c.fill.ensures.stays inv.tail inv.part
+    let base = ap (λ s. s.value) c.fill.ensures.begun ∙ c.loop.invariant.begun in
+    broken-off c.loop.self c.loop.pieces q _ _
+    (sym c.has_failed.ensures ∙ c.if-has_failed.true)
+    (let P : Bool → Type 0 = λ b. Hands b q in subst P c.in-Ok-false.field-0-test c.in-Ok-false.ensures.hands)
+    c.fill.ensures.handed
+    (c.fill.ensures.follows.told ∙ ap (λ s. g.S.Source.given s ++ (handed q ++ rest_of q)) base)
+    c.fill.ensures.stays c.loop.invariant.tail c.loop.invariant.part

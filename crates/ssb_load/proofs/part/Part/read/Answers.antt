@@ -1,8 +1,8 @@
-use Rattle.std.proofs.Common.{◌++◌, ◌∙◌, ◌<◌, Bool, ap, subst, sym}
+use Rattle.std.proofs.Common.{◌++◌, ◌∙◌, Bool, ap, subst, sym}
 use Rattle.std.proofs.lemmas.Result.{err_from_is_err_and}
 use Rattle.ssb_load.specs.Part.{IsPart}
 use Rattle.ssb_load.specs.Pieces.{Hands, handed, rest_of}
-use Rattle.ssb_load.proofs.PartReading.{all-taken, broken-off, halts-given, read-never, tail-next}
+use Rattle.ssb_load.proofs.PartReading.{broken-off, halts-given, read-never, tail-next}
 use Rattle.ssb_load.proofs.part.Part.read.Goals as goal
 
 pub returns-in_err-take_piece-clause-halts : goal.returns-in_err-take_piece-clause-halts
@@ -43,19 +43,3 @@ returns-in-Ok-false-clause-halts g c =
     c.fill.ensures.handed
     (c.fill.ensures.follows.told ∙ ap (λ s. g.S.Source.given s ++ (handed q ++ rest_of q)) base)
     c.fill.ensures.stays c.loop.invariant.tail c.loop.invariant.part
-
-pub returns-in-Ok-false-clause-broken : goal.returns-in-Ok-false-clause-broken
-returns-in-Ok-false-clause-broken g c =
-    let base = ap (λ s. s.value) c.fill.ensures.begun ∙ c.loop.invariant.begun in
-    subst (λ s. g.S.Source.failures s < g.S.Source.failures c.fill.new.source) base (c.fill.ensures.follows.broken (sym c.has_failed.ensures ∙ c.if-has_failed.true))
-
-pub returns-in-Ok-false-2-clause-taken : goal.returns-in-Ok-false-2-clause-taken
-returns-in-Ok-false-2-clause-taken g c =
-    let q = c.fill.new.self in
-    let base = ap (λ s. s.value) c.fill.ensures.begun ∙ c.loop.invariant.begun in
-    all-taken c.loop.self c.loop.pieces q _ _
-    (sym c.has_failed.ensures ∙ c.if-has_failed.false)
-    (let P : Bool → Type 0 = λ b. Hands b q in subst P c.in-Ok-false.field-0-test c.in-Ok-false.ensures.hands)
-    c.fill.ensures.handed
-    (c.fill.ensures.follows.told ∙ ap (λ s. g.S.Source.given s ++ (handed q ++ rest_of q)) base)
-    c.loop.invariant.part

@@ -1,13 +1,13 @@
 -- Counting what a name or a key fits.
 use Rattle.std.proofs.Common.{◌≡◌, ℕ, ◌+◌, ◌<◌, List, [], ◌∷◌, ◌++◌, length, drop, get_or, fold, slice_get, refl, sym, ap, ◌∙◌}
 use Rattle.ssb_load.specs.Shapes.{TableShape}
-use Rattle.ssb_sql.specs.declared.expr.ColumnName.{ColumnName}
+use Rattle.ssb_sql.specs.declared.named.ColumnName.{ColumnName}
 use Rattle.ssb_bind.specs.Binding.{and_one}
 use Rattle.ssb_bind.specs.Columns.{fit_of, fitting_in, fitting_from}
-use Rattle.ssb_query.specs.declared.condition.BoundColumn.{BoundColumn}
+use Rattle.ssb_query.specs.declared.column.BoundColumn.{BoundColumn}
 use Rattle.ssb_bind.specs.declared.fit.Fit.{Fit}
 use Rattle.ssb_bind.specs.declared.fit.Fit.TheVariants as fit
-use Rattle.ssb_bind.proofs.Finding.{here}
+use Rattle.ssb_trees.proofs.Finding.{here}
 
 fold-append : {A B : Type 0} (f : B → A → B) (b : B) (xs ys : List A) → fold f b (xs ++ ys) ≡ fold f (fold f b xs) ys
 fold-append f b [] ys = refl

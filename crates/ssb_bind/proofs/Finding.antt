@@ -1,53 +1,48 @@
--- The first of two lists.
-use Rattle.std.proofs.Common.{◌≡◌, ℕ, ◌+◌, ◌<◌, Bool, true, false, cond, ◌||◌, List, [], ◌∷◌, ◌++◌, length, get_or, drop, map, Option, Some, None, find, refl, sym, ap, ◌∙◌}
+-- The first name that passes a test, of the first operand that has one.
+use Rattle.std.proofs.Common.{◌≡◌, ◌⊎◌, Bool, true, false, cond, ◌||◌, List, [], ◌∷◌, ◌++◌, map, Option, Some, None, find, refl, ap, ◌∙◌, inl, inr}
 use Rattle.std.specs.List.{list_any}
-use Rattle.std.proofs.lemmas.List.{drop_more}
-use Rattle.std.proofs.lemmas.List.Folds.{list_any-append}
-use Rattle.ssb_query.specs.Star.{concat}
+use Rattle.ssb_trees.specs.Lists.{concat}
 
-step_some : {X : Type 0} (b : Bool) (x y : X) (r s : Option X) → (r ≡ Some y → s ≡ Some y) → cond b (Some x) r ≡ Some y → cond b (Some x) s ≡ Some y
-step_some true x y r s h e = e
-step_some false x y r s h e = h e
+skip : {X : Type 0} (b : Bool) (x : X) (t : Bool) (r s : Option X) → (t ≡ false → r ≡ s) → (b || t) ≡ false → cond b (Some x) r ≡ s
+skip true x t r s h e = absurd cc
+skip false x t r s h e = h e
 
-pub find_front : {X : Type 0} (p : X → Bool) (xs ys : List X) (x : X) → find p xs ≡ Some x → find p (xs ++ ys) ≡ Some x
-find_front p [] ys x e = absurd cc
-find_front p (y ∷ xs) ys x e = step_some (p y) y x (find p xs) (find p (xs ++ ys)) (find_front p xs ys x) e
+-- what is found is behind a list in which none passes
+behind : {X : Type 0} (p : X → Bool) (xs ys : List X) → list_any p xs ≡ false → find p (xs ++ ys) ≡ find p ys
+behind p [] ys e = refl
+behind p (x ∷ xs) ys e = skip (p x) x (list_any p xs) (find p (xs ++ ys)) (find p ys) (behind p xs ys) e
 
-step_none : {X : Type 0} (b : Bool) (x : X) (r s t : Option X) → (r ≡ None → s ≡ t) → cond b (Some x) r ≡ None → cond b (Some x) s ≡ t
-step_none true x r s t h e = absurd cc
-step_none false x r s t h e = h e
+keep : {X : Type 0} (b : Bool) (x : X) (t : Bool) (r s : Option X) → (t ≡ true → r ≡ s) → (b || t) ≡ true → cond b (Some x) r ≡ cond b (Some x) s
+keep true x t r s h e = refl
+keep false x t r s h e = h e
 
-pub find_back : {X : Type 0} (p : X → Bool) (xs ys : List X) → find p xs ≡ None → find p (xs ++ ys) ≡ find p ys
-find_back p [] ys e = refl
-find_back p (y ∷ xs) ys e = step_none (p y) y (find p xs) (find p (xs ++ ys)) (find p ys) (find_back p xs ys) e
+-- or in a list in which some pass
+within : {X : Type 0} (p : X → Bool) (xs ys : List X) → list_any p xs ≡ true → find p (xs ++ ys) ≡ find p xs
+within p [] ys e = absurd cc
+within p (x ∷ xs) ys e = keep (p x) x (list_any p xs) (find p (xs ++ ys)) (find p xs) (within p xs ys) e
 
--- ---- a loop over parts, each of which has a list
+none_is : {X : Type 0} (b : Bool) (x : X) (r : Option X) → cond b (Some x) r ≡ None → (b ≡ false) × (r ≡ None)
+none_is true x r e = absurd cc
+none_is false x r e = (refl, e)
 
--- what is left from the place i on
-pub here : {X : Type 0} (xs : List X) (i : ℕ) (x : X) → i < length xs → x ≡ get_or xs i x → drop i xs ≡ x ∷ drop (i + 1) xs
-here xs i x below e = drop_more xs i x below ∙ ap (λ y. y ∷ drop (i + 1) xs) (sym e)
-
-module _ {X Y : Type 0} (p : Y → Bool) (f : X → List Y) where
-  abbrev found_in : List X → Option Y
-  found_in xs = find p (concat (map f xs))
-
-  pub part_has : (xs : List X) (i : ℕ) (x : X) (y : Y) (whole : Option Y) → i < length xs → x ≡ get_or xs i x → find p (f x) ≡ Some y → found_in (drop i xs) ≡ whole → Some y ≡ whole
-  part_has xs i x y whole below e h so_far = sym (find_front p (f x) (concat (map f (drop (i + 1) xs))) y h) ∙ sym (ap found_in (here xs i x below e)) ∙ so_far
-
-  pub part_lacks : (xs : List X) (i : ℕ) (x : X) (whole : Option Y) → i < length xs → x ≡ get_or xs i x → find p (f x) ≡ None → found_in (drop i xs) ≡ whole → found_in (drop (i + 1) xs) ≡ whole
-  part_lacks xs i x whole below e h so_far = sym (find_back p (f x) (concat (map f (drop (i + 1) xs))) h) ∙ sym (ap found_in (here xs i x below e)) ∙ so_far
-
--- ---- whether some thing that is found passes a test, part by part
+one_is : {X : Type 0} (b : Bool) (x y : X) (r : Option X) → cond b (Some x) r ≡ Some y → ((b ≡ true) × (x ≡ y)) ⊎ ((b ≡ false) × (r ≡ Some y))
+one_is true x y r e = inl (refl, cc)
+one_is false x y r e = inr (refl, e)
 
 module _ {X Y : Type 0} (p : Y → Bool) (f : X → List Y) where
-  abbrev any_in : List X → Bool
-  any_in xs = list_any p (concat (map f xs))
+  abbrev has : X → Bool
+  has x = list_any p (f x)
 
-  any_here : (xs : List X) (i : ℕ) (x : X) → i < length xs → x ≡ get_or xs i x → any_in (drop i xs) ≡ (list_any p (f x) || any_in (drop (i + 1) xs))
-  any_here xs i x below e = ap any_in (here xs i x below e) ∙ list_any-append p (f x) (concat (map f (drop (i + 1) xs)))
+  pub none_found : (xs : List X) → find has xs ≡ None → find p (concat (map f xs)) ≡ None
+  none_found [] e = refl
+  none_found (x ∷ xs) e =
+      let h = none_is (has x) x (find has xs) e in
+      behind p (f x) (concat (map f xs)) h.0 ∙ none_found xs h.1
 
-  pub any_has : (xs : List X) (i : ℕ) (x : X) (whole : Bool) → i < length xs → x ≡ get_or xs i x → list_any p (f x) ≡ true → any_in (drop i xs) ≡ whole → true ≡ whole
-  any_has xs i x whole below e h so_far = sym (ap (λ b. b || any_in (drop (i + 1) xs)) h) ∙ sym (any_here xs i x below e) ∙ so_far
-
-  pub any_lacks : (xs : List X) (i : ℕ) (x : X) (whole : Bool) → i < length xs → x ≡ get_or xs i x → list_any p (f x) ≡ false → any_in (drop i xs) ≡ whole → any_in (drop (i + 1) xs) ≡ whole
-  any_lacks xs i x whole below e h so_far = sym (ap (λ b. b || any_in (drop (i + 1) xs)) h) ∙ sym (any_here xs i x below e) ∙ so_far
+  pub one_found : (xs : List X) (y : X) → find has xs ≡ Some y → find p (concat (map f xs)) ≡ find p (f y)
+  one_found [] y e = absurd cc
+  one_found (x ∷ xs) y e =
+      elim (one_is (has x) x y (find has xs) e) as (λ _. find p (f x ++ concat (map f xs)) ≡ find p (f y)) [
+        | inl h ↦ within p (f x) (concat (map f xs)) h.0 ∙ ap (λ z. find p (f z)) h.1
+        | inr h ↦ behind p (f x) (concat (map f xs)) h.0 ∙ one_found xs y h.1
+      ]

@@ -1,5 +1,4 @@
 pub mod Counting
-pub mod ExprFacts
 pub mod Finding
 pub mod Least
 pub mod Meaning

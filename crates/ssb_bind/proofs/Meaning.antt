@@ -17,7 +17,7 @@ use Rattle.ssb_bind.specs.Query.{IsQueryOf}
 use Rattle.ssb_query.specs.Star.{IsStar, is_joined, unjoined_from}
 use Rattle.ssb_bind.specs.Rules.{rules_in}
 use Rattle.ssb_query.specs.Tables.{fact_place}
-use Rattle.ssb_query.specs.declared.condition.BoundColumn.{BoundColumn}
+use Rattle.ssb_query.specs.declared.column.BoundColumn.{BoundColumn}
 use Rattle.ssb_bind.specs.declared.fault.BindFault.{BindFault}
 use Rattle.ssb_bind.specs.declared.fault.BindFault.TheVariants as fault
 use Rattle.ssb_bind.specs.declared.fault.TooMany.{TooMany}

@@ -10,20 +10,19 @@ use Rattle.ssb_sql.specs.declared.select.Output.{Output}
 use Rattle.ssb_sql.specs.declared.select.Output.TheVariants as output
 use Rattle.ssb_sql.specs.declared.select.Select.{Select}
 use Rattle.ssb_bind.specs.Binding.{bound_items, bound_order, is_aggregate, origin_of}
-use Rattle.ssb_bind.specs.Bound.{aggregate_of, aggregates_of, bound_expr, bound_where, group_place}
+use Rattle.ssb_bind.specs.Bound.{aggregate_of, aggregates_of, bound_aggregate, bound_where, group_place}
 use Rattle.ssb_bind.specs.Columns.{bound_name, fit_of, table_number, the_one}
 use Rattle.ssb_bind.specs.Faults.{is_ungrouped, not_grouped, own_column, unknown_table}
 use Rattle.ssb_bind.specs.Orders.{bad_from, fits_one, places_for}
 use Rattle.ssb_bind.specs.Query.{aggregate_number, Each, IsItem, IsOrder, IsQueryOf, Shows}
 use Rattle.ssb_query.specs.Tables.{fact_place}
-use Rattle.ssb_query.specs.declared.condition.BoundColumn.{BoundColumn}
-use Rattle.ssb_query.specs.declared.query.Aggregate.{Aggregate}
-use Rattle.ssb_query.specs.declared.query.Aggregate.TheVariants as aggregate
+use Rattle.ssb_query.specs.declared.column.BoundColumn.{BoundColumn}
 use Rattle.ssb_query.specs.declared.query.BoundItem.{BoundItem}
 use Rattle.ssb_query.specs.declared.query.BoundOrder.{BoundOrder}
 use Rattle.ssb_query.specs.declared.query.Origin.{Origin}
 use Rattle.ssb_query.specs.declared.query.Origin.TheVariants as origin
 use Rattle.ssb_query.specs.declared.query.QueryParts.{QueryParts}
+use Rattle.ssb_trees.specs.declared.aggregate.Aggregate.{Aggregate}
 
 -- ---- one at most
 
@@ -48,15 +47,9 @@ module _ (c : List TableShape) (p q : QueryParts) (from : p.from ≡ q.from) (gr
       (ap origin.Group (same_place (bound_name c q.from name) k l (ap (λ f. group_place p.groups (bound_name c f name)) (sym from) ∙ h) g), e)
   same_origin (output.Column name) (origin.Group k) (origin.Aggregate l) h g xs ys e = absurd g
   same_origin (output.Column name) (origin.Aggregate k) y h g xs ys e = absurd h
-  same_origin (output.Sum s) (origin.Group k) y h g xs ys e = absurd h
-  same_origin (output.Sum s) (origin.Aggregate k) (origin.Group l) h g xs ys e = absurd g
-  same_origin (output.Sum s) (origin.Aggregate k) (origin.Aggregate l) h g xs ys e = heads k l xs ys e
-  same_origin output.CountRows (origin.Group k) y h g xs ys e = absurd h
-  same_origin output.CountRows (origin.Aggregate k) (origin.Group l) h g xs ys e = absurd g
-  same_origin output.CountRows (origin.Aggregate k) (origin.Aggregate l) h g xs ys e = heads k l xs ys e
-  same_origin (output.Count s) (origin.Group k) y h g xs ys e = absurd h
-  same_origin (output.Count s) (origin.Aggregate k) (origin.Group l) h g xs ys e = absurd g
-  same_origin (output.Count s) (origin.Aggregate k) (origin.Aggregate l) h g xs ys e = heads k l xs ys e
+  same_origin (output.Aggregate a) (origin.Group k) y h g xs ys e = absurd h
+  same_origin (output.Aggregate a) (origin.Aggregate k) (origin.Group l) h g xs ys e = absurd g
+  same_origin (output.Aggregate a) (origin.Aggregate k) (origin.Aggregate l) h g xs ys e = heads k l xs ys e
 
   abbrev numbers_of : List BoundItem → List ℕ
   numbers_of bs = filter_map (λ item. aggregate_number item.origin) bs
@@ -94,7 +87,7 @@ one_query c s p q h g =
     let condition : p.condition ≡ q.condition = h.condition ∙ ap (λ f. bound_where c f s.condition) from ∙ sym g.condition in
     let groups : p.groups ≡ q.groups = h.groups ∙ ap (λ f. map (bound_name c f) s.groups) from ∙ sym g.groups in
     let aggregates : p.aggregates ≡ q.aggregates = h.aggregates ∙ ap (λ f. aggregates_of c f s.items) from ∙ sym g.aggregates in
-    let numbers = h.numbers ∙ ap (λ (all : List Aggregate). range_with_len 0 (length all)) aggregates ∙ sym g.numbers in
+    let numbers = h.numbers ∙ ap (λ (all : List (Aggregate BoundColumn)). range_with_len 0 (length all)) aggregates ∙ sym g.numbers in
     let items : p.items ≡ q.items = same_items c p q from groups s.items p.items q.items h.items g.items numbers in
     let orders : p.orders ≡ q.orders = same_orders s.items s.orders p.orders q.orders h.orders g.orders in
     λ j. record { tables = tables j; from = from j; fact = fact j; condition = condition j; groups = groups j; aggregates = aggregates j; items = items j; orders = orders j }
@@ -117,28 +110,26 @@ at_length (y ∷ front) x back = at_length front x back
 
 -- the select columns from one on, of which the aggregates `front` stand before
 module _ (c : List TableShape) (q : QueryParts) where
-  abbrev Goes : List Aggregate → ℕ → List Item → Type 0
+  abbrev Goes : List (Aggregate BoundColumn) → ℕ → List Item → Type 0
   Goes front n items = q.aggregates ≡ front ++ aggregates_of c q.from items → n ≡ length front → not_grouped c q.from q.groups items ≡ None → Each (IsItem c q) items (bound_items c q.from q.groups n items)
 
-  pub each_item : (items : List Item) (front : List Aggregate) (n : ℕ) → Goes front n items
+  pub each_item : (items : List Item) (front : List (Aggregate BoundColumn)) (n : ℕ) → Goes front n items
   each_item [] front n all many e = tt
   each_item (item ∷ items) front n all many e = let h = at item.output (each_item items) all e in (record { origin = h.0; name = refl }, h.1)
     where
-      found : (a : Aggregate) → q.aggregates ≡ front ++ a ∷ aggregates_of c q.from items → slice_get q.aggregates n ≡ Some a
+      found : (a : Aggregate BoundColumn) → q.aggregates ≡ front ++ a ∷ aggregates_of c q.from items → slice_get q.aggregates n ≡ Some a
       found a list = ap₂ slice_get list many ∙ at_length front a (aggregates_of c q.from items)
 
-      rest : ((before : List Aggregate) (m : ℕ) → Goes before m items) → (a : Aggregate) → q.aggregates ≡ front ++ a ∷ aggregates_of c q.from items → not_grouped c q.from q.groups items ≡ None → Each (IsItem c q) items (bound_items c q.from q.groups (n + 1) items)
+      rest : ((before : List (Aggregate BoundColumn)) (m : ℕ) → Goes before m items) → (a : Aggregate BoundColumn) → q.aggregates ≡ front ++ a ∷ aggregates_of c q.from items → not_grouped c q.from q.groups items ≡ None → Each (IsItem c q) items (bound_items c q.from q.groups (n + 1) items)
       rest more a list grouped = more (front ++ a ∷ []) (n + 1) (list ∙ sym (append_assoc front (a ∷ []) (aggregates_of c q.from items))) (omega (arith, many, length-append front (a ∷ []))) grouped
 
-      at : (o : Output) → ((before : List Aggregate) (m : ℕ) → Goes before m items) → q.aggregates ≡ front ++ cons_option (aggregate_of c q.from o) (aggregates_of c q.from items)
+      at : (o : Output) → ((before : List (Aggregate BoundColumn)) (m : ℕ) → Goes before m items) → q.aggregates ≡ front ++ cons_option (aggregate_of c q.from o) (aggregates_of c q.from items)
           → find (is_ungrouped c q.from q.groups) (cons_option (own_column o) (filter_map (λ i. own_column i.output) items)) ≡ None
           → Shows c q o (origin_of c q.from q.groups n o) × Each (IsItem c q) items (bound_items c q.from q.groups (cond (is_aggregate o) (n + 1) n) items)
       at (output.Column name) more list grouped =
           let here = cond-none (is_ungrouped c q.from q.groups name) name (not_grouped c q.from q.groups items) grouped in
           (there (group_place q.groups (bound_name c q.from name)) 0 here.0, more front n list many here.1)
-      at (output.Sum x) more list grouped = (found (aggregate.Sum (bound_expr c q.from x)) list, rest more (aggregate.Sum (bound_expr c q.from x)) list grouped)
-      at output.CountRows more list grouped = (found aggregate.CountRows list, rest more aggregate.CountRows list grouped)
-      at (output.Count x) more list grouped = (found (aggregate.Count (bound_expr c q.from x)) list, rest more (aggregate.Count (bound_expr c q.from x)) list grouped)
+      at (output.Aggregate a) more list grouped = (found (bound_aggregate c q.from a) list, rest more (bound_aggregate c q.from a) list grouped)
 
 -- the aggregates are numbered one after the other
 pub each_number : (c : List TableShape) (from : List ℕ) (groups : List BoundColumn) (n : ℕ) (items : List Item)
@@ -150,9 +141,7 @@ each_number c from groups n (item ∷ items) = at item.output (λ m. each_number
         → cons_option (aggregate_number (origin_of c from groups n o)) (filter_map (λ item. aggregate_number item.origin) (bound_items c from groups (cond (is_aggregate o) (n + 1) n) items))
         ≡ range_with_len n (length (cons_option (aggregate_of c from o) (aggregates_of c from items)))
     at (output.Column name) more = more n
-    at (output.Sum x) more = ap (λ ns. n ∷ ns) (more (n + 1))
-    at output.CountRows more = ap (λ ns. n ∷ ns) (more (n + 1))
-    at (output.Count x) more = ap (λ ns. n ∷ ns) (more (n + 1))
+    at (output.Aggregate a) more = ap (λ ns. n ∷ ns) (more (n + 1))
 
 -- an order key that fits one select column stands for it
 alone : (places : List ℕ) → fits_one (fit_of places) ≡ true → places ≡ the_one (fit_of places) 0 ∷ []

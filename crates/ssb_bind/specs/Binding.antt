@@ -13,7 +13,7 @@ use Rattle.ssb_bind.specs.Faults.{Says}
 use Rattle.ssb_bind.specs.Orders.{name_of_item, places_for}
 use Rattle.ssb_bind.specs.Rules.{rules_in}
 use Rattle.ssb_query.specs.Tables.{fact_place}
-use Rattle.ssb_query.specs.declared.condition.BoundColumn.{BoundColumn}
+use Rattle.ssb_query.specs.declared.column.BoundColumn.{BoundColumn}
 use Rattle.ssb_bind.specs.declared.fault.BindFault.{BindFault}
 use Rattle.ssb_bind.specs.declared.fit.Fit.{Fit}
 use Rattle.ssb_bind.specs.declared.fit.Fit.TheVariants as fit
@@ -33,9 +33,7 @@ and_one fit.Several x = fit.Several
 -- no group column, which no bound query has, takes the first.
 abbrev pub origin_of : List TableShape → List ℕ → List BoundColumn → ℕ → Output → Origin
 origin_of c from groups before (output.Column name) = origin.Group (unwrap_or (group_place groups (bound_name c from name)) 0)
-origin_of c from groups before (output.Sum e) = origin.Aggregate before
-origin_of c from groups before output.CountRows = origin.Aggregate before
-origin_of c from groups before (output.Count e) = origin.Aggregate before
+origin_of c from groups before (output.Aggregate a) = origin.Aggregate before
 
 abbrev pub bound_item : List TableShape → List ℕ → List BoundColumn → ℕ → Item → BoundItem
 bound_item c from groups before item = record {
@@ -45,9 +43,7 @@ bound_item c from groups before item = record {
 
 abbrev pub is_aggregate : Output → Bool
 is_aggregate (output.Column name) = false
-is_aggregate (output.Sum e) = true
-is_aggregate output.CountRows = true
-is_aggregate (output.Count e) = true
+is_aggregate (output.Aggregate a) = true
 
 abbrev pub bound_items : List TableShape → List ℕ → List BoundColumn → ℕ → List Item → List BoundItem
 bound_items c from groups before [] = []

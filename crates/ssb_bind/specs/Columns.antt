@@ -5,8 +5,8 @@ use Rattle.std.specs.List.{position}
 use Rattle.ssb_load.specs.Catalog.{is_table_named, is_column_named}
 use Rattle.ssb_load.specs.Shapes.{TableShape}
 use Rattle.ssb_load.specs.declared.catalog.ColumnDef.{ColumnDef}
-use Rattle.ssb_sql.specs.declared.expr.ColumnName.{ColumnName}
-use Rattle.ssb_query.specs.declared.condition.BoundColumn.{BoundColumn}
+use Rattle.ssb_sql.specs.declared.named.ColumnName.{ColumnName}
+use Rattle.ssb_query.specs.declared.column.BoundColumn.{BoundColumn}
 use Rattle.ssb_bind.specs.declared.fit.Fit.{Fit}
 use Rattle.ssb_bind.specs.declared.fit.Fit.TheVariants as fit
 use Rattle.ssb_bind.specs.declared.fit.Wrong.{Wrong}

@@ -5,7 +5,7 @@ use Rattle.std.specs.Prelude.{◌≡◌, ◌⊎◌, ℕ, Bool, true, false, ◌+
 use Rattle.std.specs.List.{list_any, filter_map}
 use Rattle.std.specs.Str.{bytes_eq}
 use Rattle.ssb_load.specs.Shapes.{TableShape}
-use Rattle.ssb_sql.specs.declared.expr.ColumnName.{ColumnName}
+use Rattle.ssb_sql.specs.declared.named.ColumnName.{ColumnName}
 use Rattle.ssb_sql.specs.declared.select.Item.{Item}
 use Rattle.ssb_sql.specs.declared.select.Output.{Output}
 use Rattle.ssb_sql.specs.declared.select.Output.TheVariants as output
@@ -19,7 +19,7 @@ use Rattle.ssb_query.specs.Star.{unjoined_from}
 use Rattle.ssb_bind.specs.Rules.{rules_in}
 use Rattle.ssb_query.specs.Tables.{fact_place}
 use Rattle.ssb_bind.specs.Types.{has_mismatch}
-use Rattle.ssb_query.specs.declared.condition.BoundColumn.{BoundColumn}
+use Rattle.ssb_query.specs.declared.column.BoundColumn.{BoundColumn}
 use Rattle.ssb_bind.specs.declared.fault.BindFault.{BindFault}
 use Rattle.ssb_bind.specs.declared.fault.BindFault.TheVariants as fault
 use Rattle.ssb_bind.specs.declared.fault.TooMany.{TooMany}
@@ -53,9 +53,7 @@ fault_of wrong.Ambiguous name = fault.AmbiguousColumn name
 
 abbrev pub own_column : Output → Option ColumnName
 own_column (output.Column name) = Some name
-own_column (output.Sum e) = None
-own_column output.CountRows = None
-own_column (output.Count e) = None
+own_column (output.Aggregate a) = None
 
 abbrev pub is_ungrouped : List TableShape → List ℕ → List BoundColumn → ColumnName → Bool
 is_ungrouped c from groups name = is_none (group_place groups (bound_name c from name))

@@ -16,9 +16,7 @@ use Rattle.ssb_bind.specs.declared.fit.Fit.TheVariants as fit
 -- the AS name, or else the name of the column
 abbrev pub own_name : Output → Option (List ℕ)
 own_name (output.Column name) = Some name.column
-own_name (output.Sum e) = None
-own_name output.CountRows = None
-own_name (output.Count e) = None
+own_name (output.Aggregate a) = None
 
 abbrev pub name_of_item : Item → Option (List ℕ)
 name_of_item item = option_or item.alias (own_name item.output)

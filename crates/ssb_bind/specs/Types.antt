@@ -7,19 +7,21 @@ use Rattle.ssb_terms.specs.declared.rule.ColType.TheVariants as kinds
 use Rattle.ssb_terms.specs.declared.literal.Literal.{Literal}
 use Rattle.ssb_terms.specs.declared.literal.Literal.TheVariants as literal
 use Rattle.ssb_query.specs.Tables.{kind_at}
-use Rattle.ssb_query.specs.declared.condition.BoundCondition.{BoundCondition}
-use Rattle.ssb_query.specs.declared.condition.BoundCondition.TheOpen.{BoundCondition-F}
-use Rattle.ssb_query.specs.declared.condition.BoundCondition.TheFolds.{fold-BoundCondition}
-use Rattle.ssb_query.specs.declared.condition.BoundOperand.{BoundOperand}
-use Rattle.ssb_query.specs.declared.condition.BoundOperand.TheVariants as operand
-use Rattle.ssb_query.specs.declared.expr.BoundExpr.{BoundExpr}
-use Rattle.ssb_query.specs.declared.expr.BoundExpr.TheOpen.{BoundExpr-F, BoundStep-F}
-use Rattle.ssb_query.specs.declared.expr.BoundExpr.TheFolds.{fold-BoundExpr, fold-BoundStep}
-use Rattle.ssb_query.specs.declared.expr.BoundStep.{BoundStep}
-use Rattle.ssb_query.specs.declared.query.Aggregate.{Aggregate}
-use Rattle.ssb_query.specs.declared.query.Aggregate.TheVariants as aggregate
+use Rattle.ssb_trees.specs.declared.condition.Condition.TheOpen.{Condition-F}
+use Rattle.ssb_trees.specs.declared.condition.Condition.TheFolds.{fold-Condition}
+use Rattle.ssb_trees.specs.declared.operand.Operand.TheVariants as operand
+use Rattle.ssb_trees.specs.declared.expr.Expr.TheOpen.{Expr-F, Step-F}
+use Rattle.ssb_trees.specs.declared.expr.Expr.TheFolds.{fold-Expr, fold-Step}
+use Rattle.ssb_trees.specs.declared.aggregate.Aggregate.TheVariants as aggregate
+use Rattle.ssb_trees.specs.declared.aggregate.SetFunction.TheVariants as function
 use Rattle.ssb_query.specs.declared.query.QueryParts.{QueryParts}
 use Rattle.ssb_query.specs.declared.query.TableRules.{TableRules}
+use Rattle.ssb_query.specs.declared.column.BoundColumn.{BoundColumn}
+use Rattle.ssb_trees.specs.declared.expr.Step.{Step}
+use Rattle.ssb_trees.specs.declared.expr.Expr.{Expr}
+use Rattle.ssb_trees.specs.Conditions.{Filter}
+use Rattle.ssb_trees.specs.declared.operand.Operand.{Operand}
+use Rattle.ssb_trees.specs.declared.aggregate.Aggregate.{Aggregate}
 
 -- Expressions: a column has its type, a number is one, and a sign or an operation needs numbers. None is the type of an
 -- expression that has none.
@@ -36,29 +38,29 @@ number_if b = if b then Some kinds.Int else None
 abbrev pub number_of_all : List (Option ColType) → Option ColType
 number_of_all ts = number_if (list_all is_int_type ts)
 
-abbrev pub type_layer : List TableRules → List ℕ → BoundExpr-F (Option ColType) (Option ColType) → Option ColType
-type_layer tables from (BoundExpr-F.Column x) = kind_at tables from x
-type_layer tables from (BoundExpr-F.Number n) = Some kinds.Int
-type_layer tables from (BoundExpr-F.Positive part) = number_if (is_int_type part)
-type_layer tables from (BoundExpr-F.Negative part) = number_if (is_int_type part)
-type_layer tables from (BoundExpr-F.Chain first steps) = number_of_all (first ∷ steps)
-type_layer tables from (BoundExpr-F.Times factors) = number_of_all factors
+abbrev pub type_layer : List TableRules → List ℕ → Expr-F BoundColumn (Option ColType) (Option ColType) → Option ColType
+type_layer tables from (Expr-F.Column x) = kind_at tables from x
+type_layer tables from (Expr-F.Number n) = Some kinds.Int
+type_layer tables from (Expr-F.Positive part) = number_if (is_int_type part)
+type_layer tables from (Expr-F.Negative part) = number_if (is_int_type part)
+type_layer tables from (Expr-F.Chain first steps) = number_of_all (first ∷ steps)
+type_layer tables from (Expr-F.Times factors) = number_of_all factors
 
-abbrev pub step_layer : BoundStep-F (Option ColType) (Option ColType) → Option ColType
+abbrev pub step_layer : Step-F BoundColumn (Option ColType) (Option ColType) → Option ColType
 step_layer s = s.term
 
 -- the type of an expression
-abbrev pub type_of : List TableRules → List ℕ → BoundExpr → Option ColType
-type_of tables from = fold-BoundExpr (Option ColType) (Option ColType) (type_layer tables from) step_layer
+abbrev pub type_of : List TableRules → List ℕ → Expr BoundColumn → Option ColType
+type_of tables from = fold-Expr BoundColumn (Option ColType) (Option ColType) (type_layer tables from) step_layer
 
-abbrev pub type_of_step : List TableRules → List ℕ → BoundStep → Option ColType
-type_of_step tables from = fold-BoundStep (Option ColType) (Option ColType) (type_layer tables from) step_layer
+abbrev pub type_of_step : List TableRules → List ℕ → Step BoundColumn → Option ColType
+type_of_step tables from = fold-Step BoundColumn (Option ColType) (Option ColType) (type_layer tables from) step_layer
 
 -- SUM is of numbers; COUNT is of any type
-abbrev pub is_untyped : List TableRules → List ℕ → Aggregate → Bool
-is_untyped tables from (aggregate.Sum e) = not (is_int_type (type_of tables from e))
-is_untyped tables from aggregate.CountRows = false
-is_untyped tables from (aggregate.Count e) = is_none (type_of tables from e)
+abbrev pub is_untyped : List TableRules → List ℕ → Aggregate BoundColumn → Bool
+is_untyped tables from aggregate.Rows = false
+is_untyped tables from (aggregate.Of function.Sum e) = not (is_int_type (type_of tables from e))
+is_untyped tables from (aggregate.Of function.Count e) = is_none (type_of tables from e)
 
 -- Conditions: what is compared has one type.
 
@@ -71,7 +73,7 @@ abbrev pub is_text_literal : Literal → Bool
 is_text_literal (literal.Number n) = false
 is_text_literal (literal.Text t) = true
 
-abbrev pub is_text : List TableRules → List ℕ → BoundOperand → Bool
+abbrev pub is_text : List TableRules → List ℕ → Operand BoundColumn → Bool
 is_text tables from (operand.Column x) = is_text_kind (kind_at tables from x)
 is_text tables from (operand.Literal l) = is_text_literal l
 
@@ -80,29 +82,29 @@ differ true other = not other
 differ false other = other
 
 -- one operand is a text, and the other is a number
-abbrev pub are_mixed : List TableRules → List ℕ → BoundOperand → BoundOperand → Bool
+abbrev pub are_mixed : List TableRules → List ℕ → Operand BoundColumn → Operand BoundColumn → Bool
 are_mixed tables from a b = differ (is_text tables from a) (is_text tables from b)
 
-abbrev pub is_mixed_list : List TableRules → List ℕ → BoundOperand → List Literal → Bool
+abbrev pub is_mixed_list : List TableRules → List ℕ → Operand BoundColumn → List Literal → Bool
 is_mixed_list tables from x literals = list_any (λ l. differ (is_text tables from x) (is_text_literal l)) literals
 
-abbrev pub mixed_layer : List TableRules → List ℕ → BoundCondition-F Bool → Bool
-mixed_layer tables from (BoundCondition-F.Any parts) = list_any (λ part. part) parts
-mixed_layer tables from (BoundCondition-F.All parts) = list_any (λ part. part) parts
-mixed_layer tables from (BoundCondition-F.Not part) = part
-mixed_layer tables from (BoundCondition-F.Compare op a b) = are_mixed tables from a b
-mixed_layer tables from (BoundCondition-F.Between x a b) = are_mixed tables from x a || are_mixed tables from x b
-mixed_layer tables from (BoundCondition-F.NotBetween x a b) = are_mixed tables from x a || are_mixed tables from x b
-mixed_layer tables from (BoundCondition-F.In x literals) = is_mixed_list tables from x literals
-mixed_layer tables from (BoundCondition-F.NotIn x literals) = is_mixed_list tables from x literals
-mixed_layer tables from (BoundCondition-F.IsNull x) = false
-mixed_layer tables from (BoundCondition-F.IsNotNull x) = false
+abbrev pub mixed_layer : List TableRules → List ℕ → Condition-F (Operand BoundColumn) Bool → Bool
+mixed_layer tables from (Condition-F.Any parts) = list_any (λ part. part) parts
+mixed_layer tables from (Condition-F.All parts) = list_any (λ part. part) parts
+mixed_layer tables from (Condition-F.Not part) = part
+mixed_layer tables from (Condition-F.Compare op a b) = are_mixed tables from a b
+mixed_layer tables from (Condition-F.Between x a b) = are_mixed tables from x a || are_mixed tables from x b
+mixed_layer tables from (Condition-F.NotBetween x a b) = are_mixed tables from x a || are_mixed tables from x b
+mixed_layer tables from (Condition-F.In x literals) = is_mixed_list tables from x literals
+mixed_layer tables from (Condition-F.NotIn x literals) = is_mixed_list tables from x literals
+mixed_layer tables from (Condition-F.IsNull x) = false
+mixed_layer tables from (Condition-F.IsNotNull x) = false
 
 -- some comparison, BETWEEN or IN has a number beside a text
-abbrev pub is_mixed : List TableRules → List ℕ → BoundCondition → Bool
-is_mixed tables from = fold-BoundCondition Bool (mixed_layer tables from)
+abbrev pub is_mixed : List TableRules → List ℕ → Filter BoundColumn → Bool
+is_mixed tables from = fold-Condition (Operand BoundColumn) Bool (mixed_layer tables from)
 
-abbrev pub is_mixed_where : List TableRules → List ℕ → Option BoundCondition → Bool
+abbrev pub is_mixed_where : List TableRules → List ℕ → Option (Filter BoundColumn) → Bool
 is_mixed_where tables from None = false
 is_mixed_where tables from (Some c) = is_mixed tables from c
 

@@ -7,17 +7,17 @@ ghost use Rattle.ssb_bind.specs.Columns.{bound_name};
 ghost use Rattle.ssb_bind.specs.Orders.{name_of_item};
 ghost use Rattle.ssb_bind.specs.Rules.{rules_in};
 
-use crate::bind_condition::bound_where;
-use crate::bind_expr::bound_expr;
+use crate::bind_trees::{bound_aggregate, bound_where};
 use crate::groups::group_place;
 use crate::orders::{bound_orders, name_of};
 use crate::resolve::{Scope, bound_name};
 use crate::star::fact_place;
 use sqlite_items::Items;
 use ssb_load::{ColumnDef, TableDef};
-use ssb_query::{Aggregate, BoundColumn, BoundItem, Origin, QueryParts, TableRules};
+use ssb_query::{BoundColumn, BoundItem, Origin, QueryParts, TableRules};
 use ssb_sql::{ColumnName, Item, Output, Select};
 use ssb_terms::{Name, Rule};
+use ssb_trees::Aggregate;
 use std::alloc::{AllocError, Global};
 
 fn rules_of(alloc: Global, columns: &[ColumnDef]) -> Result<Items<Rule>, AllocError>
@@ -61,7 +61,7 @@ fn aggregate_of(
     catalog: &[TableDef],
     from: &[usize],
     output: &Output,
-) -> Result<Option<Aggregate>, AllocError>
+) -> Result<Option<Aggregate<BoundColumn>>, AllocError>
     ensures { IfOk result (λ a. a ≡ spec.aggregate_of catalog.now from.now output.now) }
 {
     let scope = Scope {
@@ -71,15 +71,7 @@ fn aggregate_of(
     };
     match output {
         Output::Column(_) => Ok(None),
-        Output::Sum(expr) => {
-            let expr = bound_expr(scope, expr)?;
-            Ok(Some(Aggregate::Sum(expr)))
-        }
-        Output::CountRows => Ok(Some(Aggregate::CountRows)),
-        Output::Count(expr) => {
-            let expr = bound_expr(scope, expr)?;
-            Ok(Some(Aggregate::Count(expr)))
-        }
+        Output::Aggregate(aggregate) => Ok(Some(bound_aggregate(scope, aggregate)?)),
     }
 }
 
@@ -88,7 +80,7 @@ fn aggregates_of(
     catalog: &[TableDef],
     from: &[usize],
     items: &[Item],
-) -> Result<Items<Aggregate>, AllocError>
+) -> Result<Items<Aggregate<BoundColumn>>, AllocError>
     ensures { IfOk result (λ all. all ≡ spec.aggregates_of catalog.now from.now items.now) }
 {
     let mut all = Items::new(alloc);

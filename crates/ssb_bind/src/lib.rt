@@ -5,10 +5,9 @@
 //! has each refusal by itself and what is answered.
 #![tactic(auto)]
 
-mod bind_condition;
-mod bind_expr;
 mod bind_select;
 mod bind_to_catalog;
+mod bind_trees;
 pub mod fault;
 mod fit;
 mod groups;

@@ -6,11 +6,9 @@ ghost use Rattle.std.specs.Option.{option_copied};
 ghost use Rattle.ssb_query.specs.Tables.{rule_at, kind_at};
 ghost use Rattle.ssb_bind.specs.Types as spec;
 
-use ssb_query::{
-    Aggregate, BoundColumn, BoundCondition, BoundExpr, BoundOperand, BoundStep, QueryParts,
-    TableRules, rule_at,
-};
+use ssb_query::{BoundColumn, QueryParts, TableRules, rule_at};
 use ssb_terms::{ColType, Literal, Rule};
+use ssb_trees::{Aggregate, Condition, Expr, Filter, Operand, SetFunction, Step};
 
 // The type of a column.
 pub(crate) fn kind_at(tables: &[TableRules], from: &[usize], column: BoundColumn) -> Option<ColType>
@@ -35,7 +33,7 @@ fn number_if(all: bool) -> Option<ColType>
 }
 
 #[cycle(expr)]
-fn are_number_steps(tables: &[TableRules], from: &[usize], steps: &[BoundStep]) -> bool
+fn are_number_steps(tables: &[TableRules], from: &[usize], steps: &[Step<BoundColumn>]) -> bool
     ensures { result ≡ list_all spec.is_int_type (map (spec.type_of_step tables.now from.now) steps.now) }
 {
     for step in steps {
@@ -47,7 +45,7 @@ fn are_number_steps(tables: &[TableRules], from: &[usize], steps: &[BoundStep]) 
 }
 
 #[cycle(expr)]
-fn are_number_factors(tables: &[TableRules], from: &[usize], factors: &[BoundExpr]) -> bool
+fn are_number_factors(tables: &[TableRules], from: &[usize], factors: &[Expr<BoundColumn>]) -> bool
     ensures { result ≡ list_all spec.is_int_type (map (spec.type_of tables.now from.now) factors.now) }
 {
     for factor in factors {
@@ -59,35 +57,33 @@ fn are_number_factors(tables: &[TableRules], from: &[usize], factors: &[BoundExp
 }
 
 #[cycle(expr)]
-fn type_of(tables: &[TableRules], from: &[usize], expr: &BoundExpr) -> Option<ColType>
+fn type_of(tables: &[TableRules], from: &[usize], expr: &Expr<BoundColumn>) -> Option<ColType>
     ensures { result ≡ spec.type_of tables.now from.now expr.now }
 {
     match expr {
-        BoundExpr::Column(column) => kind_at(tables, from, *column),
-        BoundExpr::Number(_) => Some(ColType::Int),
-        BoundExpr::Positive(part) => number_if(is_int_type(type_of(tables, from, part.get()))),
-        BoundExpr::Negative(part) => number_if(is_int_type(type_of(tables, from, part.get()))),
-        BoundExpr::Chain(first, steps) => number_if(
+        Expr::Column(column) => kind_at(tables, from, *column),
+        Expr::Number(_) => Some(ColType::Int),
+        Expr::Positive(part) => number_if(is_int_type(type_of(tables, from, part.get()))),
+        Expr::Negative(part) => number_if(is_int_type(type_of(tables, from, part.get()))),
+        Expr::Chain(first, steps) => number_if(
             is_int_type(type_of(tables, from, first.get()))
                 && are_number_steps(tables, from, steps.as_slice()),
         ),
-        BoundExpr::Times(factors) => {
-            number_if(are_number_factors(tables, from, factors.as_slice()))
-        }
+        Expr::Times(factors) => number_if(are_number_factors(tables, from, factors.as_slice())),
     }
 }
 
-fn is_untyped(tables: &[TableRules], from: &[usize], aggregate: &Aggregate) -> bool
+fn is_untyped(tables: &[TableRules], from: &[usize], aggregate: &Aggregate<BoundColumn>) -> bool
     ensures { result ≡ spec.is_untyped tables.now from.now aggregate.now }
 {
     match aggregate {
-        Aggregate::Sum(expr) => !is_int_type(type_of(tables, from, expr)),
-        Aggregate::CountRows => false,
-        Aggregate::Count(expr) => type_of(tables, from, expr).is_none(),
+        Aggregate::Rows => false,
+        Aggregate::Of(SetFunction::Sum, expr) => !is_int_type(type_of(tables, from, expr)),
+        Aggregate::Of(SetFunction::Count, expr) => type_of(tables, from, expr).is_none(),
     }
 }
 
-fn has_untyped(tables: &[TableRules], from: &[usize], aggregates: &[Aggregate]) -> bool
+fn has_untyped(tables: &[TableRules], from: &[usize], aggregates: &[Aggregate<BoundColumn>]) -> bool
     ensures { result ≡ list_any (spec.is_untyped tables.now from.now) aggregates.now }
 {
     aggregates
@@ -104,18 +100,21 @@ fn is_text_literal(literal: &Literal) -> bool
     }
 }
 
-fn is_text(tables: &[TableRules], from: &[usize], operand: &BoundOperand) -> bool
+fn is_text(tables: &[TableRules], from: &[usize], operand: &Operand<BoundColumn>) -> bool
     ensures { result ≡ spec.is_text tables.now from.now operand.now }
 {
     match operand {
-        BoundOperand::Column(column) => {
-            matches!(kind_at(tables, from, *column), Some(ColType::Text))
-        }
-        BoundOperand::Literal(literal) => is_text_literal(literal),
+        Operand::Column(column) => matches!(kind_at(tables, from, *column), Some(ColType::Text)),
+        Operand::Literal(literal) => is_text_literal(literal),
     }
 }
 
-fn are_mixed(tables: &[TableRules], from: &[usize], a: &BoundOperand, b: &BoundOperand) -> bool
+fn are_mixed(
+    tables: &[TableRules],
+    from: &[usize],
+    a: &Operand<BoundColumn>,
+    b: &Operand<BoundColumn>,
+) -> bool
     ensures { result ≡ spec.are_mixed tables.now from.now a.now b.now }
 {
     is_text(tables, from, a) != is_text(tables, from, b)
@@ -130,7 +129,7 @@ fn has_other(is_text: bool, literals: &[Literal]) -> bool
 }
 
 #[cycle(condition)]
-fn has_mixed(tables: &[TableRules], from: &[usize], parts: &[BoundCondition]) -> bool
+fn has_mixed(tables: &[TableRules], from: &[usize], parts: &[Filter<BoundColumn>]) -> bool
     ensures { result ≡ list_any (λ part. part) (map (spec.is_mixed tables.now from.now) parts.now) }
 {
     for part in parts {
@@ -142,32 +141,34 @@ fn has_mixed(tables: &[TableRules], from: &[usize], parts: &[BoundCondition]) ->
 }
 
 #[cycle(condition)]
-fn is_mixed(tables: &[TableRules], from: &[usize], condition: &BoundCondition) -> bool
+fn is_mixed(tables: &[TableRules], from: &[usize], condition: &Filter<BoundColumn>) -> bool
     ensures { result ≡ spec.is_mixed tables.now from.now condition.now }
 {
     match condition {
-        BoundCondition::Any(parts) => has_mixed(tables, from, parts.as_slice()),
-        BoundCondition::All(parts) => has_mixed(tables, from, parts.as_slice()),
-        BoundCondition::Not(part) => is_mixed(tables, from, part.get()),
-        BoundCondition::Compare(_, a, b) => are_mixed(tables, from, a, b),
-        BoundCondition::Between(x, a, b) => {
+        Condition::Any(parts) => has_mixed(tables, from, parts.as_slice()),
+        Condition::All(parts) => has_mixed(tables, from, parts.as_slice()),
+        Condition::Not(part) => is_mixed(tables, from, part.get()),
+        Condition::Compare(_, a, b) => are_mixed(tables, from, a, b),
+        Condition::Between(x, a, b) => {
             are_mixed(tables, from, x, a) || are_mixed(tables, from, x, b)
         }
-        BoundCondition::NotBetween(x, a, b) => {
+        Condition::NotBetween(x, a, b) => {
             are_mixed(tables, from, x, a) || are_mixed(tables, from, x, b)
         }
-        BoundCondition::In(x, literals) => {
+        Condition::In(x, literals) => has_other(is_text(tables, from, x), literals.as_slice()),
+        Condition::NotIn(x, literals) => {
             has_other(is_text(tables, from, x), literals.as_slice())
         }
-        BoundCondition::NotIn(x, literals) => {
-            has_other(is_text(tables, from, x), literals.as_slice())
-        }
-        BoundCondition::IsNull(_) => false,
-        BoundCondition::IsNotNull(_) => false,
+        Condition::IsNull(_) => false,
+        Condition::IsNotNull(_) => false,
     }
 }
 
-fn is_mixed_where(tables: &[TableRules], from: &[usize], condition: &Option<BoundCondition>) -> bool
+fn is_mixed_where(
+    tables: &[TableRules],
+    from: &[usize],
+    condition: &Option<Filter<BoundColumn>>,
+) -> bool
     ensures { result ≡ spec.is_mixed_where tables.now from.now condition.now }
 {
     match condition {

@@ -1,7 +1,7 @@
 -- How groups keep the keys of their rows: a text is kept as its code in its column.
 -- Source: own; for the contracts inside this crate.
 use Rattle.std.specs.Prelude.{ℕ, ◌<◌, List, [], ◌∷◌, length, map, get_or, Option, None, Some, slice_get, ⊤}
-use Rattle.ssb_query.specs.declared.condition.BoundColumn.{BoundColumn}
+use Rattle.ssb_query.specs.declared.column.BoundColumn.{BoundColumn}
 use Rattle.ssb_cells.specs.Cell.{Cell, Filled, null, number, text}
 use Rattle.ssb_cells.specs.Codes.{code_of, texts_of}
 use Rattle.ssb_job.specs.Kept.{Columns, JobShape, column_value, from_tables}

@@ -2,18 +2,17 @@
 -- Source: SQL-92, 7.7 <group by clause>, 6.5 <set function specification>.
 use Rattle.std.specs.Prelude.{ℕ, ◌+◌, pos, List, map, slice_get, unwrap_or}
 use Rattle.ssb_cells.specs.Cell.{Cell, number}
-use Rattle.ssb_query.specs.declared.condition.BoundColumn.{BoundColumn}
-use Rattle.ssb_query.specs.declared.query.Aggregate.{Aggregate}
-use Rattle.ssb_query.specs.declared.query.Aggregate.TheVariants as aggregate
+use Rattle.ssb_query.specs.declared.column.BoundColumn.{BoundColumn}
+use Rattle.ssb_trees.specs.declared.aggregate.Aggregate.TheVariants as aggregate
 use Rattle.ssb_job.specs.Kept.{JobShape, column_value, from_tables}
 use Rattle.ssb_groups.specs.Rows.{SeenRow}
 use Rattle.ssb_groups.specs.Value.{Outcome, known, value}
+use Rattle.ssb_trees.specs.declared.aggregate.Aggregate.{Aggregate}
 
 -- what an aggregate takes of a combination; COUNT(*) takes a number of each
-abbrev pub argument : (BoundColumn → Cell) → Aggregate → Outcome
-argument cell (aggregate.Sum e) = value cell e
-argument cell aggregate.CountRows = known (number (pos 1))
-argument cell (aggregate.Count e) = value cell e
+abbrev pub argument : (BoundColumn → Cell) → Aggregate BoundColumn → Outcome
+argument cell aggregate.Rows = known (number (pos 1))
+argument cell (aggregate.Of function e) = value cell e
 
 -- the row of the fact table in a combination, counted from 1
 abbrev pub fact_of : JobShape → List ℕ → ℕ

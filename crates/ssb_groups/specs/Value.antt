@@ -4,11 +4,11 @@ use Rattle.std.specs.Prelude.{◌^◌, nat_lt, ℤ, pos, negsuc, ◌+ℤ◌, ◌
 use Rattle.ssb_cells.specs.Cell.{Cell, null, number, text}
 use Rattle.ssb_terms.specs.declared.operator.Adding.{Adding}
 use Rattle.ssb_terms.specs.declared.operator.Adding.TheVariants as adding
-use Rattle.ssb_query.specs.declared.condition.BoundColumn.{BoundColumn}
-use Rattle.ssb_query.specs.declared.expr.BoundExpr.{BoundExpr}
-use Rattle.ssb_query.specs.declared.expr.BoundExpr.TheOpen.{BoundExpr-F, BoundStep-F}
-use Rattle.ssb_query.specs.declared.expr.BoundExpr.TheFolds.{fold-BoundExpr, fold-BoundStep}
-use Rattle.ssb_query.specs.declared.expr.BoundStep.{BoundStep}
+use Rattle.ssb_query.specs.declared.column.BoundColumn.{BoundColumn}
+use Rattle.ssb_trees.specs.declared.expr.Expr.TheOpen.{Expr-F, Step-F}
+use Rattle.ssb_trees.specs.declared.expr.Expr.TheFolds.{fold-Expr, fold-Step}
+use Rattle.ssb_trees.specs.declared.expr.Step.{Step}
+use Rattle.ssb_trees.specs.declared.expr.Expr.{Expr}
 
 -- null, a number, a text, or Over: beyond the range
 pub data Outcome : Type 0 where
@@ -55,21 +55,21 @@ abbrev pub product : List Outcome → Outcome
 product xs = fold times (known (number (pos 1))) xs
 
 -- one form of expression, with the values of the expressions in it
-abbrev pub value_layer : (BoundColumn → Cell) → BoundExpr-F Outcome (Adding × Outcome) → Outcome
-value_layer cell (BoundExpr-F.Column x) = column_outcome (cell x)
-value_layer cell (BoundExpr-F.Number n) = checked (pos n)
-value_layer cell (BoundExpr-F.Positive part) = part
-value_layer cell (BoundExpr-F.Negative part) = minus (known (number (pos 0))) part
-value_layer cell (BoundExpr-F.Chain first steps) = fold add_step first steps
-value_layer cell (BoundExpr-F.Times factors) = product factors
+abbrev pub value_layer : (BoundColumn → Cell) → Expr-F BoundColumn Outcome (Adding × Outcome) → Outcome
+value_layer cell (Expr-F.Column x) = column_outcome (cell x)
+value_layer cell (Expr-F.Number n) = checked (pos n)
+value_layer cell (Expr-F.Positive part) = part
+value_layer cell (Expr-F.Negative part) = minus (known (number (pos 0))) part
+value_layer cell (Expr-F.Chain first steps) = fold add_step first steps
+value_layer cell (Expr-F.Times factors) = product factors
 
-abbrev pub step_layer : BoundStep-F Outcome (Adding × Outcome) → Adding × Outcome
+abbrev pub step_layer : Step-F BoundColumn Outcome (Adding × Outcome) → Adding × Outcome
 step_layer s = (s.adding, s.term)
 
 -- the value of an expression where the columns have these values
-abbrev pub value : (BoundColumn → Cell) → BoundExpr → Outcome
-value cell = fold-BoundExpr Outcome (Adding × Outcome) (value_layer cell) step_layer
+abbrev pub value : (BoundColumn → Cell) → Expr BoundColumn → Outcome
+value cell = fold-Expr BoundColumn Outcome (Adding × Outcome) (value_layer cell) step_layer
 
 -- the value of a further term, with its sign
-abbrev pub step_value : (BoundColumn → Cell) → BoundStep → Adding × Outcome
-step_value cell = fold-BoundStep Outcome (Adding × Outcome) (value_layer cell) step_layer
+abbrev pub step_value : (BoundColumn → Cell) → Step BoundColumn → Adding × Outcome
+step_value cell = fold-Step BoundColumn Outcome (Adding × Outcome) (value_layer cell) step_layer

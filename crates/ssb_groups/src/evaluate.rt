@@ -8,8 +8,9 @@ ghost use Rattle.ssb_groups.specs.Value.{add_step, product, step_value, value};
 
 use crate::outcome::{Operation, Outcome};
 use ssb_job::{Job, JoinedRow};
-use ssb_query::{Aggregate, BoundExpr, BoundStep};
+use ssb_query::BoundColumn;
 use ssb_terms::Adding;
+use ssb_trees::{Aggregate, Expr, Step};
 
 fn add_step<'a>(so_far: Outcome<'a>, adding: Adding, term: Outcome<'a>) -> Outcome<'a>
     ensures { outcome_of result ≡ add_step (outcome_of so_far.entry) (adding, outcome_of term.entry) }
@@ -21,7 +22,12 @@ fn add_step<'a>(so_far: Outcome<'a>, adding: Adding, term: Outcome<'a>) -> Outco
 }
 
 #[cycle(expr)]
-fn chain<'a>(job: &'a Job, row: &JoinedRow, first: Outcome<'a>, steps: &[BoundStep]) -> Outcome<'a>
+fn chain<'a>(
+    job: &'a Job,
+    row: &JoinedRow,
+    first: Outcome<'a>,
+    steps: &[Step<BoundColumn>],
+) -> Outcome<'a>
     ensures { outcome_of result ≡ fold add_step (outcome_of first.entry) (map (step_value (column_value (from_tables job.now) row.now)) steps.now) }
 {
     let mut so_far = first;
@@ -33,7 +39,7 @@ fn chain<'a>(job: &'a Job, row: &JoinedRow, first: Outcome<'a>, steps: &[BoundSt
 }
 
 #[cycle(expr)]
-fn product<'a>(job: &'a Job, row: &JoinedRow, factors: &[BoundExpr]) -> Outcome<'a>
+fn product<'a>(job: &'a Job, row: &JoinedRow, factors: &[Expr<BoundColumn>]) -> Outcome<'a>
     ensures { outcome_of result ≡ product (map (value (column_value (from_tables job.now) row.now)) factors.now) }
 {
     let mut so_far = Outcome::Number(1);
@@ -44,30 +50,33 @@ fn product<'a>(job: &'a Job, row: &JoinedRow, factors: &[BoundExpr]) -> Outcome<
 }
 
 #[cycle(expr)]
-fn value<'a>(job: &'a Job, row: &JoinedRow, expr: &BoundExpr) -> Outcome<'a>
+fn value<'a>(job: &'a Job, row: &JoinedRow, expr: &Expr<BoundColumn>) -> Outcome<'a>
     ensures { outcome_of result ≡ value (column_value (from_tables job.now) row.now) expr.now }
 {
     match expr {
-        BoundExpr::Column(column) => Outcome::of(job.value(*column, row)),
-        BoundExpr::Number(number) => Outcome::of_number(*number),
-        BoundExpr::Positive(part) => value(job, row, part.get()),
-        BoundExpr::Negative(part) => {
+        Expr::Column(column) => Outcome::of(job.value(*column, row)),
+        Expr::Number(number) => Outcome::of_number(*number),
+        Expr::Positive(part) => value(job, row, part.get()),
+        Expr::Negative(part) => {
             Outcome::Number(0).apply(Operation::Minus, value(job, row, part.get()))
         },
-        BoundExpr::Chain(first, steps) => {
+        Expr::Chain(first, steps) => {
             chain(job, row, value(job, row, first.get()), steps.as_slice())
         }
-        BoundExpr::Times(factors) => product(job, row, factors.as_slice()),
+        Expr::Times(factors) => product(job, row, factors.as_slice()),
     }
 }
 
 // What an aggregate takes of a combination.
-pub(crate) fn argument<'a>(job: &'a Job, row: &JoinedRow, aggregate: &Aggregate) -> Outcome<'a>
+pub(crate) fn argument<'a>(
+    job: &'a Job,
+    row: &JoinedRow,
+    aggregate: &Aggregate<BoundColumn>,
+) -> Outcome<'a>
     ensures { outcome_of result ≡ argument (column_value (from_tables job.now) row.now) aggregate.now }
 {
     match aggregate {
-        Aggregate::Sum(expr) => value(job, row, expr),
-        Aggregate::CountRows => Outcome::Number(1),
-        Aggregate::Count(expr) => value(job, row, expr),
+        Aggregate::Rows => Outcome::Number(1),
+        Aggregate::Of(_, expr) => value(job, row, expr),
     }
 }

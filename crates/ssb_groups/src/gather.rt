@@ -8,7 +8,8 @@ ghost use Rattle.ssb_groups.specs.Seen.{argument, fact_of};
 use crate::accumulator::Accumulator;
 use crate::evaluate::argument;
 use ssb_job::{Job, JoinedRow};
-use ssb_query::Aggregate;
+use ssb_query::BoundColumn;
+use ssb_trees::Aggregate;
 use std::alloc::AllocError;
 
 // The row of the fact table, from 1.
@@ -26,7 +27,7 @@ pub(crate) fn fact_of(job: &Job, row: &JoinedRow) -> u32
 pub(crate) fn gather(
     job: &Job,
     row: &JoinedRow,
-    aggregates: &[Aggregate],
+    aggregates: &[Aggregate<BoundColumn>],
     more: &mut Vec<Accumulator>,
 ) -> Result<bool, AllocError>
     ensures { IfOk result (λ over. IsGathered over (map (argument (column_value (from_tables job.now) row.now)) aggregates.now) more.new.items) }

@@ -27,19 +27,21 @@ use Rattle.ssb_terms.specs.contracts.name.Name as Name
 use Rattle.ssb_cells.specs.contracts.table.Table as Table
 use Rattle.ssb_cells.specs.contracts.table.Table.TheInside as InTable
 use Rattle.ssb_terms.specs.contracts.literal.Literal as Literal
-use Rattle.ssb_query.specs.contracts.condition.BoundCondition as Condition
-use Rattle.ssb_query.specs.contracts.condition.BoundCondition.TheKnot as condition_knot
-use Rattle.ssb_query.specs.contracts.condition.BoundOperand as Operand
-use Rattle.ssb_query.specs.contracts.expr.BoundExpr as Expr
-use Rattle.ssb_query.specs.contracts.expr.BoundExpr.TheKnot as expr_knot
-use Rattle.ssb_query.specs.contracts.query.Aggregate as Aggregate
+use Rattle.ssb_query.specs.contracts.column.BoundColumn as BoundColumn
+use Rattle.ssb_trees.specs.contracts.operand.Operand as Operand
+use Rattle.ssb_trees.specs.contracts.condition.Condition as Condition
+use Rattle.ssb_trees.specs.contracts.condition.Condition.TheKnot as condition_knot
+use Rattle.ssb_trees.specs.contracts.expr.Expr as Expr
+use Rattle.ssb_trees.specs.contracts.expr.Expr.TheKnot as expr_knot
+use Rattle.ssb_trees.specs.contracts.aggregate.Aggregate as Aggregate
+use Rattle.ssb_trees.specs.contracts.aggregate.SetFunction as SetFunction
 use Rattle.ssb_query.specs.contracts.query.BoundItem as Item
 use Rattle.ssb_query.specs.contracts.query.Query as Query
 use Rattle.ssb_query.specs.contracts.query.Query.TheInside as InQuery
 use Rattle.ssb_query.specs.contracts.query.QueryParts as QueryParts
 use Rattle.ssb_query.specs.contracts.query.TableRules as TableRules
-use Rattle.ssb_query.specs.declared.condition.BoundCondition.TheBlock.{member-BoundCondition}
-use Rattle.ssb_query.specs.declared.expr.BoundExpr.TheBlock.{member-BoundExpr, member-BoundStep}
+use Rattle.ssb_trees.specs.declared.condition.Condition.TheBlock.{member-Condition}
+use Rattle.ssb_trees.specs.declared.expr.Expr.TheBlock.{member-Expr, member-Step}
 use Rattle.ssb_pipeline.proofs.Crossing.{Crosses, as_row_crosses, declared_crosses, fix_crosses, variants_crosses, vec, view_crosses}
 
 packed : Crosses Packed.the_row
@@ -79,7 +81,7 @@ table = view_crosses InTable.the_row _ _ _ _ (declared_crosses InTable.the_type 
 literal : Crosses Literal.the_row
 literal = (search (crosses, sendable) depth 20, search (crosses, sendable) depth 20)
 
-operand : Crosses Operand.the_row
+operand : Crosses (Operand.the_row BoundColumn.the_row)
 operand = (search (crosses, sendable) depth 20, search (crosses, sendable) depth 20)
 
 name : Crosses Name.the_row
@@ -98,34 +100,37 @@ module _ (T : RattleType) where
   items : Crosses T → Crosses (Items.the_row T)
   items c = (items_send c.0, items_sync c.1)
 
+bound_column : Crosses BoundColumn.the_row
+bound_column = (search (crosses, sendable) depth 20, search (crosses, sendable) depth 20)
+
 -- an expression holds itself: each layer crosses where what it holds does
 module _ (E S : RattleType) (e : Crosses E) (s : Crosses S) where
-  expr_parts : VariantsHave Crosses (expr_knot.type-BoundExpr E E E S E).parts
+  expr_parts : VariantsHave Crosses (expr_knot.type-Expr BoundColumn.the_row E E E S E).parts
   expr_parts =
       let inner = as_row_crosses (row_field (Boxed.the_row E)) (boxed E e) in
       let steps = as_row_crosses (row_field (Items.the_row S)) (items S s) in
       let factors = as_row_crosses (row_field (Items.the_row E)) (items E e) in (
-        ((search (as_row_send, crosses, sendable) depth 20, search (as_row_sync, crosses, sendable) depth 20), tt),
+        (bound_column, tt),
         (((search (as_row_send, crosses, sendable) depth 20, search (as_row_sync, crosses, sendable) depth 20), tt), ((inner, tt), ((inner, tt), ((inner, (steps, tt)), ((factors, tt), tt))))),
       )
 
-expr_holes : (i : expr_knot.the_members) → Crosses (holes expr_knot.ring i)
-expr_holes = fix_crosses expr_knot.ring layers
+expr_holes : (i : expr_knot.the_members BoundColumn.the_row) → Crosses (holes (expr_knot.ring BoundColumn.the_row) i)
+expr_holes = fix_crosses (expr_knot.ring BoundColumn.the_row) layers
   where
-    layers : (i : expr_knot.the_members) (h : expr_knot.the_members → RattleType) → ((j : expr_knot.the_members) → Crosses (h j)) → Crosses (layer_row expr_knot.ring i h)
-    layers member-BoundExpr h all = let E = h member-BoundExpr in let S = h member-BoundStep in variants_crosses (expr_knot.type-BoundExpr E E E S E) (expr_parts E S (all member-BoundExpr) (all member-BoundStep))
-    layers member-BoundStep h all =
-        let s = (all member-BoundExpr).0 in
-        let y = (all member-BoundExpr).1 in
-        let T = expr_knot.type-BoundStep (h member-BoundExpr) in
+    layers : (i : expr_knot.the_members BoundColumn.the_row) (h : expr_knot.the_members BoundColumn.the_row → RattleType) → ((j : expr_knot.the_members BoundColumn.the_row) → Crosses (h j)) → Crosses (layer_row (expr_knot.ring BoundColumn.the_row) i h)
+    layers member-Expr h all = let E = h member-Expr in let S = h member-Step in variants_crosses (expr_knot.type-Expr BoundColumn.the_row E E E S E) (expr_parts E S (all member-Expr) (all member-Step))
+    layers member-Step h all =
+        let s = (all member-Expr).0 in
+        let y = (all member-Expr).1 in
+        let T = expr_knot.type-Step BoundColumn.the_row (h member-Expr) in
         (declared_send T (search (s, as_row_send, crosses, sendable) depth 20), declared_sync T (search (y, as_row_sync, crosses, sendable) depth 20))
 
-expr : Crosses Expr.the_row
-expr = variants_crosses Expr.enum (expr_parts expr_knot.hole-BoundExpr expr_knot.hole-BoundStep (expr_holes member-BoundExpr) (expr_holes member-BoundStep))
+expr : Crosses (Expr.the_row BoundColumn.the_row)
+expr = variants_crosses (Expr.enum BoundColumn.the_row) (expr_parts (expr_knot.hole-Expr BoundColumn.the_row) (expr_knot.hole-Step BoundColumn.the_row) (expr_holes member-Expr) (expr_holes member-Step))
 
 -- and so does a condition
 module _ (C : RattleType) (c : Crosses C) where
-  condition_parts : VariantsHave Crosses (condition_knot.type-BoundCondition C C C).parts
+  condition_parts : VariantsHave Crosses (condition_knot.type-Condition (Operand.the_row BoundColumn.the_row) C C C).parts
   condition_parts =
       let several = as_row_crosses (row_field (Items.the_row C)) (items C c) in
       let inner = as_row_crosses (row_field (Boxed.the_row C)) (boxed C c) in
@@ -141,26 +146,29 @@ module _ (C : RattleType) (c : Crosses C) where
         ),
       )
 
-condition_holes : (i : condition_knot.the_members) → Crosses (holes condition_knot.ring i)
-condition_holes = fix_crosses condition_knot.ring layers
+condition_holes : (i : condition_knot.the_members (Operand.the_row BoundColumn.the_row)) → Crosses (holes (condition_knot.ring (Operand.the_row BoundColumn.the_row)) i)
+condition_holes = fix_crosses (condition_knot.ring (Operand.the_row BoundColumn.the_row)) layers
   where
-    layers : (i : condition_knot.the_members) (h : condition_knot.the_members → RattleType) → ((j : condition_knot.the_members) → Crosses (h j)) → Crosses (layer_row condition_knot.ring i h)
-    layers member-BoundCondition h all = let C = h member-BoundCondition in variants_crosses (condition_knot.type-BoundCondition C C C) (condition_parts C (all member-BoundCondition))
+    layers : (i : condition_knot.the_members (Operand.the_row BoundColumn.the_row)) (h : condition_knot.the_members (Operand.the_row BoundColumn.the_row) → RattleType) → ((j : condition_knot.the_members (Operand.the_row BoundColumn.the_row)) → Crosses (h j)) → Crosses (layer_row (condition_knot.ring (Operand.the_row BoundColumn.the_row)) i h)
+    layers member-Condition h all = let C = h member-Condition in variants_crosses (condition_knot.type-Condition (Operand.the_row BoundColumn.the_row) C C C) (condition_parts C (all member-Condition))
 
-pub condition : Crosses Condition.the_row
-condition = variants_crosses Condition.enum (condition_parts condition_knot.hole-BoundCondition (condition_holes member-BoundCondition))
+pub condition : Crosses (Condition.the_row (Operand.the_row BoundColumn.the_row))
+condition = variants_crosses (Condition.enum (Operand.the_row BoundColumn.the_row)) (condition_parts (condition_knot.hole-Condition (Operand.the_row BoundColumn.the_row)) (condition_holes member-Condition))
 
-condition_send : IsSend Condition.the_row
+condition_send : IsSend (Condition.the_row (Operand.the_row BoundColumn.the_row))
 condition_send = condition.0
 
-condition_sync : IsSync Condition.the_row
+condition_sync : IsSync (Condition.the_row (Operand.the_row BoundColumn.the_row))
 condition_sync = condition.1
 
 rules : Crosses TableRules.the_row
 rules = (search (items_send, crosses, sendable) depth 20, search (items_sync, crosses, sendable) depth 20)
 
-aggregate : Crosses Aggregate.the_row
-aggregate = variants_crosses Aggregate.enum ((expr, tt), (tt, ((expr, tt), tt)))
+set_function : Crosses SetFunction.the_row
+set_function = (search (crosses, sendable) depth 20, search (crosses, sendable) depth 20)
+
+aggregate : Crosses (Aggregate.the_row BoundColumn.the_row)
+aggregate = variants_crosses (Aggregate.enum BoundColumn.the_row) (tt, ((set_function, (expr, tt)), tt))
 
 item : Crosses Item.the_row
 item = let s = name.0 in let y = name.1 in declared_crosses Item.the_type ((search (as_row_send, crosses, sendable) depth 20, search (as_row_sync, crosses, sendable) depth 20), ((search (s, as_row_send, crosses, sendable) depth 20, search (y, as_row_sync, crosses, sendable) depth 20), tt))
@@ -175,7 +183,7 @@ parts =
           (search (as_row_send, crosses, sendable) depth 20, search (as_row_sync, crosses, sendable) depth 20),
           (
             (search (condition_send, as_row_send, crosses, sendable) depth 20, search (condition_sync, as_row_sync, crosses, sendable) depth 20),
-            ((search (items_send, as_row_send, crosses, sendable) depth 20, search (items_sync, as_row_sync, crosses, sendable) depth 20), (items Aggregate.the_row aggregate, (items Item.the_row item, ((search (items_send, as_row_send, crosses, sendable) depth 20, search (items_sync, as_row_sync, crosses, sendable) depth 20), tt)))),
+            ((search (items_send, as_row_send, crosses, sendable) depth 20, search (items_sync, as_row_sync, crosses, sendable) depth 20), (items (Aggregate.the_row BoundColumn.the_row) aggregate, (items Item.the_row item, ((search (items_send, as_row_send, crosses, sendable) depth 20, search (items_sync, as_row_sync, crosses, sendable) depth 20), tt)))),
           ),
         ),
       ),

@@ -4,11 +4,8 @@
 //! that is. Binding makes it; joins, groups and rows are computed of it.
 #![tactic(auto)]
 
-pub mod condition;
-mod copy;
-pub mod expr;
+pub mod column;
 pub mod query;
 
-pub use condition::{BoundColumn, BoundCondition, BoundOperand};
-pub use expr::{BoundExpr, BoundStep};
-pub use query::{Aggregate, BoundItem, BoundOrder, Origin, Query, QueryParts, TableRules, rule_at};
+pub use column::{BoundColumn, copy_condition};
+pub use query::{BoundItem, BoundOrder, Origin, Query, QueryParts, TableRules, rule_at};

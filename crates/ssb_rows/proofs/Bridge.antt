@@ -8,9 +8,9 @@ use Rattle.std.proofs.lemmas.List.Sorted.{IsPermutation-map, IsPermutation-refl,
 use Rattle.std.specs.Prelude.{pos, replicate, Ok, Err}
 use Rattle.std.proofs.lemmas.Option.{slice_get_within}
 use Rattle.ssb_groups.proofs.Bounds.{summary_is}
-use Rattle.ssb_query.specs.declared.condition.BoundColumn.{BoundColumn}
-use Rattle.ssb_query.specs.declared.query.Aggregate.{Aggregate}
-use Rattle.ssb_query.specs.declared.query.Aggregate.TheVariants as aggregate
+use Rattle.ssb_query.specs.declared.column.BoundColumn.{BoundColumn}
+use Rattle.ssb_trees.specs.declared.aggregate.Aggregate.TheVariants as aggregate
+use Rattle.ssb_trees.specs.declared.aggregate.SetFunction.TheVariants as function
 use Rattle.ssb_query.specs.declared.query.QueryParts.{QueryParts}
 use Rattle.ssb_query.specs.declared.query.Origin.{Origin}
 use Rattle.ssb_query.specs.declared.query.Origin.TheVariants as origin
@@ -25,20 +25,21 @@ use Rattle.ssb_rows.specs.Result.{agg, agg_if, agg_at, bag, has_beyond, is_beyon
 use Rattle.ssb_rows.specs.declared.fault.AnswerFault.{AnswerFault}
 use Rattle.ssb_rows.specs.declared.fault.AnswerFault.TheVariants as fault
 use Rattle.ssb_rows.proofs.Members.{key-same, member, Apart, apart, distinct_apart, member_distinct, same_members}
+use Rattle.ssb_trees.specs.declared.aggregate.Aggregate.{Aggregate}
 
 -- ---- the values of a group
 
-agg_is : (a : Aggregate) (xs : List Outcome) → total_cell a (accumulated xs) ≡ agg a xs
-agg_is (aggregate.Sum e) xs = refl
-agg_is aggregate.CountRows xs = refl
-agg_is (aggregate.Count e) xs = refl
+agg_is : (a : Aggregate BoundColumn) (xs : List Outcome) → total_cell a (accumulated xs) ≡ agg a xs
+agg_is aggregate.Rows xs = refl
+agg_is (aggregate.Of function.Sum e) xs = refl
+agg_is (aggregate.Of function.Count e) xs = refl
 
 get_map : (f : ℕ → Accumulator) (a n i j : ℕ) → i < n → j ≡ a + i → slice_get (map f (range_with_len a n)) i ≡ Some (f j)
 get_map f a zero i j below is = absurd (omega arith)
 get_map f a (suc n) zero j below is = let h : a ≡ j = omega arith in ap (λ x. Some (f x)) h
 get_map f a (suc n) (suc i) j below is = get_map f (a + 1) n i j (omega arith) (omega arith)
 
-at_by : (q : QueryParts) (G : List SeenRow) (i : ℕ) (o : Option Aggregate) → slice_get q.aggregates i ≡ o → total_at q (totals (length q.aggregates) G) i ≡ agg_at q G i
+at_by : (q : QueryParts) (G : List SeenRow) (i : ℕ) (o : Option (Aggregate BoundColumn)) → slice_get q.aggregates i ≡ o → total_at q (totals (length q.aggregates) G) i ≡ agg_at q G i
 at_by q G i None e = ap (λ a. total_if a (slice_get (totals (length q.aggregates) G) i)) e ∙ sym (ap (λ a. agg_if a (arguments_at i G)) e)
 at_by q G i (Some a) e =
     let t = get_map (λ j. accumulated (arguments_at j G)) 0 (length q.aggregates) i i (slice_get_within q.aggregates i a e) (omega arith) in

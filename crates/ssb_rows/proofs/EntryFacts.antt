@@ -2,7 +2,6 @@
 use Rattle.std.proofs.Common.{◌≡◌, ◌∙◌, ◌++◌, ◌∷◌, [], ◌||◌, ◌+◌, ◌<◌, ◌≤◌, ℕ, zero, suc, Bool, false, List, length, map, drop, None, Some, Ok, Err, slice_get, refl, sym, ap, subst, arith, append_assoc}
 use Rattle.std.specs.List.{list_any, range_with_len}
 use Rattle.std.proofs.lemmas.Bool.{or_parts}
-use Rattle.ssb_query.specs.declared.query.Aggregate.{Aggregate}
 use Rattle.ssb_query.specs.declared.query.QueryParts.{QueryParts}
 use Rattle.ssb_groups.specs.declared.accumulator.Accumulator.{Accumulator}
 use Rattle.ssb_rows.specs.Entries.{Entry, entry_beyond, entry_row, total_if, total_at, IsBeyondFault, JudgesEntry}
@@ -10,13 +9,15 @@ use Rattle.ssb_rows.specs.Order.{Row}
 use Rattle.ssb_rows.specs.Result.{is_beyond}
 use Rattle.ssb_rows.specs.declared.fault.AnswerFault.{AnswerFault}
 use Rattle.ssb_rows.specs.declared.fault.AnswerFault.TheVariants as fault
+use Rattle.ssb_query.specs.declared.column.BoundColumn.{BoundColumn}
+use Rattle.ssb_trees.specs.declared.aggregate.Aggregate.{Aggregate}
 
 none_in_range : (p : ℕ → Bool) (a n : ℕ) → list_any p (range_with_len a n) ≡ false → (i j : ℕ) → i < n → j ≡ a + i → p j ≡ false
 none_in_range p a zero e i j below is = absurd (omega arith)
 none_in_range p a (suc n) e zero j below is = let h : j ≡ a = omega arith in rw h (or_parts (p a) (list_any p (range_with_len (a + 1) n)) e).0
 none_in_range p a (suc n) e (suc i) j below is = none_in_range p (a + 1) n (or_parts (p a) (list_any p (range_with_len (a + 1) n)) e).1 i j (omega arith) (omega arith)
 
-past : (xs : List Aggregate) (i : ℕ) → length xs ≤ i → slice_get xs i ≡ None
+past : (xs : List (Aggregate BoundColumn)) (i : ℕ) → length xs ≤ i → slice_get xs i ≡ None
 past [] i h = refl
 past (x ∷ xs) zero h = absurd (omega arith)
 past (x ∷ xs) (suc i) h = past xs i (omega arith)

@@ -4,9 +4,9 @@ use Rattle.std.specs.Prelude.{◌≡◌, ℕ, ◌==◌, pos, Bool, true, false, 
 use Rattle.std.specs.List.{list_any, range_with_len}
 use Rattle.ssb_cells.specs.Cell.{Cell, null, number}
 use Rattle.ssb_cells.specs.Values.{cell_of}
-use Rattle.ssb_query.specs.declared.condition.BoundColumn.{BoundColumn}
-use Rattle.ssb_query.specs.declared.query.Aggregate.{Aggregate}
-use Rattle.ssb_query.specs.declared.query.Aggregate.TheVariants as aggregate
+use Rattle.ssb_query.specs.declared.column.BoundColumn.{BoundColumn}
+use Rattle.ssb_trees.specs.declared.aggregate.Aggregate.TheVariants as aggregate
+use Rattle.ssb_trees.specs.declared.aggregate.SetFunction.TheVariants as function
 use Rattle.ssb_query.specs.declared.query.QueryParts.{QueryParts}
 use Rattle.ssb_query.specs.declared.query.Origin.{Origin}
 use Rattle.ssb_query.specs.declared.query.Origin.TheVariants as origin
@@ -17,6 +17,7 @@ use Rattle.ssb_rows.specs.Result.{is_beyond}
 use Rattle.ssb_rows.specs.declared.rows_of.Entry.{Entry as GroupEntry}
 use Rattle.ssb_rows.specs.declared.fault.AnswerFault.{AnswerFault}
 use Rattle.ssb_rows.specs.declared.fault.AnswerFault.TheVariants as fault
+use Rattle.ssb_trees.specs.declared.aggregate.Aggregate.{Aggregate}
 
 abbrev pub Entry : Type 0
 Entry = Key × List Accumulator
@@ -26,12 +27,12 @@ abbrev pub seen : GroupEntry → Entry
 seen e = (map cell_of e.key.now, e.totals.now)
 
 -- the value of an aggregate
-abbrev pub total_cell : Aggregate → Accumulator → Cell
-total_cell (aggregate.Sum e) t = if t.values == 0 then null else number t.total
-total_cell aggregate.CountRows t = number (pos t.values)
-total_cell (aggregate.Count e) t = number (pos t.values)
+abbrev pub total_cell : Aggregate BoundColumn → Accumulator → Cell
+total_cell aggregate.Rows t = number (pos t.values)
+total_cell (aggregate.Of function.Sum e) t = if t.values == 0 then null else number t.total
+total_cell (aggregate.Of function.Count e) t = number (pos t.values)
 
-abbrev pub total_if : Option Aggregate → Option Accumulator → Cell
+abbrev pub total_if : Option (Aggregate BoundColumn) → Option Accumulator → Cell
 total_if None t = null
 total_if (Some a) None = null
 total_if (Some a) (Some t) = total_cell a t

@@ -4,9 +4,9 @@
 use Rattle.std.specs.Prelude.{◌≡◌, ℕ, ◌==◌, pos, Bool, true, false, not, if◌then◌else◌, List, [], ◌∷◌, map, length, Option, None, Some, Result, Ok, Err, slice_get, unwrap_or, ⊤, All}
 use Rattle.std.specs.List.{filter, list_any, range_with_len}
 use Rattle.ssb_cells.specs.Cell.{Cell, null, number, text}
-use Rattle.ssb_query.specs.declared.condition.BoundColumn.{BoundColumn}
-use Rattle.ssb_query.specs.declared.query.Aggregate.{Aggregate}
-use Rattle.ssb_query.specs.declared.query.Aggregate.TheVariants as aggregate
+use Rattle.ssb_query.specs.declared.column.BoundColumn.{BoundColumn}
+use Rattle.ssb_trees.specs.declared.aggregate.Aggregate.TheVariants as aggregate
+use Rattle.ssb_trees.specs.declared.aggregate.SetFunction.TheVariants as function
 use Rattle.ssb_query.specs.declared.query.QueryParts.{QueryParts}
 use Rattle.ssb_query.specs.declared.query.Origin.{Origin}
 use Rattle.ssb_query.specs.declared.query.Origin.TheVariants as origin
@@ -16,6 +16,7 @@ use Rattle.ssb_groups.specs.Value.{Outcome, in_range}
 use Rattle.ssb_rows.specs.Order.{Row, IsOrdered}
 use Rattle.ssb_rows.specs.declared.fault.AnswerFault.{AnswerFault}
 use Rattle.ssb_rows.specs.declared.fault.AnswerFault.TheVariants as fault
+use Rattle.ssb_trees.specs.declared.aggregate.Aggregate.{Aggregate}
 
 -- ---- groups
 
@@ -36,12 +37,12 @@ keys (x ∷ xs) R = present R
 -- ---- aggregates
 
 -- the value of an aggregate over its argument's values: SUM is null over no value, else the exact sum; COUNT counts values
-abbrev pub agg : Aggregate → List Outcome → Cell
-agg (aggregate.Sum e) xs = if value_count xs == 0 then null else number (exact_sum xs)
-agg aggregate.CountRows xs = number (pos (value_count xs))
-agg (aggregate.Count e) xs = number (pos (value_count xs))
+abbrev pub agg : Aggregate BoundColumn → List Outcome → Cell
+agg aggregate.Rows xs = number (pos (value_count xs))
+agg (aggregate.Of function.Sum e) xs = if value_count xs == 0 then null else number (exact_sum xs)
+agg (aggregate.Of function.Count e) xs = number (pos (value_count xs))
 
-abbrev pub agg_if : Option Aggregate → List Outcome → Cell
+abbrev pub agg_if : Option (Aggregate BoundColumn) → List Outcome → Cell
 agg_if None xs = null
 agg_if (Some a) xs = agg a xs
 

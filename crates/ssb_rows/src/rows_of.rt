@@ -15,7 +15,8 @@ use crate::fault::AnswerFault;
 use crate::order::sort_rows;
 use ssb_cells::{OwnedValue, Value};
 use ssb_groups::{Accumulator, Groups, Totals};
-use ssb_query::{Aggregate, Origin, Query, QueryParts};
+use ssb_query::{BoundColumn, Origin, Query, QueryParts};
+use ssb_trees::{Aggregate, SetFunction};
 use std::alloc::{AllocError, Global};
 
 fn is_in_range(number: i128) -> bool
@@ -25,11 +26,11 @@ fn is_in_range(number: i128) -> bool
 }
 
 // Whether the value of an aggregate leaves 64 bits.
-fn is_beyond(aggregate: &Aggregate, total: Accumulator) -> bool
+fn is_beyond(aggregate: &Aggregate<BoundColumn>, total: Accumulator) -> bool
     ensures { result ≡ is_beyond (spec.total_cell aggregate.now total) }
 {
     match aggregate {
-        Aggregate::Sum(_) => total.values > 0 && !is_in_range(total.total),
+        Aggregate::Of(SetFunction::Sum, _) => total.values > 0 && !is_in_range(total.total),
         _ => !is_in_range(i128::from(total.values)),
     }
 }
@@ -60,12 +61,12 @@ fn number_value(number: i128) -> OwnedValue
 }
 
 // The value of an aggregate that does not leave 64 bits.
-fn total_value(aggregate: &Aggregate, total: Accumulator) -> OwnedValue
+fn total_value(aggregate: &Aggregate<BoundColumn>, total: Accumulator) -> OwnedValue
     requires { is_beyond (spec.total_cell aggregate.now total) ≡ false }
     ensures { owned_cell result ≡ spec.total_cell aggregate.now total }
 {
     match aggregate {
-        Aggregate::Sum(_) => {
+        Aggregate::Of(SetFunction::Sum, _) => {
             if total.values == 0 {
                 OwnedValue::Null
             } else {

@@ -3,8 +3,7 @@ use Rattle.std.proofs.Common.{◌≡◌, ℕ, zero, suc, ◌<◌, ◌≤◌, Lis
 use Rattle.ssb_sql.specs.declared.token.Token.{Token}
 use Rattle.ssb_terms.specs.declared.keyword.Keyword.TheVariants as words
 use Rattle.ssb_sql.specs.declared.token.Sign.TheVariants as s
-use Rattle.ssb_sql.specs.declared.condition.Condition.{Condition}
-use Rattle.ssb_sql.specs.declared.condition.Condition.TheVariants as c
+use Rattle.ssb_trees.specs.declared.condition.Condition.TheVariants as c
 use Rattle.ssb_sql.specs.Conditions.{IsCond, IsOrs, IsConj, IsAnds, IsNeg, IsTest, or_chain, and_chain}
 use Rattle.ssb_sql.specs.Conditions.IsCond.{cond}
 use Rattle.ssb_sql.specs.Conditions.IsOrs.{no_or, or}
@@ -18,50 +17,52 @@ use Rattle.ssb_sql.specs.ReadConditions.{bare_at, test_at, neg_at, conj_at, disj
 use Rattle.ssb_sql.proofs.StepFacts.{bind_some, choose_some}
 use Rattle.ssb_sql.proofs.Shapes.{Sound, Tame, IsChain, is_chain, spells, begins, sound_enclosed, made_sound, shrinks}
 use Rattle.ssb_sql.proofs.TestSound.{IsTested, sound_bare, tame_bare}
+use Rattle.ssb_trees.specs.Conditions.{Filter}
+use Rattle.ssb_sql.specs.declared.named.ColumnName.{ColumnName}
 
 mutual
-  pub cond_shorter : {from to : List Token} {x : Condition} → IsCond IsTested from to x → length to < length from
+  pub cond_shorter : {from to : List Token} {x : Filter ColumnName} → IsCond IsTested from to x → length to < length from
   cond_shorter (cond a b) = let p = conj_shorter a in let q = ors_shorter b in omega arith
 
-  pub ors_shorter : {from to : List Token} {xs : List Condition} → IsOrs IsTested from to xs → length to ≤ length from
+  pub ors_shorter : {from to : List Token} {xs : List (Filter ColumnName)} → IsOrs IsTested from to xs → length to ≤ length from
   ors_shorter no_or = omega arith
   ors_shorter (or a b) = let p = conj_shorter a in let q = ors_shorter b in omega arith
 
-  pub conj_shorter : {from to : List Token} {x : Condition} → IsConj IsTested from to x → length to < length from
+  pub conj_shorter : {from to : List Token} {x : Filter ColumnName} → IsConj IsTested from to x → length to < length from
   conj_shorter (conj a b) = let p = neg_shorter a in let q = ands_shorter b in omega arith
 
-  pub ands_shorter : {from to : List Token} {xs : List Condition} → IsAnds IsTested from to xs → length to ≤ length from
+  pub ands_shorter : {from to : List Token} {xs : List (Filter ColumnName)} → IsAnds IsTested from to xs → length to ≤ length from
   ands_shorter no_and = omega arith
   ands_shorter (and a b) = let p = neg_shorter a in let q = ands_shorter b in omega arith
 
-  pub neg_shorter : {from to : List Token} {x : Condition} → IsNeg IsTested from to x → length to < length from
+  pub neg_shorter : {from to : List Token} {x : Filter ColumnName} → IsNeg IsTested from to x → length to < length from
   neg_shorter (plain a) = test_shorter a
   neg_shorter (not a) = let p = test_shorter a in omega arith
 
-  pub test_shorter : {from to : List Token} {x : Condition} → IsTest IsTested from to x → length to < length from
+  pub test_shorter : {from to : List Token} {x : Filter ColumnName} → IsTest IsTested from to x → length to < length from
   test_shorter (parens a) = let p = cond_shorter a in omega arith
   test_shorter (bare a) = tame_bare.shorter a
 
 mutual
-  pub cond_within : {from to : List Token} {x : Condition} → IsCond IsTested from to x → (d : ℕ) → HasRoom d from → HasRoom d to
+  pub cond_within : {from to : List Token} {x : Filter ColumnName} → IsCond IsTested from to x → (d : ℕ) → HasRoom d from → HasRoom d to
   cond_within (cond a b) d h = ors_within b d (conj_within a d h)
 
-  pub ors_within : {from to : List Token} {xs : List Condition} → IsOrs IsTested from to xs → (d : ℕ) → HasRoom d from → HasRoom d to
+  pub ors_within : {from to : List Token} {xs : List (Filter ColumnName)} → IsOrs IsTested from to xs → (d : ℕ) → HasRoom d from → HasRoom d to
   ors_within no_or d h = h
   ors_within (or a b) d h = ors_within b d (conj_within a d h)
 
-  pub conj_within : {from to : List Token} {x : Condition} → IsConj IsTested from to x → (d : ℕ) → HasRoom d from → HasRoom d to
+  pub conj_within : {from to : List Token} {x : Filter ColumnName} → IsConj IsTested from to x → (d : ℕ) → HasRoom d from → HasRoom d to
   conj_within (conj a b) d h = ands_within b d (neg_within a d h)
 
-  pub ands_within : {from to : List Token} {xs : List Condition} → IsAnds IsTested from to xs → (d : ℕ) → HasRoom d from → HasRoom d to
+  pub ands_within : {from to : List Token} {xs : List (Filter ColumnName)} → IsAnds IsTested from to xs → (d : ℕ) → HasRoom d from → HasRoom d to
   ands_within no_and d h = h
   ands_within (and a b) d h = ands_within b d (neg_within a d h)
 
-  pub neg_within : {from to : List Token} {x : Condition} → IsNeg IsTested from to x → (d : ℕ) → HasRoom d from → HasRoom d to
+  pub neg_within : {from to : List Token} {x : Filter ColumnName} → IsNeg IsTested from to x → (d : ℕ) → HasRoom d from → HasRoom d to
   neg_within (plain a) d h = test_within a d h
   neg_within (not a) d h = test_within a d h
 
-  pub test_within : {from to : List Token} {x : Condition} → IsTest IsTested from to x → (d : ℕ) → HasRoom d from → HasRoom d to
+  pub test_within : {from to : List Token} {x : Filter ColumnName} → IsTest IsTested from to x → (d : ℕ) → HasRoom d from → HasRoom d to
   test_within (parens a) zero h = absurd h
   test_within (parens a) (suc d) h = cond_within a d h
   test_within (bare a) d h = tame_bare.within a d h
@@ -75,11 +76,11 @@ tame_conj = record { shorter = λ h. conj_shorter h; within = λ h d w. conj_wit
 tame_neg : Tame (IsNeg IsTested)
 tame_neg = record { shorter = λ h. neg_shorter h; within = λ h d w. neg_within h d w }
 
-module _ (inner : Parser Condition) (h : Sound inner (IsCond IsTested)) where
-  test_sound : (ts : List Token) (x : Condition × List Token) → test_at inner ts ≡ Some x → IsTest IsTested ts x.1 x.0
+module _ (inner : Parser (Filter ColumnName)) (h : Sound inner (IsCond IsTested)) where
+  test_sound : (ts : List Token) (x : Filter ColumnName × List Token) → test_at inner ts ≡ Some x → IsTest IsTested ts x.1 x.0
   test_sound ts x e = sound_enclosed inner bare_at (IsCond IsTested) (IsTest IsTested) h (λ us y q. bare (sound_bare.by us y q)) (λ from to y a. parens a) ts x e
 
-  neg_sound : (ts : List Token) (x : Condition × List Token) → neg_at inner ts ≡ Some x → IsNeg IsTested ts x.1 x.0
+  neg_sound : (ts : List Token) (x : Filter ColumnName × List Token) → neg_at inner ts ≡ Some x → IsNeg IsTested ts x.1 x.0
   unfolding neg_at
   neg_sound ts x e =
       elim (choose_some (after (s.Word words.Not) ts) _ _ (Some x) e) as (λ _. IsNeg IsTested ts x.1 x.0) [
@@ -95,7 +96,7 @@ module _ (inner : Parser Condition) (h : Sound inner (IsCond IsTested)) where
   ands : IsChain (after (s.Word words.And)) (neg_at inner) (IsAnds IsTested)
   ands = is_chain (s.Word words.And) (neg_at inner) (IsNeg IsTested) (IsAnds IsTested) sound_neg (λ to. no_and) (λ from mid to x xs a m. and a m)
 
-  conj_sound : (ts : List Token) (x : Condition × List Token) → conj_at inner ts ≡ Some x → IsConj IsTested ts x.1 x.0
+  conj_sound : (ts : List Token) (x : Filter ColumnName × List Token) → conj_at inner ts ≡ Some x → IsConj IsTested ts x.1 x.0
   unfolding conj_at
   conj_sound ts x e = made_sound (s.Word words.And) (neg_at inner) (IsNeg IsTested) (IsAnds IsTested) (IsConj IsTested) and_chain sound_neg ands (λ from mid to y ys a b. conj a b) ts x e
 
@@ -105,7 +106,7 @@ module _ (inner : Parser Condition) (h : Sound inner (IsCond IsTested)) where
   ors : IsChain (after (s.Word words.Or)) (conj_at inner) (IsOrs IsTested)
   ors = is_chain (s.Word words.Or) (conj_at inner) (IsConj IsTested) (IsOrs IsTested) sound_conj (λ to. no_or) (λ from mid to x xs a m. or a m)
 
-  disj_sound : (ts : List Token) (x : Condition × List Token) → disj_at inner ts ≡ Some x → IsCond IsTested ts x.1 x.0
+  disj_sound : (ts : List Token) (x : Filter ColumnName × List Token) → disj_at inner ts ≡ Some x → IsCond IsTested ts x.1 x.0
   disj_sound ts x e = made_sound (s.Word words.Or) (conj_at inner) (IsConj IsTested) (IsOrs IsTested) (IsCond IsTested) or_chain sound_conj ors (λ from mid to y ys a b. cond a b) ts x e
 
 -- a condition inside one more parenthesis

@@ -6,6 +6,9 @@ use Rattle.ssb_terms.specs.declared.keyword.Keyword.{Keyword}
 use Rattle.ssb_terms.specs.declared.keyword.Keyword.TheVariants as words
 use Rattle.ssb_sql.specs.declared.token.Mark.TheVariants as marks
 use Rattle.ssb_sql.specs.declared.token.Sign.TheVariants as s
+use Rattle.ssb_trees.specs.declared.aggregate.Aggregate.TheVariants as a
+use Rattle.ssb_trees.specs.declared.aggregate.SetFunction.{SetFunction}
+use Rattle.ssb_trees.specs.declared.aggregate.SetFunction.TheVariants as functions
 use Rattle.ssb_sql.specs.declared.select.Output.{Output}
 use Rattle.ssb_sql.specs.declared.select.Output.TheVariants as u
 use Rattle.ssb_sql.specs.declared.select.Item.{Item}
@@ -14,53 +17,74 @@ use Rattle.ssb_sql.specs.declared.select.Key.TheVariants as k
 use Rattle.ssb_sql.specs.declared.select.Order.{Order}
 use Rattle.ssb_sql.specs.Forms.{IsColumn}
 use Rattle.ssb_sql.specs.Expressions.{IsExpr}
-use Rattle.ssb_sql.specs.Grammar.{IsOutput, IsItem, IsKey, IsOrder}
+use Rattle.ssb_sql.specs.Grammar.{function_word, IsAggregate, IsOutput, IsItem, IsKey, IsOrder}
 use Rattle.ssb_sql.specs.Room.{HasRoom}
-use Rattle.ssb_sql.specs.Grammar.IsOutput.{column, sum, count_rows, count}
+use Rattle.ssb_sql.specs.Grammar.IsAggregate.{rows, of}
+use Rattle.ssb_sql.specs.Grammar.IsOutput.{column, aggregate}
 use Rattle.ssb_sql.specs.Grammar.IsItem.{unnamed, named}
 use Rattle.ssb_sql.specs.Grammar.IsKey.{name, position}
 use Rattle.ssb_sql.specs.Grammar.IsOrder.{plain, asc, desc}
-use Rattle.ssb_sql.specs.Steps.{after, name_at, closed_at, parens_at, Shrinks}
+use Rattle.ssb_sql.specs.Reading.{◌>>=◌}
+use Rattle.ssb_sql.specs.Steps.{after, name_at, closed_at, Shrinks}
 use Rattle.ssb_sql.specs.ReadParts.{column_at}
 use Rattle.ssb_sql.specs.ReadExpressions.{expr_at}
-use Rattle.ssb_sql.specs.ReadSelects.{count_at, output_at, item_of, alias_at, item_at, key_at, order_of, order_at}
+use Rattle.ssb_sql.specs.ReadSelects.{function_of, function_at, star_at, argument_at, aggregate_at, output_at, item_of, alias_at, item_at, key_at, order_of, order_at}
 use Rattle.ssb_sql.proofs.StepFacts.{some_is, bind_some, choose_some, after_is, two_are}
 use Rattle.ssb_sql.proofs.Shapes.{Sound, Tame, Went, went, tame, spells, starts, followed, sound_closed, shrinks}
 use Rattle.ssb_sql.proofs.PartFacts.{name_is, sound_column, tame_column}
 use Rattle.ssb_sql.proofs.ExpressionSound.{sound_expr, tame_expr}
+use Rattle.ssb_sql.specs.declared.named.ColumnName.{ColumnName}
+use Rattle.ssb_trees.specs.declared.aggregate.Aggregate.{Aggregate}
 
-count_sound : (d : ℕ) (ts : List Token) (x : Output × List Token) → count_at d ts ≡ Some x → IsOutput (Fixed (s.Word words.Count) ∷ Fixed (s.Mark marks.Open) ∷ ts) x.1 x.0
-unfolding count_at
-count_sound d ts x e =
-    elim (choose_some (after (s.Mark marks.Times) ts) _ _ (Some x) e) as (λ _. IsOutput (Fixed (s.Word words.Count) ∷ Fixed (s.Mark marks.Open) ∷ ts) x.1 x.0) [
+-- the word of a function
+function_named : (w : Keyword) (f : SetFunction) → function_of w ≡ Some f → w ≡ function_word f
+function_named words.Sum f e = ap function_word (some_is functions.Sum f e)
+function_named words.Count f e = ap function_word (some_is functions.Count f e)
+function_named _ f e = absurd cc
+
+function_is : (ts : List Token) (f : SetFunction × List Token) → function_at ts ≡ Some f → ts ≡ Fixed (s.Word (function_word f.0)) ∷ f.1
+unfolding function_at
+function_is (Fixed (s.Word w) ∷ ts) f e =
+    let g = bind_some (function_of w) (λ y. Some (y, ts)) f e in
+    ap (λ z. Fixed (s.Word z) ∷ ts) (function_named w g.0 g.1) ∙ ap (λ z. Fixed (s.Word (function_word z.0)) ∷ z.1) (some_is (g.0, ts) f g.2)
+function_is _ f e = absurd cc
+
+-- what follows a function and its `(`
+of_sound : (d : ℕ) (f : SetFunction) (ts : List Token) (x : Aggregate ColumnName × List Token) → (closed_at (expr_at d) ts >>= λ y. Some (a.Of f y.0, y.1)) ≡ Some x → IsAggregate (Fixed (s.Word (function_word f)) ∷ Fixed (s.Mark marks.Open) ∷ ts) x.1 x.0
+of_sound d f ts x e =
+    let g = bind_some (closed_at (expr_at d) ts) _ x e in
+    spells IsAggregate (Fixed (s.Word (function_word f)) ∷ Fixed (s.Mark marks.Open) ∷ ts) g.0.1 (a.Of f g.0.0) x (of (sound_closed (expr_at d) IsExpr (sound_expr d) ts g.0 g.1)) g.2
+
+argument_sound : (d : ℕ) (f : SetFunction) (ts : List Token) (x : Aggregate ColumnName × List Token) → argument_at d f ts ≡ Some x → IsAggregate (Fixed (s.Word (function_word f)) ∷ Fixed (s.Mark marks.Open) ∷ ts) x.1 x.0
+unfolding argument_at star_at
+argument_sound d functions.Sum ts x e = of_sound d functions.Sum ts x e
+argument_sound d functions.Count ts x e =
+    let counted = Fixed (s.Word words.Count) ∷ Fixed (s.Mark marks.Open) ∷ ts in
+    elim (choose_some (after (s.Mark marks.Times) ts) _ _ (Some x) e) as (λ _. IsAggregate counted x.1 x.0) [
       | inl g ↦
           let f = bind_some (after (s.Mark marks.Close) g.0) _ x g.2 in
           let m = two_are (s.Mark marks.Times) (s.Mark marks.Close) ts g.0 f.0 g.1 f.1 in
-          spells IsOutput (Fixed (s.Word words.Count) ∷ Fixed (s.Mark marks.Open) ∷ ts) f.0 u.CountRows x (subst (λ z. IsOutput (Fixed (s.Word words.Count) ∷ Fixed (s.Mark marks.Open) ∷ z) f.0 u.CountRows) (sym m) count_rows) f.2
-      | inr b ↦
-          let f = bind_some (closed_at (expr_at d) ts) _ x b.1 in
-          spells IsOutput (Fixed (s.Word words.Count) ∷ Fixed (s.Mark marks.Open) ∷ ts) f.0.1 (u.Count f.0.0) x (count (sound_closed (expr_at d) IsExpr (sound_expr d) ts f.0 f.1)) f.2
+          spells IsAggregate counted f.0 a.Rows x (subst (λ z. IsAggregate (Fixed (s.Word words.Count) ∷ Fixed (s.Mark marks.Open) ∷ z) f.0 a.Rows) (sym m) rows) f.2
+      | inr b ↦ of_sound d functions.Count ts x b.1
     ]
 
+aggregate_sound : (d : ℕ) (ts : List Token) (f : SetFunction × List Token) (x : Aggregate ColumnName × List Token) → function_at ts ≡ Some f → aggregate_at d f.0 f.1 ≡ Some x → IsAggregate ts x.1 x.0
+unfolding aggregate_at
+aggregate_sound d ts f x is e =
+    let q = bind_some (after (s.Mark marks.Open) f.1) _ x e in
+    let m = function_is ts f is ∙ ap (λ z. Fixed (s.Word (function_word f.0)) ∷ z) (after_is (s.Mark marks.Open) f.1 q.0 q.1) in
+    starts IsAggregate ts (Fixed (s.Word (function_word f.0)) ∷ Fixed (s.Mark marks.Open) ∷ q.0) x.1 x.0 m (argument_sound d f.0 q.0 x q.2)
+
 output_sound : (d : ℕ) (ts : List Token) (x : Output × List Token) → output_at d ts ≡ Some x → IsOutput ts x.1 x.0
-unfolding output_at parens_at
+unfolding output_at
 output_sound d ts x e =
-    elim (choose_some (after (s.Word words.Sum) ts) _ _ (Some x) e) as (λ _. IsOutput ts x.1 x.0) [
+    elim (choose_some (function_at ts) _ _ (Some x) e) as (λ _. IsOutput ts x.1 x.0) [
       | inl g ↦
-          let f = bind_some (parens_at (expr_at d) g.0) _ x g.2 in
-          let q = bind_some (after (s.Mark marks.Open) g.0) _ f.0 f.1 in
-          let m = two_are (s.Word words.Sum) (s.Mark marks.Open) ts g.0 q.0 g.1 q.1 in
-          spells IsOutput ts f.0.1 (u.Sum f.0.0) x (starts IsOutput ts (Fixed (s.Word words.Sum) ∷ Fixed (s.Mark marks.Open) ∷ q.0) f.0.1 (u.Sum f.0.0) m (sum (sound_closed (expr_at d) IsExpr (sound_expr d) q.0 f.0 q.2))) f.2
-      | inr b ↦
-          elim (choose_some (after (s.Word words.Count) ts) _ _ (Some x) b.1) as (λ _. IsOutput ts x.1 x.0) [
-            | inl g ↦
-                let q = bind_some (after (s.Mark marks.Open) g.0) _ x g.2 in
-                let m = two_are (s.Word words.Count) (s.Mark marks.Open) ts g.0 q.0 g.1 q.1 in
-                starts IsOutput ts (Fixed (s.Word words.Count) ∷ Fixed (s.Mark marks.Open) ∷ q.0) x.1 x.0 m (count_sound d q.0 x q.2)
-            | inr g ↦
-                let f = bind_some (column_at ts) _ x g.1 in
-                spells IsOutput ts f.0.1 (u.Column f.0.0) x (column (sound_column.by ts f.0 f.1)) f.2
-          ]
+          let f = bind_some (aggregate_at d g.0.0 g.0.1) _ x g.2 in
+          spells IsOutput ts f.0.1 (u.Aggregate f.0.0) x (aggregate (aggregate_sound d ts g.0 f.0 g.1 f.1)) f.2
+      | inr g ↦
+          let f = bind_some (column_at ts) _ x g.1 in
+          spells IsOutput ts f.0.1 (u.Column f.0.0) x (column (sound_column.by ts f.0 f.1)) f.2
     ]
 
 -- an item, from its output and what AS gives
@@ -116,11 +140,13 @@ parens_went k from to p = record { shorter = let q = p.shorter in omega arith; w
     inside zero h = absurd h
     inside (suc d) h = p.within d h
 
+aggregate_went : {from to : List Token} {x : Aggregate ColumnName} → IsAggregate from to x → Went from to
+aggregate_went (rows {to = to}) = parens_went words.Count (Fixed (s.Mark marks.Times) ∷ Fixed (s.Mark marks.Close) ∷ to) to (record { shorter = omega arith; within = λ d h. h })
+aggregate_went (of {from = from} {to = to} {f = f} h) = parens_went (function_word f) from to (went IsExpr tame_expr h)
+
 output_went : {from to : List Token} {x : Output} → IsOutput from to x → Went from to
-output_went (column a) = went IsColumn tame_column a
-output_went (sum {from = from} {to = to} a) = parens_went words.Sum from to (went IsExpr tame_expr a)
-output_went (count_rows {to = to}) = parens_went words.Count (Fixed (s.Mark marks.Times) ∷ Fixed (s.Mark marks.Close) ∷ to) to (record { shorter = omega arith; within = λ d h. h })
-output_went (count {from = from} {to = to} a) = parens_went words.Count from to (went IsExpr tame_expr a)
+output_went (column h) = went IsColumn tame_column h
+output_went (aggregate h) = aggregate_went h
 
 item_went : {from to : List Token} {x : Item} → IsItem from to x → Went from to
 item_went (unnamed a) = output_went a

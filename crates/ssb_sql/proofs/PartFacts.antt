@@ -6,11 +6,10 @@ use Rattle.ssb_sql.specs.declared.token.Token.{Token}
 use Rattle.ssb_sql.specs.declared.token.Token.TheVariants.{Fixed, Name, Number, Text}
 use Rattle.ssb_sql.specs.declared.token.Mark.TheVariants as marks
 use Rattle.ssb_sql.specs.declared.token.Sign.TheVariants as s
-use Rattle.ssb_sql.specs.declared.expr.ColumnName.{ColumnName}
+use Rattle.ssb_sql.specs.declared.named.ColumnName.{ColumnName}
 use Rattle.ssb_terms.specs.declared.literal.Literal.{Literal}
 use Rattle.ssb_terms.specs.declared.literal.Literal.TheVariants as l
-use Rattle.ssb_sql.specs.declared.condition.Operand.{Operand}
-use Rattle.ssb_sql.specs.declared.condition.Operand.TheVariants as o
+use Rattle.ssb_trees.specs.declared.operand.Operand.TheVariants as o
 use Rattle.ssb_sql.specs.Forms.{IsNamed, IsColumn, IsLiteral, IsOperand}
 use Rattle.ssb_sql.specs.Forms.IsNamed.{name}
 use Rattle.ssb_sql.specs.Forms.IsColumn.{alone, dotted}
@@ -20,6 +19,7 @@ use Rattle.ssb_sql.specs.Steps.{after, is_fixed, name_at, number_at, is_name_nex
 use Rattle.ssb_sql.specs.ReadParts.{column_of, column_at, small_at, below_at, plain_literal_at, literal_at, operand_at}
 use Rattle.ssb_sql.proofs.StepFacts.{some_is, bind_some, choose_some, if_some, after_is, Stops, stops, differs, sees}
 use Rattle.ssb_sql.proofs.Shapes.{Sound, Tame, Went, tame, spells, starts, shrinks}
+use Rattle.ssb_trees.specs.declared.operand.Operand.{Operand}
 
 pub name_is : (ts : List Token) (x : List ℕ × List Token) → name_at ts ≡ Some x → ts ≡ Name x.0 ∷ x.1
 unfolding name_at
@@ -104,7 +104,7 @@ literal_sound ts x e =
 pub sound_literal : Sound literal_at IsLiteral
 sound_literal = record { by = literal_sound }
 
-operand_sound : (ts : List Token) (x : Operand × List Token) → operand_at ts ≡ Some x → IsOperand ts x.1 x.0
+operand_sound : (ts : List Token) (x : Operand ColumnName × List Token) → operand_at ts ≡ Some x → IsOperand ts x.1 x.0
 unfolding operand_at
 operand_sound ts x e =
     elim (if_some (is_name_next ts) _ _ (Some x) e) as (λ _. IsOperand ts x.1 x.0) [
@@ -141,7 +141,7 @@ literal_went text = record { shorter = omega arith; within = λ d h. h }
 pub tame_literal : Tame IsLiteral
 tame_literal = tame IsLiteral (λ from to x h. literal_went h)
 
-operand_went : {from to : List Token} {x : Operand} → IsOperand from to x → Went from to
+operand_went : {from to : List Token} {x : Operand ColumnName} → IsOperand from to x → Went from to
 operand_went (column a) = column_went a
 operand_went (literal a) = literal_went a
 
@@ -201,7 +201,7 @@ literal_next (positive h) = refl
 literal_next (negative h) = refl
 literal_next text = refl
 
-pub operand_read : {from to : List Token} {x : Operand} → IsOperand from to x → Stops (s.Mark marks.Dot) to → operand_at from ≡ Some (x, to)
+pub operand_read : {from to : List Token} {x : Operand ColumnName} → IsOperand from to x → Stops (s.Mark marks.Dot) to → operand_at from ≡ Some (x, to)
 unfolding operand_at
 operand_read (column a) h = rw (column_next a, column_read a h) refl
 operand_read (literal a) h = rw (literal_next a, literal_read a) refl

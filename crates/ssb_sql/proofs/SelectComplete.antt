@@ -7,9 +7,10 @@ use Rattle.ssb_terms.specs.declared.keyword.Keyword.{Keyword}
 use Rattle.ssb_terms.specs.declared.keyword.Keyword.TheVariants as words
 use Rattle.ssb_sql.specs.declared.token.Mark.TheVariants as marks
 use Rattle.ssb_sql.specs.declared.token.Sign.TheVariants as s
-use Rattle.ssb_sql.specs.declared.expr.ColumnName.{ColumnName}
-use Rattle.ssb_sql.specs.declared.expr.Expr.{Expr}
-use Rattle.ssb_sql.specs.declared.condition.Condition.{Condition}
+use Rattle.ssb_sql.specs.declared.named.ColumnName.{ColumnName}
+use Rattle.ssb_trees.specs.declared.aggregate.Aggregate.TheVariants as a
+use Rattle.ssb_trees.specs.declared.aggregate.SetFunction.{SetFunction}
+use Rattle.ssb_trees.specs.declared.aggregate.SetFunction.TheVariants as functions
 use Rattle.ssb_sql.specs.declared.select.Output.{Output}
 use Rattle.ssb_sql.specs.declared.select.Output.TheVariants as u
 use Rattle.ssb_sql.specs.declared.select.Item.{Item}
@@ -17,9 +18,11 @@ use Rattle.ssb_sql.specs.declared.select.Key.{Key}
 use Rattle.ssb_sql.specs.declared.select.Order.{Order}
 use Rattle.ssb_sql.specs.declared.select.Select.{Select}
 use Rattle.ssb_sql.specs.Forms.{IsList, IsNamed, IsColumn}
-use Rattle.ssb_sql.specs.Grammar.{IsOutput, IsItem, IsWhere, IsGroups, IsKey, IsOrder, IsOrders, IsEnd, Parses}
+use Rattle.ssb_sql.specs.Grammar.{function_word, IsAggregate, IsOutput, IsItem, IsWhere, IsGroups, IsKey, IsOrder, IsOrders, IsEnd, Parses}
 use Rattle.ssb_sql.specs.Room.{HasRoom}
-use Rattle.ssb_sql.specs.Grammar.IsOutput.{column, sum, count_rows, count}
+use Rattle.ssb_sql.specs.Grammar.IsAggregate.{rows, of}
+use Rattle.ssb_sql.specs.Grammar.IsOutput.{column, aggregate}
+use Rattle.ssb_sql.specs.Forms.IsColumn.{alone, dotted}
 use Rattle.ssb_sql.specs.Grammar.IsItem.{unnamed, named}
 use Rattle.ssb_sql.specs.Grammar.IsKey.{name, position}
 use Rattle.ssb_sql.specs.Grammar.IsOrder.{plain, asc, desc}
@@ -28,45 +31,55 @@ use Rattle.ssb_sql.specs.Grammar.IsGroups.{no_groups, groups}
 use Rattle.ssb_sql.specs.Grammar.IsOrders.{no_orders, orders}
 use Rattle.ssb_sql.specs.Grammar.IsEnd.{end, semicolon}
 use Rattle.ssb_sql.specs.Grammar.Parses.{query}
-use Rattle.ssb_sql.specs.Steps.{Parser, after, is_sign, name_at, list_at, parens_at}
+use Rattle.ssb_sql.specs.Steps.{Parser, after, is_sign, name_at, list_at}
 use Rattle.ssb_sql.specs.ReadParts.{column_at}
 use Rattle.ssb_sql.specs.ReadExpressions.{expr_at}
-use Rattle.ssb_sql.specs.ReadSelects.{count_at, output_at, alias_at, item_at, where_at, by_at, key_at, order_at, ends, select_of, ordered_at, grouped_at, filtered_at, joined_at, query_at}
+use Rattle.ssb_sql.specs.ReadSelects.{function_at, star_at, argument_at, aggregate_at, output_at, alias_at, item_at, where_at, by_at, key_at, order_at, ends, select_of, ordered_at, grouped_at, filtered_at, joined_at, query_at}
 use Rattle.ssb_sql.proofs.StepFacts.{some_is, Stops, stops, differs, sees}
 use Rattle.ssb_sql.proofs.Shapes.{Complete, GoesOn, closed_read, list_read, tame_list}
 use Rattle.ssb_sql.proofs.PartFacts.{tame_name, tame_column, named_read, name_read, column_read}
 use Rattle.ssb_sql.proofs.Depth.{all_within}
-use Rattle.ssb_sql.proofs.ExpressionComplete.{column_begins, expr_begins, expr_read, close_ends}
+use Rattle.ssb_sql.proofs.ExpressionComplete.{expr_begins, expr_read, close_ends}
 use Rattle.ssb_sql.proofs.ConditionComplete.{EndsCond, cond_read}
 use Rattle.ssb_sql.proofs.ItemFacts.{tame_item, tame_order}
+use Rattle.ssb_trees.specs.Conditions.{Filter}
+use Rattle.ssb_trees.specs.declared.aggregate.Aggregate.{Aggregate}
+use Rattle.ssb_trees.specs.declared.expr.Expr.{Expr}
 
 -- aggregates
-column_goes : {from to : List Token} {x : ColumnName} → IsColumn from to x → (d : ℕ) → Stops (s.Mark marks.Dot) to → output_at d from ≡ Some (u.Column x, to)
-unfolding output_at
-column_goes a d n = rw (column_begins a (s.Word words.Sum), column_begins a (s.Word words.Count), column_read a n) refl
+column_names_none : {from to : List Token} {x : ColumnName} → IsColumn from to x → function_at from ≡ None
+unfolding function_at
+column_names_none alone = refl
+column_names_none dotted = refl
 
-sum_goes : (d : ℕ) (ts to : List Token) (x : Expr) → expr_at d ts ≡ Some (x, Fixed (s.Mark marks.Close) ∷ to) → output_at d (Fixed (s.Word words.Sum) ∷ Fixed (s.Mark marks.Open) ∷ ts) ≡ Some (u.Sum x, to)
-unfolding output_at parens_at
-sum_goes d ts to x e = rw (sees (s.Word words.Sum) (Fixed (s.Mark marks.Open) ∷ ts), sees (s.Mark marks.Open) ts, closed_read (expr_at d) ts to x e) refl
+function_read : (f : SetFunction) (ts : List Token) → function_at (Fixed (s.Word (function_word f)) ∷ ts) ≡ Some (f, ts)
+unfolding function_at
+function_read functions.Sum ts = refl
+function_read functions.Count ts = refl
 
-rows_goes : (d : ℕ) (to : List Token) → output_at d (Fixed (s.Word words.Count) ∷ Fixed (s.Mark marks.Open) ∷ Fixed (s.Mark marks.Times) ∷ Fixed (s.Mark marks.Close) ∷ to) ≡ Some (u.CountRows, to)
-unfolding output_at count_at
-rows_goes d to =
-    let ts = Fixed (s.Mark marks.Times) ∷ Fixed (s.Mark marks.Close) ∷ to in
-    rw (stops (s.Word words.Count) (s.Word words.Sum) (Fixed (s.Mark marks.Open) ∷ ts) (differs (s.Word words.Count) (s.Word words.Sum) refl), sees (s.Word words.Count) (Fixed (s.Mark marks.Open) ∷ ts), sees (s.Mark marks.Open) ts, sees (s.Mark marks.Times) (Fixed (s.Mark marks.Close) ∷ to), sees (s.Mark marks.Close) to) refl
+argument_read : (d : ℕ) (f : SetFunction) (ts to : List Token) (x : Expr ColumnName) → Stops (s.Mark marks.Times) ts → expr_at d ts ≡ Some (x, Fixed (s.Mark marks.Close) ∷ to) → argument_at d f ts ≡ Some (a.Of f x, to)
+unfolding argument_at star_at
+argument_read d functions.Sum ts to x h e = rw (closed_read (expr_at d) ts to x e) refl
+argument_read d functions.Count ts to x h e = rw (h, closed_read (expr_at d) ts to x e) refl
 
-count_goes : (d : ℕ) (ts to : List Token) (x : Expr) → Stops (s.Mark marks.Times) ts → expr_at d ts ≡ Some (x, Fixed (s.Mark marks.Close) ∷ to) → output_at d (Fixed (s.Word words.Count) ∷ Fixed (s.Mark marks.Open) ∷ ts) ≡ Some (u.Count x, to)
-unfolding output_at count_at
-count_goes d ts to x h e =
-    rw (stops (s.Word words.Count) (s.Word words.Sum) (Fixed (s.Mark marks.Open) ∷ ts) (differs (s.Word words.Count) (s.Word words.Sum) refl), sees (s.Word words.Count) (Fixed (s.Mark marks.Open) ∷ ts), sees (s.Mark marks.Open) ts, h, closed_read (expr_at d) ts to x e) refl
+rows_read : (d : ℕ) (to : List Token) → argument_at d functions.Count (Fixed (s.Mark marks.Times) ∷ Fixed (s.Mark marks.Close) ∷ to) ≡ Some (a.Rows, to)
+unfolding argument_at star_at
+rows_read d to = rw (sees (s.Mark marks.Times) (Fixed (s.Mark marks.Close) ∷ to), sees (s.Mark marks.Close) to) refl
+
+-- a function and what stands in its parentheses
+aggregate_goes : (d : ℕ) (f : SetFunction) (ts to : List Token) (x : Aggregate ColumnName) → argument_at d f ts ≡ Some (x, to) → output_at d (Fixed (s.Word (function_word f)) ∷ Fixed (s.Mark marks.Open) ∷ ts) ≡ Some (u.Aggregate x, to)
+unfolding output_at aggregate_at
+aggregate_goes d f ts to x e = rw (function_read f (Fixed (s.Mark marks.Open) ∷ ts), sees (s.Mark marks.Open) ts, e) refl
+
+aggregate_read : {from to : List Token} {x : Aggregate ColumnName} → IsAggregate from to x → (d : ℕ) → HasRoom d from → output_at d from ≡ Some (u.Aggregate x, to)
+aggregate_read (rows {to = to}) d h = aggregate_goes d functions.Count (Fixed (s.Mark marks.Times) ∷ Fixed (s.Mark marks.Close) ∷ to) to a.Rows (rows_read d to)
+aggregate_read (of a) zero h = absurd h
+aggregate_read (of {from = from} {to = to} {f = f} {x = x} e) (suc d) h = aggregate_goes (suc d) f from to (a.Of f x) (argument_read (suc d) f from to x (expr_begins e) (expr_read e d h (close_ends to)))
 
 output_read : {from to : List Token} {x : Output} → IsOutput from to x → (d : ℕ) → HasRoom d from → Stops (s.Mark marks.Dot) to → output_at d from ≡ Some (x, to)
-output_read (column a) d h n = column_goes a d n
-output_read (sum a) zero h n = absurd h
-output_read (sum {from = from} {to = to} {x = x} a) (suc d) h n = sum_goes (suc d) from to x (expr_read a d h (close_ends to))
-output_read (count_rows {to = to}) d h n = rows_goes d to
-output_read (count a) zero h n = absurd h
-output_read (count {from = from} {to = to} {x = x} a) (suc d) h n = count_goes (suc d) from to x (expr_begins a) (expr_read a d h (close_ends to))
+unfolding output_at
+output_read (column h) d room n = rw (column_names_none h, column_read h n) refl
+output_read (aggregate h) d room n = aggregate_read h d room
 
 -- what may follow an item
 pub record EndsItem (to : List Token) : Type 0 where
@@ -148,12 +161,12 @@ groups_stop : {from to : List Token} {xs : List ColumnName} → IsGroups from to
 groups_stop no_groups sign p h = h
 groups_stop (groups {from = from} a) sign p h = stops (s.Word words.Group) sign (Fixed (s.Word words.By) ∷ from) p
 
-where_stops : {from to : List Token} {x : Option Condition} → IsWhere from to x → (sign : Sign) → is_sign (s.Word words.Where) sign ≡ false → Stops sign to → Stops sign from
+where_stops : {from to : List Token} {x : Option (Filter ColumnName)} → IsWhere from to x → (sign : Sign) → is_sign (s.Word words.Where) sign ≡ false → Stops sign to → Stops sign from
 where_stops no_where sign p h = h
 where_stops (where_cond {from = from} a) sign p h = stops (s.Word words.Where) sign from p
 
 -- the parts behind FROM
-where_read : {from to : List Token} {x : Option Condition} → IsWhere from to x → (d : ℕ) → HasRoom d from → Stops (s.Word words.Where) to → EndsCond to → where_at (suc d) from ≡ Some (x, to)
+where_read : {from to : List Token} {x : Option (Filter ColumnName)} → IsWhere from to x → (d : ℕ) → HasRoom d from → Stops (s.Word words.Where) to → EndsCond to → where_at (suc d) from ≡ Some (x, to)
 unfolding where_at
 where_read no_where d h n z = rw n refl
 where_read (where_cond {from = from} a) d h n z = rw (sees (s.Word words.Where) from, cond_read a d h z) refl
@@ -179,7 +192,7 @@ unfolding ends
 ends_read end = rw (nil_stops (s.Mark marks.Semicolon)) refl
 ends_read semicolon = rw (sees (s.Mark marks.Semicolon) []) refl
 
-query_goes : (d : ℕ) (a b c e f g : List Token) (items : List Item) (from : List (List ℕ)) (w : Option Condition) (xs : List ColumnName) (ys : List Order) → list_at (item_at d) a ≡ Some (items, Fixed (s.Word words.From) ∷ b)
+query_goes : (d : ℕ) (a b c e f g : List Token) (items : List Item) (from : List (List ℕ)) (w : Option (Filter ColumnName)) (xs : List ColumnName) (ys : List Order) → list_at (item_at d) a ≡ Some (items, Fixed (s.Word words.From) ∷ b)
     → list_at name_at b ≡ Some (from, c) → where_at (suc d) c ≡ Some (w, e) → by_at words.Group column_at e ≡ Some (xs, f) → by_at words.Order order_at f ≡ Some (ys, g) → ends g ≡ true
     → query_at d (Fixed (s.Word words.Select) ∷ a) ≡ Some (select_of items from w xs ys)
 unfolding query_at joined_at filtered_at grouped_at ordered_at

@@ -6,8 +6,7 @@ use Rattle.ssb_terms.specs.declared.keyword.Keyword.{Keyword}
 use Rattle.ssb_terms.specs.declared.keyword.Keyword.TheVariants as words
 use Rattle.ssb_sql.specs.declared.token.Mark.TheVariants as marks
 use Rattle.ssb_sql.specs.declared.token.Sign.TheVariants as s
-use Rattle.ssb_sql.specs.declared.expr.ColumnName.{ColumnName}
-use Rattle.ssb_sql.specs.declared.condition.Condition.{Condition}
+use Rattle.ssb_sql.specs.declared.named.ColumnName.{ColumnName}
 use Rattle.ssb_sql.specs.declared.select.Item.{Item}
 use Rattle.ssb_sql.specs.declared.select.Order.{Order}
 use Rattle.ssb_sql.specs.declared.select.Select.{Select}
@@ -27,8 +26,9 @@ use Rattle.ssb_sql.proofs.Shapes.{Sound, spells, starts, begins, followed, sound
 use Rattle.ssb_sql.proofs.PartFacts.{sound_name, sound_column}
 use Rattle.ssb_sql.proofs.ConditionSound.{sound_cond}
 use Rattle.ssb_sql.proofs.ItemFacts.{sound_item, sound_order}
+use Rattle.ssb_trees.specs.Conditions.{Filter}
 
-where_sound : (d : ℕ) (ts : List Token) (x : Option Condition × List Token) → where_at d ts ≡ Some x → IsWhere ts x.1 x.0
+where_sound : (d : ℕ) (ts : List Token) (x : Option (Filter ColumnName) × List Token) → where_at d ts ≡ Some x → IsWhere ts x.1 x.0
 unfolding where_at
 where_sound d ts x e =
     elim (choose_some (after (s.Word words.Where) ts) _ _ (Some x) e) as (λ _. IsWhere ts x.1 x.0) [
@@ -80,7 +80,7 @@ grouped_is ts x e =
     let here = by_sound words.Group column_at IsColumn IsGroups sound_column (λ to. no_groups) (λ from to xs a. groups a) ts g.0 g.1 in
     subst (λ y. (mid to : List Token) × IsGroups ts mid y.0 × IsOrders mid to y.1 × IsEnd to) (some_is (g.0.0, o.0) x o.2) (g.0.1, q.0, here, q.1, q.2)
 
-filtered_is : (d : ℕ) (ts : List Token) (x : Option Condition × List ColumnName × List Order) → filtered_at d ts ≡ Some x → (a b to : List Token) × IsWhere ts a x.0 × IsGroups a b x.1 × IsOrders b to x.2 × IsEnd to
+filtered_is : (d : ℕ) (ts : List Token) (x : Option (Filter ColumnName) × List ColumnName × List Order) → filtered_at d ts ≡ Some x → (a b to : List Token) × IsWhere ts a x.0 × IsGroups a b x.1 × IsOrders b to x.2 × IsEnd to
 unfolding filtered_at
 filtered_is d ts x e =
     let w = bind_some (where_at (suc d) ts) _ x e in
@@ -89,7 +89,7 @@ filtered_is d ts x e =
     subst (λ y. (a b to : List Token) × IsWhere ts a y.0 × IsGroups a b y.1 × IsOrders b to y.2 × IsEnd to) (some_is (w.0.0, g.0.0, g.0.1) x g.2)
     (w.0.1, q.0, q.1, where_sound (suc d) ts w.0 w.1, q.2, q.3, q.4)
 
-joined_is : (d : ℕ) (a ts : List Token) (items : List Item) (x : List (List ℕ) × Option Condition × List ColumnName × List Order) → IsList IsItem a ts items → joined_at d ts ≡ Some x
+joined_is : (d : ℕ) (a ts : List Token) (items : List Item) (x : List (List ℕ) × Option (Filter ColumnName) × List ColumnName × List Order) → IsList IsItem a ts items → joined_at d ts ≡ Some x
     → Parses (Fixed (s.Word words.Select) ∷ a) (select_of items x.0 x.1 x.2 x.3)
 unfolding joined_at
 joined_is d a ts items x one e =
@@ -99,7 +99,7 @@ joined_is d a ts items x one e =
     let q = filtered_is d n.0.1 w.0 w.1 in
     let first = followed (IsList IsItem) (s.Word words.From) a ts t.0 items t.1 one in
     let two = (sound_list name_at IsNamed sound_name).by t.0 n.0 n.1 in
-    let read : List (List ℕ) × Option Condition × List ColumnName × List Order = (n.0.0, w.0.0, w.0.1, w.0.2) in
+    let read : List (List ℕ) × Option (Filter ColumnName) × List ColumnName × List Order = (n.0.0, w.0.0, w.0.1, w.0.2) in
     subst (λ y. Parses (Fixed (s.Word words.Select) ∷ a) (select_of items y.0 y.1 y.2 y.3)) {x = read} (some_is read x w.2)
     (query first two q.3 q.4 q.5 q.6)
 

@@ -8,12 +8,10 @@ use Rattle.ssb_terms.specs.declared.keyword.Keyword.TheVariants as words
 use Rattle.ssb_sql.specs.declared.token.Mark.{Mark}
 use Rattle.ssb_sql.specs.declared.token.Mark.TheVariants as marks
 use Rattle.ssb_sql.specs.declared.token.Sign.TheVariants as s
-use Rattle.ssb_sql.specs.declared.expr.ColumnName.{ColumnName}
+use Rattle.ssb_sql.specs.declared.named.ColumnName.{ColumnName}
 use Rattle.ssb_terms.specs.declared.literal.Literal.{Literal}
-use Rattle.ssb_sql.specs.declared.condition.Operand.{Operand}
-use Rattle.ssb_sql.specs.declared.condition.Operand.TheVariants as o
-use Rattle.ssb_sql.specs.declared.condition.Condition.{Condition}
-use Rattle.ssb_sql.specs.declared.condition.Condition.TheVariants as c
+use Rattle.ssb_trees.specs.declared.operand.Operand.TheVariants as o
+use Rattle.ssb_trees.specs.declared.condition.Condition.TheVariants as c
 use Rattle.ssb_sql.specs.Forms.{IsList, IsColumn, IsLiteral, IsOperand}
 use Rattle.ssb_sql.specs.Forms.IsOperand.{column, literal}
 use Rattle.ssb_sql.specs.Conditions.{mark_of, IsBare}
@@ -25,9 +23,11 @@ use Rattle.ssb_sql.specs.ReadConditions.{op_of, op_at, limits_at, among_at, rang
 use Rattle.ssb_sql.proofs.StepFacts.{some_is, none_some, bind_some, choose_some, after_is, two_are}
 use Rattle.ssb_sql.proofs.Shapes.{Sound, Tame, spells, followed, sound_closed, sound_list, tame_list}
 use Rattle.ssb_sql.proofs.PartFacts.{sound_operand, tame_operand, sound_literal, tame_literal, tame_column}
+use Rattle.ssb_trees.specs.Conditions.{Filter}
+use Rattle.ssb_trees.specs.declared.operand.Operand.{Operand}
 
 -- a test over operands
-abbrev pub IsTested : List Token → List Token → Condition → Type 0
+abbrev pub IsTested : List Token → List Token → Filter ColumnName → Type 0
 IsTested = IsBare IsOperand
 
 op_mark : (m : Mark) (y : Op) → op_of m ≡ Some y → m ≡ mark_of y
@@ -47,7 +47,7 @@ op_is (Fixed (s.Mark m) ∷ ts) l e =
 op_is _ l e = absurd cc
 
 -- the limits, and the AND between them
-limits_is : (ts : List Token) (x : (Operand × Operand) × List Token) → limits_at ts ≡ Some x → (mid : List Token) × IsOperand ts (Fixed (s.Word words.And) ∷ mid) x.0.0 × IsOperand mid x.1 x.0.1
+limits_is : (ts : List Token) (x : (Operand ColumnName × Operand ColumnName) × List Token) → limits_at ts ≡ Some x → (mid : List Token) × IsOperand ts (Fixed (s.Word words.And) ∷ mid) x.0.0 × IsOperand mid x.1 x.0.1
 unfolding limits_at
 limits_is ts x e =
     let f = bind_some (operand_at ts) _ x e in
@@ -66,10 +66,10 @@ among_is ts x e =
     (f.0, two_are (s.Word words.In) (s.Mark marks.Open) ts g.0 f.0 g.1 f.1, sound_closed (list_at literal_at) (IsList IsLiteral) (sound_list literal_at IsLiteral sound_literal) f.0 x f.2)
 
 -- the operand's own end, moved on
-ends_at : (ts mid us : List Token) (x : Operand) → mid ≡ us → IsOperand ts mid x → IsOperand ts us x
+ends_at : (ts mid us : List Token) (x : Operand ColumnName) → mid ≡ us → IsOperand ts mid x → IsOperand ts us x
 ends_at ts mid us x e h = subst (λ z. IsOperand ts z x) e h
 
-range_sound : (ts mid : List Token) (y : Operand) (x : Condition × List Token) → IsOperand ts mid y → range_at false y mid ≡ Some x → IsTested ts x.1 x.0
+range_sound : (ts mid : List Token) (y : Operand ColumnName) (x : Filter ColumnName × List Token) → IsOperand ts mid y → range_at false y mid ≡ Some x → IsTested ts x.1 x.0
 unfolding range_at
 range_sound ts mid y x h e =
     elim (choose_some (after (s.Word words.Between) mid) _ _ (Some x) e) as (λ _. IsTested ts x.1 x.0) [
@@ -83,7 +83,7 @@ range_sound ts mid y x h e =
           spells IsTested ts f.0.1 (c.In y f.0.0) x (among (ends_at ts mid (Fixed (s.Word words.In) ∷ Fixed (s.Mark marks.Open) ∷ q.0) y q.1 h) q.2) f.2
     ]
 
-not_range_sound : (ts mid rest : List Token) (y : Operand) (x : Condition × List Token) → mid ≡ Fixed (s.Word words.Not) ∷ rest → IsOperand ts mid y → range_at true y rest ≡ Some x → IsTested ts x.1 x.0
+not_range_sound : (ts mid rest : List Token) (y : Operand ColumnName) (x : Filter ColumnName × List Token) → mid ≡ Fixed (s.Word words.Not) ∷ rest → IsOperand ts mid y → range_at true y rest ≡ Some x → IsTested ts x.1 x.0
 unfolding range_at
 not_range_sound ts mid rest y x n h e =
     elim (choose_some (after (s.Word words.Between) rest) _ _ (Some x) e) as (λ _. IsTested ts x.1 x.0) [
@@ -98,17 +98,17 @@ not_range_sound ts mid rest y x n h e =
     ]
 
 -- a column as an operand is a column
-column_back : {from to : List Token} {y : Operand} → IsOperand from to y → (z : ColumnName) → y ≡ o.Column z → IsColumn from to z
+column_back : {from to : List Token} {y : Operand ColumnName} → IsOperand from to y → (z : ColumnName) → y ≡ o.Column z → IsColumn from to z
 column_back (column {from = from} {to = to} {x = x} a) z e = let same : x ≡ z = cc in subst (λ w. IsColumn from to w) same a
 column_back (literal a) z e = absurd cc
 
 -- a literal is no column
-no_null : (negated : Bool) (l : Literal) (ts : List Token) (x : Condition × List Token) → nulled_at negated (o.Literal l) ts ≡ Some x → ⊥
+no_null : (negated : Bool) (l : Literal) (ts : List Token) (x : Filter ColumnName × List Token) → nulled_at negated (o.Literal l) ts ≡ Some x → ⊥
 unfolding nulled_at
 no_null true l ts x e = let f = bind_some (after (s.Word words.Null) ts) (λ to. None) x e in absurd (none_some x f.2)
 no_null false l ts x e = let f = bind_some (after (s.Word words.Null) ts) (λ to. None) x e in absurd (none_some x f.2)
 
-null_sound : (ts mid rest : List Token) (y : Operand) (x : Condition × List Token) → mid ≡ Fixed (s.Word words.Is) ∷ rest → IsOperand ts mid y → null_at y rest ≡ Some x → IsTested ts x.1 x.0
+null_sound : (ts mid rest : List Token) (y : Operand ColumnName) (x : Filter ColumnName × List Token) → mid ≡ Fixed (s.Word words.Is) ∷ rest → IsOperand ts mid y → null_at y rest ≡ Some x → IsTested ts x.1 x.0
 unfolding null_at nulled_at
 null_sound ts mid rest (o.Literal l) x n h e =
     elim (choose_some (after (s.Word words.Not) rest) _ _ (Some x) e) as (λ _. IsTested ts x.1 x.0) [
@@ -121,14 +121,14 @@ null_sound ts mid rest (o.Column z) x n h e =
       | inl g ↦
           let f = bind_some (after (s.Word words.Null) g.0) _ x g.2 in
           let m : mid ≡ Fixed (s.Word words.Is) ∷ Fixed (s.Word words.Not) ∷ Fixed (s.Word words.Null) ∷ f.0 = n ∙ ap (λ w. Fixed (s.Word words.Is) ∷ w) (two_are (s.Word words.Not) (s.Word words.Null) rest g.0 f.0 g.1 f.1) in
-          spells IsTested ts f.0 (c.IsNotNull z) x (not_null (subst (λ w. IsColumn ts w z) m k)) f.2
+          spells IsTested ts f.0 (c.IsNotNull (o.Column z)) x (not_null (subst (λ w. IsColumn ts w z) m k)) f.2
       | inr b ↦
           let f = bind_some (after (s.Word words.Null) rest) _ x b.1 in
           let m : mid ≡ Fixed (s.Word words.Is) ∷ Fixed (s.Word words.Null) ∷ f.0 = n ∙ ap (λ w. Fixed (s.Word words.Is) ∷ w) (after_is (s.Word words.Null) rest f.0 f.1) in
-          spells IsTested ts f.0 (c.IsNull z) x (null (subst (λ w. IsColumn ts w z) m k)) f.2
+          spells IsTested ts f.0 (c.IsNull (o.Column z)) x (null (subst (λ w. IsColumn ts w z) m k)) f.2
     ]
 
-compared_sound : (ts mid : List Token) (y : Operand) (x : Condition × List Token) → IsOperand ts mid y → compared_at y mid ≡ Some x → IsTested ts x.1 x.0
+compared_sound : (ts mid : List Token) (y : Operand ColumnName) (x : Filter ColumnName × List Token) → IsOperand ts mid y → compared_at y mid ≡ Some x → IsTested ts x.1 x.0
 unfolding compared_at
 compared_sound ts mid y x h e =
     elim (choose_some (op_at mid) _ _ (Some x) e) as (λ _. IsTested ts x.1 x.0) [
@@ -138,7 +138,7 @@ compared_sound ts mid y x h e =
       | inr b ↦ range_sound ts mid y x h b.1
     ]
 
-tail_sound : (ts mid : List Token) (y : Operand) (x : Condition × List Token) → IsOperand ts mid y → tail_at y mid ≡ Some x → IsTested ts x.1 x.0
+tail_sound : (ts mid : List Token) (y : Operand ColumnName) (x : Filter ColumnName × List Token) → IsOperand ts mid y → tail_at y mid ≡ Some x → IsTested ts x.1 x.0
 unfolding tail_at
 tail_sound ts mid y x h e =
     elim (choose_some (after (s.Word words.Not) mid) _ _ (Some x) e) as (λ _. IsTested ts x.1 x.0) [
@@ -150,7 +150,7 @@ tail_sound ts mid y x h e =
           ]
     ]
 
-bare_sound : (ts : List Token) (x : Condition × List Token) → bare_at ts ≡ Some x → IsTested ts x.1 x.0
+bare_sound : (ts : List Token) (x : Filter ColumnName × List Token) → bare_at ts ≡ Some x → IsTested ts x.1 x.0
 unfolding bare_at
 bare_sound ts x e =
     let f = bind_some (operand_at ts) _ x e in
@@ -162,7 +162,7 @@ sound_bare = record { by = bare_sound }
 tame_literals : Tame (IsList IsLiteral)
 tame_literals = tame_list IsLiteral tame_literal
 
-bare_shorter : {from to : List Token} {x : Condition} → IsTested from to x → length to < length from
+bare_shorter : {from to : List Token} {x : Filter ColumnName} → IsTested from to x → length to < length from
 bare_shorter (compare a b) = let p = tame_operand.shorter a in let q = tame_operand.shorter b in omega arith
 bare_shorter (between a b d) = let p = tame_operand.shorter a in let q = tame_operand.shorter b in let r = tame_operand.shorter d in omega arith
 bare_shorter (not_between a b d) = let p = tame_operand.shorter a in let q = tame_operand.shorter b in let r = tame_operand.shorter d in omega arith
@@ -185,7 +185,7 @@ members_within : (mid to : List Token) (ys : List Literal) → IsList IsLiteral 
 members_within mid to ys b zero h = absurd h
 members_within mid to ys b (suc d) h = tame_literals.within b d h
 
-bare_within : {from to : List Token} {x : Condition} → IsTested from to x → (d : ℕ) → HasRoom d from → HasRoom d to
+bare_within : {from to : List Token} {x : Filter ColumnName} → IsTested from to x → (d : ℕ) → HasRoom d from → HasRoom d to
 bare_within (compare {mid = mid} {op = y} a b) d h = tame_operand.within b d (mark_within y mid d (tame_operand.within a d h))
 bare_within (between a b g) d h = tame_operand.within g d (tame_operand.within b d (tame_operand.within a d h))
 bare_within (not_between a b g) d h = tame_operand.within g d (tame_operand.within b d (tame_operand.within a d h))

@@ -8,11 +8,11 @@ use Rattle.ssb_terms.specs.declared.keyword.Keyword.{Keyword}
 use Rattle.ssb_sql.specs.declared.token.Mark.{Mark}
 use Rattle.ssb_sql.specs.declared.token.Mark.TheVariants as marks
 use Rattle.ssb_sql.specs.declared.token.Sign.TheVariants as s
-use Rattle.ssb_sql.specs.declared.expr.ColumnName.{ColumnName}
+use Rattle.ssb_sql.specs.declared.named.ColumnName.{ColumnName}
 use Rattle.ssb_terms.specs.declared.literal.Literal.{Literal}
 use Rattle.ssb_terms.specs.declared.literal.Literal.TheVariants as l
-use Rattle.ssb_sql.specs.declared.condition.Operand.{Operand}
-use Rattle.ssb_sql.specs.declared.condition.Operand.TheVariants as o
+use Rattle.ssb_trees.specs.declared.operand.Operand.TheVariants as o
+use Rattle.ssb_trees.specs.declared.operand.Operand.{Operand}
 
 -- a token that is a reserved word or a mark
 abbrev pub word : Keyword → Token
@@ -50,7 +50,7 @@ pub data IsLiteral : List Token → List Token → Literal → Type 0 where
   text : {to : List Token} {t : List ℕ} → IsLiteral (Text t ∷ to) to (l.Text t)
 
 -- operand = column | literal
-pub data IsOperand : List Token → List Token → Operand → Type 0 where
+pub data IsOperand : List Token → List Token → Operand ColumnName → Type 0 where
   column : {from to : List Token} {x : ColumnName} → IsColumn from to x → IsOperand from to (o.Column x)
   literal : {from to : List Token} {x : Literal} → IsLiteral from to x → IsOperand from to (o.Literal x)
 

@@ -3,11 +3,13 @@
 use Rattle.std.specs.Prelude.{ℕ, true, false, List, [], ◌∷◌, Option, Some, None}
 use Rattle.ssb_sql.specs.declared.token.Token.{Token}
 use Rattle.ssb_sql.specs.declared.token.Token.TheVariants.{Name, Number}
+use Rattle.ssb_terms.specs.declared.keyword.Keyword.{Keyword}
 use Rattle.ssb_terms.specs.declared.keyword.Keyword.TheVariants as words
 use Rattle.ssb_sql.specs.declared.token.Mark.TheVariants as marks
-use Rattle.ssb_sql.specs.declared.expr.ColumnName.{ColumnName}
-use Rattle.ssb_sql.specs.declared.expr.Expr.{Expr}
-use Rattle.ssb_sql.specs.declared.condition.Condition.{Condition}
+use Rattle.ssb_sql.specs.declared.named.ColumnName.{ColumnName}
+use Rattle.ssb_trees.specs.declared.aggregate.Aggregate.TheVariants as a
+use Rattle.ssb_trees.specs.declared.aggregate.SetFunction.{SetFunction}
+use Rattle.ssb_trees.specs.declared.aggregate.SetFunction.TheVariants as functions
 use Rattle.ssb_sql.specs.declared.select.Output.{Output}
 use Rattle.ssb_sql.specs.declared.select.Output.TheVariants as u
 use Rattle.ssb_sql.specs.declared.select.Item.{Item}
@@ -18,13 +20,24 @@ use Rattle.ssb_sql.specs.declared.select.Select.{Select}
 use Rattle.ssb_sql.specs.Forms.{IsList, IsNamed, IsColumn, word, mark}
 use Rattle.ssb_sql.specs.Expressions.{IsExpr}
 use Rattle.ssb_sql.specs.Conditions.{IsWhereCond}
+use Rattle.ssb_trees.specs.Conditions.{Filter}
+use Rattle.ssb_trees.specs.declared.aggregate.Aggregate.{Aggregate}
+use Rattle.ssb_trees.specs.declared.expr.Expr.{Expr}
 
--- column | SUM "(" expr ")" | COUNT "(" "*" ")" | COUNT "(" expr ")"
+-- SUM | COUNT
+abbrev pub function_word : SetFunction → Keyword
+function_word functions.Sum = words.Sum
+function_word functions.Count = words.Count
+
+-- aggregate = COUNT "(" "*" ")" | (SUM | COUNT) "(" expr ")"
+pub data IsAggregate : List Token → List Token → Aggregate ColumnName → Type 0 where
+  rows : {to : List Token} → IsAggregate (word words.Count ∷ mark marks.Open ∷ mark marks.Times ∷ mark marks.Close ∷ to) to a.Rows
+  of : {from to : List Token} {f : SetFunction} {x : Expr ColumnName} → IsExpr from (mark marks.Close ∷ to) x → IsAggregate (word (function_word f) ∷ mark marks.Open ∷ from) to (a.Of f x)
+
+-- column | aggregate
 pub data IsOutput : List Token → List Token → Output → Type 0 where
   column : {from to : List Token} {x : ColumnName} → IsColumn from to x → IsOutput from to (u.Column x)
-  sum : {from to : List Token} {x : Expr} → IsExpr from (mark marks.Close ∷ to) x → IsOutput (word words.Sum ∷ mark marks.Open ∷ from) to (u.Sum x)
-  count_rows : {to : List Token} → IsOutput (word words.Count ∷ mark marks.Open ∷ mark marks.Times ∷ mark marks.Close ∷ to) to u.CountRows
-  count : {from to : List Token} {x : Expr} → IsExpr from (mark marks.Close ∷ to) x → IsOutput (word words.Count ∷ mark marks.Open ∷ from) to (u.Count x)
+  aggregate : {from to : List Token} {x : Aggregate ColumnName} → IsAggregate from to x → IsOutput from to (u.Aggregate x)
 
 -- item = (column | aggregate) [AS name]
 pub data IsItem : List Token → List Token → Item → Type 0 where
@@ -32,9 +45,9 @@ pub data IsItem : List Token → List Token → Item → Type 0 where
   named : {from to : List Token} {x : Output} {n : List ℕ} → IsOutput from (word words.As ∷ Name n ∷ to) x → IsItem from to (record { output = x; alias = Some n })
 
 -- [WHERE cond]
-pub data IsWhere : List Token → List Token → Option Condition → Type 0 where
+pub data IsWhere : List Token → List Token → Option (Filter ColumnName) → Type 0 where
   no_where : {to : List Token} → IsWhere to to None
-  where_cond : {from to : List Token} {x : Condition} → IsWhereCond from to x → IsWhere (word words.Where ∷ from) to (Some x)
+  where_cond : {from to : List Token} {x : Filter ColumnName} → IsWhereCond from to x → IsWhere (word words.Where ∷ from) to (Some x)
 
 -- [GROUP BY column {"," column}]
 pub data IsGroups : List Token → List Token → List ColumnName → Type 0 where
@@ -64,6 +77,6 @@ pub data IsEnd : List Token → Type 0 where
 
 -- query = SELECT item {"," item} FROM name {"," name} [WHERE cond] [GROUP BY column {"," column}] [ORDER BY key {"," key}] [";"]
 pub data Parses : List Token → Select → Type 0 where
-  query : {a b c d e f : List Token} {items : List Item} {from : List (List ℕ)} {condition : Option Condition} {groups : List ColumnName} {orders : List Order}
+  query : {a b c d e f : List Token} {items : List Item} {from : List (List ℕ)} {condition : Option (Filter ColumnName)} {groups : List ColumnName} {orders : List Order}
       → IsList IsItem a (word words.From ∷ b) items → IsList IsNamed b c from → IsWhere c d condition → IsGroups d e groups → IsOrders e f orders → IsEnd f
       → Parses (word words.Select ∷ a) (record { items = items; from = from; condition = condition; groups = groups; orders = orders })

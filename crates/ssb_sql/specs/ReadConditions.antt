@@ -10,13 +10,14 @@ use Rattle.ssb_terms.specs.declared.keyword.Keyword.TheVariants as words
 use Rattle.ssb_sql.specs.declared.token.Mark.TheVariants as marks
 use Rattle.ssb_sql.specs.declared.token.Sign.TheVariants as s
 use Rattle.ssb_terms.specs.declared.literal.Literal.{Literal}
-use Rattle.ssb_sql.specs.declared.condition.Operand.{Operand}
-use Rattle.ssb_sql.specs.declared.condition.Operand.TheVariants as o
-use Rattle.ssb_sql.specs.declared.condition.Condition.{Condition}
-use Rattle.ssb_sql.specs.declared.condition.Condition.TheVariants as c
+use Rattle.ssb_trees.specs.declared.operand.Operand.TheVariants as o
+use Rattle.ssb_trees.specs.declared.condition.Condition.TheVariants as c
 use Rattle.ssb_sql.specs.Reading.{◌>>=◌}
 use Rattle.ssb_sql.specs.Steps.{Parser, choose, after, made_at, list_at, enclosed_at, parens_at}
 use Rattle.ssb_sql.specs.ReadParts.{literal_at, operand_at}
+use Rattle.ssb_trees.specs.Conditions.{Filter}
+use Rattle.ssb_sql.specs.declared.named.ColumnName.{ColumnName}
+use Rattle.ssb_trees.specs.declared.operand.Operand.{Operand}
 
 abbrev pub op_of : Mark → Option Op
 op_of marks.Equal = Some op.Eq
@@ -33,18 +34,18 @@ op_at (Fixed (s.Mark m) ∷ ts) = op_of m >>= λ y. Some (y, ts)
 op_at _ = None
 
 -- operand AND operand
-unfoldable pub limits_at : Parser (Operand × Operand)
+unfoldable pub limits_at : Parser (Operand ColumnName × Operand ColumnName)
 limits_at ts = operand_at ts >>= λ x. after (s.Word words.And) x.1 >>= λ rest. operand_at rest >>= λ y. Some ((x.0, y.0), y.1)
 
 -- "(" literal {"," literal} ")"
 abbrev pub members_at : Parser (List Literal)
 members_at = parens_at (list_at literal_at)
 
-abbrev pub between_of : Bool → Operand → Operand × Operand → Condition
+abbrev pub between_of : Bool → Operand ColumnName → Operand ColumnName × Operand ColumnName → Filter ColumnName
 between_of true x l = c.NotBetween x l.0 l.1
 between_of false x l = c.Between x l.0 l.1
 
-abbrev pub in_of : Bool → Operand → List Literal → Condition
+abbrev pub in_of : Bool → Operand ColumnName → List Literal → Filter ColumnName
 in_of true x ys = c.NotIn x ys
 in_of false x ys = c.In x ys
 
@@ -53,54 +54,54 @@ unfoldable pub among_at : Parser (List Literal)
 among_at ts = after (s.Word words.In) ts >>= λ rest. members_at rest
 
 -- BETWEEN or IN, after the operand and a NOT if there is one
-unfoldable pub range_at : Bool → Operand → Parser Condition
+unfoldable pub range_at : Bool → Operand ColumnName → Parser (Filter ColumnName)
 range_at negated x ts =
     choose (after (s.Word words.Between) ts) (λ rest. limits_at rest >>= λ l. Some (between_of negated x l.0, l.1))
     (among_at ts >>= λ ys. Some (in_of negated x ys.0, ys.1))
 
 -- whether a column has no value, or whether it has one
-abbrev pub null_of : Bool → Operand → Option Condition
-null_of true (o.Column x) = Some (c.IsNotNull x)
-null_of false (o.Column x) = Some (c.IsNull x)
+abbrev pub null_of : Bool → Operand ColumnName → Option (Filter ColumnName)
+null_of true (o.Column x) = Some (c.IsNotNull (o.Column x))
+null_of false (o.Column x) = Some (c.IsNull (o.Column x))
 null_of negated (o.Literal l) = None
 
 -- NULL, after the operand, IS and a NOT if there is one
-unfoldable pub nulled_at : Bool → Operand → Parser Condition
+unfoldable pub nulled_at : Bool → Operand ColumnName → Parser (Filter ColumnName)
 nulled_at negated x ts = after (s.Word words.Null) ts >>= λ to. null_of negated x >>= λ y. Some (y, to)
 
 -- [NOT] NULL, after the operand and IS
-unfoldable pub null_at : Operand → Parser Condition
+unfoldable pub null_at : Operand ColumnName → Parser (Filter ColumnName)
 null_at x ts = choose (after (s.Word words.Not) ts) (nulled_at true x) (nulled_at false x ts)
 
 -- an operator and an operand, or BETWEEN or IN
-unfoldable pub compared_at : Operand → Parser Condition
+unfoldable pub compared_at : Operand ColumnName → Parser (Filter ColumnName)
 compared_at x ts =
     choose (op_at ts) (λ l. operand_at l.1 >>= λ y. Some (c.Compare l.0 x y.0, y.1))
     (range_at false x ts)
 
 -- what follows an operand
-unfoldable pub tail_at : Operand → Parser Condition
+unfoldable pub tail_at : Operand ColumnName → Parser (Filter ColumnName)
 tail_at x ts =
     choose (after (s.Word words.Not) ts) (range_at true x)
     (choose (after (s.Word words.Is) ts) (null_at x)
     (compared_at x ts))
 
-unfoldable pub bare_at : Parser Condition
+unfoldable pub bare_at : Parser (Filter ColumnName)
 bare_at ts = operand_at ts >>= λ x. tail_at x.0 x.1
 
-abbrev pub test_at : Parser Condition → Parser Condition
+abbrev pub test_at : Parser (Filter ColumnName) → Parser (Filter ColumnName)
 test_at inner = enclosed_at inner bare_at
 
-unfoldable pub neg_at : Parser Condition → Parser Condition
+unfoldable pub neg_at : Parser (Filter ColumnName) → Parser (Filter ColumnName)
 neg_at inner ts = choose (after (s.Word words.Not) ts) (λ rest. test_at inner rest >>= λ x. Some (c.Not x.0, x.1)) (test_at inner ts)
 
-unfoldable pub conj_at : Parser Condition → Parser Condition
+unfoldable pub conj_at : Parser (Filter ColumnName) → Parser (Filter ColumnName)
 conj_at inner ts = made_at c.All (s.Word words.And) (neg_at inner) ts
 
-abbrev pub disj_at : Parser Condition → Parser Condition
+abbrev pub disj_at : Parser (Filter ColumnName) → Parser (Filter ColumnName)
 disj_at inner = made_at c.Any (s.Word words.Or) (conj_at inner)
 
 -- a condition with fewer than this many open parentheses
-unfoldable pub cond_at : ℕ → Parser Condition
+unfoldable pub cond_at : ℕ → Parser (Filter ColumnName)
 cond_at zero ts = None
 cond_at (suc d) ts = disj_at (cond_at d) ts

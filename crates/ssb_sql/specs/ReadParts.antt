@@ -4,13 +4,13 @@ use Rattle.std.specs.Prelude.{ℕ, nat_le, if◌then◌else◌, List, ◌∷◌,
 use Rattle.ssb_sql.specs.declared.token.Token.TheVariants.{Text}
 use Rattle.ssb_sql.specs.declared.token.Mark.TheVariants as marks
 use Rattle.ssb_sql.specs.declared.token.Sign.TheVariants as s
-use Rattle.ssb_sql.specs.declared.expr.ColumnName.{ColumnName}
+use Rattle.ssb_sql.specs.declared.named.ColumnName.{ColumnName}
 use Rattle.ssb_terms.specs.declared.literal.Literal.{Literal}
 use Rattle.ssb_terms.specs.declared.literal.Literal.TheVariants as l
-use Rattle.ssb_sql.specs.declared.condition.Operand.{Operand}
-use Rattle.ssb_sql.specs.declared.condition.Operand.TheVariants as o
+use Rattle.ssb_trees.specs.declared.operand.Operand.TheVariants as o
 use Rattle.ssb_sql.specs.Reading.{◌>>=◌}
 use Rattle.ssb_sql.specs.Steps.{Parser, choose, after, name_at, number_at, is_name_next}
+use Rattle.ssb_trees.specs.declared.operand.Operand.{Operand}
 
 abbrev pub column_of : Option (List ℕ) → List ℕ → ColumnName
 column_of t n = record { table = t; column = n }
@@ -35,7 +35,7 @@ literal_at ts =
     (choose (after (s.Mark marks.Minus) ts) (λ rest. below_at rest >>= λ x. Some (l.Number x.0, x.1))
     (plain_literal_at ts))
 
-unfoldable pub operand_at : Parser Operand
+unfoldable pub operand_at : Parser (Operand ColumnName)
 operand_at ts =
     if is_name_next ts then (column_at ts >>= λ x. Some (o.Column x.0, x.1))
     else (literal_at ts >>= λ x. Some (o.Literal x.0, x.1))

@@ -2,13 +2,15 @@
 -- For the contracts inside this crate.
 use Rattle.std.specs.Prelude.{ℕ, suc, Bool, true, false, if◌then◌else◌, List, [], ◌∷◌, Option, Some, None}
 use Rattle.ssb_sql.specs.declared.token.Token.{Token}
-use Rattle.ssb_sql.specs.declared.token.Token.TheVariants.{Name, Number}
+use Rattle.ssb_sql.specs.declared.token.Token.TheVariants.{Fixed, Name, Number}
 use Rattle.ssb_terms.specs.declared.keyword.Keyword.{Keyword}
 use Rattle.ssb_terms.specs.declared.keyword.Keyword.TheVariants as words
 use Rattle.ssb_sql.specs.declared.token.Mark.TheVariants as marks
 use Rattle.ssb_sql.specs.declared.token.Sign.TheVariants as s
-use Rattle.ssb_sql.specs.declared.expr.ColumnName.{ColumnName}
-use Rattle.ssb_sql.specs.declared.condition.Condition.{Condition}
+use Rattle.ssb_sql.specs.declared.named.ColumnName.{ColumnName}
+use Rattle.ssb_trees.specs.declared.aggregate.Aggregate.TheVariants as a
+use Rattle.ssb_trees.specs.declared.aggregate.SetFunction.{SetFunction}
+use Rattle.ssb_trees.specs.declared.aggregate.SetFunction.TheVariants as functions
 use Rattle.ssb_sql.specs.declared.select.Output.{Output}
 use Rattle.ssb_sql.specs.declared.select.Output.TheVariants as u
 use Rattle.ssb_sql.specs.declared.select.Item.{Item}
@@ -17,22 +19,42 @@ use Rattle.ssb_sql.specs.declared.select.Key.TheVariants as k
 use Rattle.ssb_sql.specs.declared.select.Order.{Order}
 use Rattle.ssb_sql.specs.declared.select.Select.{Select}
 use Rattle.ssb_sql.specs.Reading.{◌>>=◌}
-use Rattle.ssb_sql.specs.Steps.{Parser, choose, after, name_at, list_at, closed_at, parens_at}
+use Rattle.ssb_sql.specs.Steps.{Parser, choose, after, name_at, list_at, closed_at}
 use Rattle.ssb_sql.specs.ReadParts.{column_at}
 use Rattle.ssb_sql.specs.ReadExpressions.{expr_at}
 use Rattle.ssb_sql.specs.ReadConditions.{cond_at}
+use Rattle.ssb_trees.specs.Conditions.{Filter}
+use Rattle.ssb_trees.specs.declared.aggregate.Aggregate.{Aggregate}
 
--- what follows COUNT and its `(`
-unfoldable pub count_at : ℕ → Parser Output
-count_at d ts =
-    choose (after (s.Mark marks.Times) ts) (λ rest. after (s.Mark marks.Close) rest >>= λ to. Some (u.CountRows, to))
-    (closed_at (expr_at d) ts >>= λ x. Some (u.Count x.0, x.1))
+abbrev pub function_of : Keyword → Option SetFunction
+function_of words.Sum = Some functions.Sum
+function_of words.Count = Some functions.Count
+function_of _ = None
+
+-- a set function, and what follows
+unfoldable pub function_at : Parser SetFunction
+function_at (Fixed (s.Word w) ∷ ts) = function_of w >>= λ f. Some (f, ts)
+function_at _ = None
+
+-- what follows a `*`, which may stand alone behind COUNT and its `(`
+unfoldable pub star_at : SetFunction → List Token → Option (List Token)
+star_at functions.Count ts = after (s.Mark marks.Times) ts
+star_at functions.Sum ts = None
+
+-- what follows a function and its `(`
+unfoldable pub argument_at : ℕ → SetFunction → Parser (Aggregate ColumnName)
+argument_at d f ts =
+    choose (star_at f ts) (λ rest. after (s.Mark marks.Close) rest >>= λ to. Some (a.Rows, to))
+    (closed_at (expr_at d) ts >>= λ x. Some (a.Of f x.0, x.1))
+
+-- what follows a function
+unfoldable pub aggregate_at : ℕ → SetFunction → Parser (Aggregate ColumnName)
+aggregate_at d f ts = after (s.Mark marks.Open) ts >>= λ inside. argument_at d f inside
 
 unfoldable pub output_at : ℕ → Parser Output
 output_at d ts =
-    choose (after (s.Word words.Sum) ts) (λ rest. parens_at (expr_at d) rest >>= λ x. Some (u.Sum x.0, x.1))
-    (choose (after (s.Word words.Count) ts) (λ rest. after (s.Mark marks.Open) rest >>= λ inside. count_at d inside)
-    (column_at ts >>= λ x. Some (u.Column x.0, x.1)))
+    choose (function_at ts) (λ f. aggregate_at d f.0 f.1 >>= λ x. Some (u.Aggregate x.0, x.1))
+    (column_at ts >>= λ x. Some (u.Column x.0, x.1))
 
 abbrev pub item_of : Output → Option (List ℕ) → Item
 item_of x n = record { output = x; alias = n }
@@ -44,7 +66,7 @@ alias_at ts = choose (after (s.Word words.As) ts) (λ rest. name_at rest >>= λ 
 unfoldable pub item_at : ℕ → Parser Item
 item_at d ts = output_at d ts >>= λ x. alias_at x.1 >>= λ n. Some (item_of x.0 n.0, n.1)
 
-unfoldable pub where_at : ℕ → Parser (Option Condition)
+unfoldable pub where_at : ℕ → Parser (Option (Filter ColumnName))
 where_at d ts = choose (after (s.Word words.Where) ts) (λ rest. cond_at d rest >>= λ x. Some (Some x.0, x.1)) (Some (None, ts))
 
 -- the word, BY, p {"," p}; or nothing
@@ -72,7 +94,7 @@ is_nil (t ∷ ts) = false
 unfoldable pub ends : List Token → Bool
 ends ts = choose (after (s.Mark marks.Semicolon) ts) is_nil (is_nil ts)
 
-abbrev pub select_of : List Item → List (List ℕ) → Option Condition → List ColumnName → List Order → Select
+abbrev pub select_of : List Item → List (List ℕ) → Option (Filter ColumnName) → List ColumnName → List Order → Select
 select_of items from condition groups orders = record { items = items; from = from; condition = condition; groups = groups; orders = orders }
 
 -- ORDER BY, and nothing behind it but the end
@@ -84,11 +106,11 @@ unfoldable pub grouped_at : List Token → Option (List ColumnName × List Order
 grouped_at ts = by_at words.Group column_at ts >>= λ g. ordered_at g.1 >>= λ o. Some (g.0, o)
 
 -- WHERE, and what follows
-unfoldable pub filtered_at : ℕ → List Token → Option (Option Condition × List ColumnName × List Order)
+unfoldable pub filtered_at : ℕ → List Token → Option (Option (Filter ColumnName) × List ColumnName × List Order)
 filtered_at d ts = where_at (suc d) ts >>= λ w. grouped_at w.1 >>= λ g. Some (w.0, g.0, g.1)
 
 -- FROM, and what follows
-unfoldable pub joined_at : ℕ → List Token → Option (List (List ℕ) × Option Condition × List ColumnName × List Order)
+unfoldable pub joined_at : ℕ → List Token → Option (List (List ℕ) × Option (Filter ColumnName) × List ColumnName × List Order)
 joined_at d ts = after (s.Word words.From) ts >>= λ tables. list_at name_at tables >>= λ f. filtered_at d f.1 >>= λ w. Some (f.0, w.0, w.1, w.2)
 
 -- a query up to its end, with at most this many open parentheses

@@ -6,10 +6,9 @@
 
 mod chain;
 mod class;
-pub mod condition;
-pub mod expr;
 pub mod fault;
 pub mod lex;
+pub mod named;
 mod parse;
 mod read_condition;
 mod read_expr;
@@ -23,10 +22,9 @@ pub mod select;
 mod steps;
 pub mod token;
 
-pub use condition::{Condition, Operand};
-pub use expr::{ColumnName, Expr, Step};
 pub use fault::SqlFault;
 pub use lex::one_list_of_tokens;
+pub use named::ColumnName;
 pub use parse::one_meaning;
 pub use read_text::{one_select, read};
 pub use select::{Item, Key, Order, Output, Select};

@@ -8,17 +8,22 @@ ghost use Rattle.ssb_terms.specs.declared.keyword.Keyword.TheVariants as words;
 ghost use Rattle.ssb_sql.specs.declared.token.Sign.TheVariants as s;
 
 use crate::chain::made;
-use crate::condition::Condition;
+use crate::named::ColumnName;
 use crate::read_test::bare;
 use crate::steps::{Stop, after, closing};
 use crate::token::{Mark, Sign, Token};
 use sqlite_items::Boxed;
 use ssb_terms::Keyword;
+use ssb_trees::{Condition, Filter};
 use std::alloc::Global;
 
 #[cycle(condition)]
 #[tactic(auto, unfolding(crate::specs::Steps::enclosed_at, crate::specs::Steps::closed_at))]
-fn test(alloc: Global, depth: usize, tokens: &[Token]) -> Result<(Condition, &[Token]), Stop>
+fn test(
+    alloc: Global,
+    depth: usize,
+    tokens: &[Token],
+) -> Result<(Filter<ColumnName>, &[Token]), Stop>
     ensures { Gives seen result (test_at (cond_at depth) tokens.now) }
 {
     match after(tokens, Sign::Mark(Mark::Open)) {
@@ -32,7 +37,11 @@ fn test(alloc: Global, depth: usize, tokens: &[Token]) -> Result<(Condition, &[T
 
 #[cycle(condition)]
 #[tactic(auto, unfolding(crate::specs::ReadConditions::neg_at))]
-fn negation(alloc: Global, depth: usize, tokens: &[Token]) -> Result<(Condition, &[Token]), Stop>
+fn negation(
+    alloc: Global,
+    depth: usize,
+    tokens: &[Token],
+) -> Result<(Filter<ColumnName>, &[Token]), Stop>
     ensures { Gives seen result (neg_at (cond_at depth) tokens.now) }
 {
     match after(tokens, Sign::Word(Keyword::Not)) {
@@ -46,7 +55,11 @@ fn negation(alloc: Global, depth: usize, tokens: &[Token]) -> Result<(Condition,
 
 #[cycle(condition)]
 #[tactic(auto, unfolding(crate::specs::ReadConditions::conj_at))]
-fn conjunction(alloc: Global, depth: usize, tokens: &[Token]) -> Result<(Condition, &[Token]), Stop>
+fn conjunction(
+    alloc: Global,
+    depth: usize,
+    tokens: &[Token],
+) -> Result<(Filter<ColumnName>, &[Token]), Stop>
     ensures { Gives seen result (conj_at (cond_at depth) tokens.now) }
 {
     made(
@@ -67,7 +80,7 @@ pub(crate) fn condition(
     alloc: Global,
     depth: usize,
     tokens: &[Token],
-) -> Result<(Condition, &[Token]), Stop>
+) -> Result<(Filter<ColumnName>, &[Token]), Stop>
     ensures { Gives seen result (cond_at depth tokens.now) }
 {
     if depth == 0 {

@@ -9,16 +9,21 @@ ghost use Rattle.ssb_sql.specs.declared.token.Mark.TheVariants as marks;
 ghost use Rattle.ssb_sql.specs.declared.token.Sign.TheVariants as s;
 
 use crate::chain::made;
-use crate::expr::{Expr, Step};
+use crate::named::ColumnName;
 use crate::read_parts::column;
 use crate::steps::{Stop, after, closing};
 use crate::token::{Mark, Sign, Token};
 use sqlite_items::{Boxed, Items};
 use ssb_terms::Adding;
+use ssb_trees::{Expr, Step};
 use std::alloc::{AllocError, Global};
 
 #[tactic(auto, using(crate::proofs::Chains::sum_one, crate::proofs::Chains::sum_many))]
-fn sum_of(alloc: Global, first: Expr, steps: Items<Step>) -> Result<Expr, AllocError>
+fn sum_of(
+    alloc: Global,
+    first: Expr<ColumnName>,
+    steps: Items<Step<ColumnName>>,
+) -> Result<Expr<ColumnName>, AllocError>
     ensures { IfOk result (λ x. x ≡ sum_of first steps) }
 {
     if steps.len() == 0 {
@@ -29,7 +34,7 @@ fn sum_of(alloc: Global, first: Expr, steps: Items<Step>) -> Result<Expr, AllocE
 }
 
 #[tactic(auto, unfolding(crate::specs::ReadExpressions::bare_primary_at))]
-fn bare_primary(alloc: Global, tokens: &[Token]) -> Result<(Expr, &[Token]), Stop>
+fn bare_primary(alloc: Global, tokens: &[Token]) -> Result<(Expr<ColumnName>, &[Token]), Stop>
     ensures { Gives seen result (bare_primary_at tokens.now) }
 {
     match tokens {
@@ -56,7 +61,11 @@ fn adding(tokens: &[Token]) -> Option<(Adding, &[Token])>
 }
 
 // A factor with its sign.
-fn signed(alloc: Global, sign: Adding, found: Expr) -> Result<Expr, AllocError>
+fn signed(
+    alloc: Global,
+    sign: Adding,
+    found: Expr<ColumnName>,
+) -> Result<Expr<ColumnName>, AllocError>
     ensures { IfOk result (λ x. x ≡ signed sign found) }
 {
     let inner = Boxed::new(alloc, found)?;
@@ -68,7 +77,11 @@ fn signed(alloc: Global, sign: Adding, found: Expr) -> Result<Expr, AllocError>
 
 #[cycle(expression)]
 #[tactic(auto, unfolding(crate::specs::Steps::enclosed_at, crate::specs::Steps::closed_at))]
-fn primary(alloc: Global, depth: usize, tokens: &[Token]) -> Result<(Expr, &[Token]), Stop>
+fn primary(
+    alloc: Global,
+    depth: usize,
+    tokens: &[Token],
+) -> Result<(Expr<ColumnName>, &[Token]), Stop>
     ensures { Gives seen result (primary_at (expr_at depth) tokens.now) }
 {
     match after(tokens, Sign::Mark(Mark::Open)) {
@@ -82,7 +95,11 @@ fn primary(alloc: Global, depth: usize, tokens: &[Token]) -> Result<(Expr, &[Tok
 
 #[cycle(expression)]
 #[tactic(auto, unfolding(crate::specs::ReadExpressions::factor_at))]
-fn factor(alloc: Global, depth: usize, tokens: &[Token]) -> Result<(Expr, &[Token]), Stop>
+fn factor(
+    alloc: Global,
+    depth: usize,
+    tokens: &[Token],
+) -> Result<(Expr<ColumnName>, &[Token]), Stop>
     ensures { Gives seen result (factor_at (expr_at depth) tokens.now) }
 {
     match adding(tokens) {
@@ -95,7 +112,7 @@ fn factor(alloc: Global, depth: usize, tokens: &[Token]) -> Result<(Expr, &[Toke
 }
 
 #[cycle(expression)]
-fn term(alloc: Global, depth: usize, tokens: &[Token]) -> Result<(Expr, &[Token]), Stop>
+fn term(alloc: Global, depth: usize, tokens: &[Token]) -> Result<(Expr<ColumnName>, &[Token]), Stop>
     ensures { Gives seen result (term_at (expr_at depth) tokens.now) }
 {
     made(
@@ -114,7 +131,7 @@ fn more_terms(
     alloc: Global,
     depth: usize,
     tokens: &[Token],
-) -> Result<(Items<Step>, &[Token]), Stop>
+) -> Result<(Items<Step<ColumnName>>, &[Token]), Stop>
     ensures { Gives seen result (more_at adding_at (step_at (expr_at depth)) [] tokens.now) }
 {
     let mut all = Items::new(alloc);
@@ -134,7 +151,7 @@ pub(crate) fn expression(
     alloc: Global,
     depth: usize,
     tokens: &[Token],
-) -> Result<(Expr, &[Token]), Stop>
+) -> Result<(Expr<ColumnName>, &[Token]), Stop>
     ensures { Gives seen result (expr_at depth tokens.now) }
 {
     if depth == 0 {

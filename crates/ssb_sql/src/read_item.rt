@@ -1,14 +1,14 @@
 // Reading items of the select list and keys of ORDER BY.
 
 ghost use Rattle.std.specs.Prelude.{◌≡◌, [], ◌∷◌};
-ghost use Rattle.ssb_sql.specs.Reading.{seen};
-ghost use Rattle.ssb_sql.specs.Steps.{Gives, after, more_at, list_at, closed_at, parens_at};
-ghost use Rattle.ssb_sql.specs.ReadExpressions.{expr_at};
-ghost use Rattle.ssb_sql.specs.ReadSelects.{count_at, output_at, alias_at, item_at, key_at, order_at};
+ghost use Rattle.std.specs.Option.{option_copied};
+ghost use Rattle.ssb_sql.specs.Reading.{seen, seen_if};
+ghost use Rattle.ssb_sql.specs.Steps.{Gives, after, more_at, list_at};
+ghost use Rattle.ssb_sql.specs.ReadSelects.{function_of, function_at, star_at, aggregate_at, output_at, alias_at, item_at, key_at, order_at};
 ghost use Rattle.ssb_sql.specs.declared.token.Sign.TheVariants as s;
 
 use crate::chain::{COMMA, chain};
-use crate::expr::Expr;
+use crate::named::ColumnName;
 use crate::read_expr::expression;
 use crate::read_parts::column;
 use crate::select::{Item, Key, Order, Output};
@@ -16,49 +16,78 @@ use crate::steps::{Stop, after, closing, expect, name};
 use crate::token::{Mark, Sign, Token};
 use sqlite_items::Items;
 use ssb_terms::{Keyword, Name};
+use ssb_trees::{Aggregate, SetFunction};
 use std::alloc::Global;
 
-// An expression and the `)` behind it.
-#[tactic(auto, unfolding(crate::specs::Steps::closed_at))]
-fn closed(alloc: Global, depth: usize, tokens: &[Token]) -> Result<(Expr, &[Token]), Stop>
-    ensures { Gives seen result (closed_at (expr_at depth) tokens.now) }
+fn function_of(word: Keyword) -> Option<SetFunction>
+    ensures { result ≡ function_of word }
 {
-    let (found, rest) = expression(alloc, depth, tokens)?;
-    closing(found, rest)
+    match word {
+        Keyword::Sum => Some(SetFunction::Sum),
+        Keyword::Count => Some(SetFunction::Count),
+        _ => None,
+    }
 }
 
-// What follows COUNT and its `(`.
-#[tactic(auto, unfolding(crate::specs::ReadSelects::count_at))]
-fn count(alloc: Global, depth: usize, tokens: &[Token]) -> Result<(Output, &[Token]), Stop>
-    ensures { Gives seen result (count_at depth tokens.now) }
+#[tactic(auto, unfolding(crate::specs::ReadSelects::function_at))]
+fn function(tokens: &[Token]) -> Option<(SetFunction, &[Token])>
+    ensures { seen_if result ≡ function_at tokens.now }
 {
-    match after(tokens, Sign::Mark(Mark::Times)) {
+    match tokens {
+        [Token::Fixed(Sign::Word(word)), rest @ ..] => Some((function_of(*word)?, rest)),
+        _ => None,
+    }
+}
+
+// What follows a `*`, which may stand alone behind COUNT and its `(`.
+#[tactic(auto, unfolding(crate::specs::ReadSelects::star_at))]
+fn star(function: SetFunction, tokens: &[Token]) -> Option<&[Token]>
+    ensures { option_copied result ≡ star_at function tokens.now }
+{
+    match function {
+        SetFunction::Count => after(tokens, Sign::Mark(Mark::Times)),
+        SetFunction::Sum => None,
+    }
+}
+
+// What follows a function.
+#[tactic(auto, unfolding(crate::specs::ReadSelects::aggregate_at, crate::specs::ReadSelects::argument_at, crate::specs::Steps::closed_at))]
+fn aggregate(
+    alloc: Global,
+    depth: usize,
+    function: SetFunction,
+    tokens: &[Token],
+) -> Result<(Aggregate<ColumnName>, &[Token]), Stop>
+    ensures { Gives seen result (aggregate_at depth function tokens.now) }
+{
+    let inside = expect(tokens, Sign::Mark(Mark::Open))?;
+    match star(function, inside) {
         Some(rest) => {
             let rest = expect(rest, Sign::Mark(Mark::Close))?;
-            Ok((Output::CountRows, rest))
+            Ok((Aggregate::Rows, rest))
         }
         None => {
-            let (found, rest) = closed(alloc, depth, tokens)?;
-            Ok((Output::Count(found), rest))
+            let (found, rest) = expression(alloc, depth, inside)?;
+            let (found, rest) = closing(found, rest)?;
+            Ok((Aggregate::Of(function, found), rest))
         }
     }
 }
 
-#[tactic(auto, unfolding(crate::specs::ReadSelects::output_at, crate::specs::Steps::parens_at))]
+#[tactic(auto, unfolding(crate::specs::ReadSelects::output_at))]
 fn output(alloc: Global, depth: usize, tokens: &[Token]) -> Result<(Output, &[Token]), Stop>
     ensures { Gives seen result (output_at depth tokens.now) }
 {
-    if let Some(rest) = after(tokens, Sign::Word(Keyword::Sum)) {
-        let inside = expect(rest, Sign::Mark(Mark::Open))?;
-        let (found, rest) = closed(alloc, depth, inside)?;
-        return Ok((Output::Sum(found), rest));
+    match function(tokens) {
+        Some((function, rest)) => {
+            let (found, rest) = aggregate(alloc, depth, function, rest)?;
+            Ok((Output::Aggregate(found), rest))
+        }
+        None => {
+            let (found, rest) = column(alloc, tokens)?;
+            Ok((Output::Column(found), rest))
+        }
     }
-    if let Some(rest) = after(tokens, Sign::Word(Keyword::Count)) {
-        let inside = expect(rest, Sign::Mark(Mark::Open))?;
-        return count(alloc, depth, inside);
-    }
-    let (found, rest) = column(alloc, tokens)?;
-    Ok((Output::Column(found), rest))
 }
 
 #[tactic(auto, unfolding(crate::specs::ReadSelects::alias_at))]

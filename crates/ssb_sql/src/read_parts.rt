@@ -6,11 +6,11 @@ ghost use Rattle.ssb_sql.specs.Steps.{Gives, after, list_at, name_at};
 ghost use Rattle.ssb_sql.specs.ReadParts.{column_at, small_at, below_at, plain_literal_at, literal_at, operand_at};
 ghost use Rattle.ssb_sql.specs.declared.token.Sign.TheVariants as s;
 
-use crate::condition::Operand;
-use crate::expr::ColumnName;
+use crate::named::ColumnName;
 use crate::steps::{Stop, after, is_name_next, name, number};
 use crate::token::{Mark, Sign, Token};
 use ssb_terms::Literal;
+use ssb_trees::Operand;
 use std::alloc::Global;
 
 #[tactic(auto, unfolding(crate::specs::ReadParts::column_at))]
@@ -85,7 +85,10 @@ pub(crate) fn literal(alloc: Global, tokens: &[Token]) -> Result<(Literal, &[Tok
 }
 
 #[tactic(auto, unfolding(crate::specs::ReadParts::operand_at))]
-pub(crate) fn operand(alloc: Global, tokens: &[Token]) -> Result<(Operand, &[Token]), Stop>
+pub(crate) fn operand(
+    alloc: Global,
+    tokens: &[Token],
+) -> Result<(Operand<ColumnName>, &[Token]), Stop>
     ensures { Gives seen result (operand_at tokens.now) }
 {
     if is_name_next(tokens) {

@@ -9,8 +9,7 @@ ghost use Rattle.ssb_sql.specs.declared.token.Mark.TheVariants as marks;
 ghost use Rattle.ssb_sql.specs.declared.token.Sign.TheVariants as s;
 
 use crate::chain::{COMMA, chain};
-use crate::condition::Condition;
-use crate::expr::ColumnName;
+use crate::named::ColumnName;
 use crate::read_condition::condition;
 use crate::read_item::{items, order};
 use crate::read_parts::column;
@@ -19,6 +18,7 @@ use crate::steps::{Stop, after, expect, name};
 use crate::token::{Mark, Sign, Token};
 use sqlite_items::Items;
 use ssb_terms::{Keyword, Name};
+use ssb_trees::Filter;
 use std::alloc::Global;
 
 #[tactic(auto, unfolding(crate::specs::ReadSelects::where_at))]
@@ -26,7 +26,7 @@ fn condition_if(
     alloc: Global,
     depth: usize,
     tokens: &[Token],
-) -> Result<(Option<Condition>, &[Token]), Stop>
+) -> Result<(Option<Filter<ColumnName>>, &[Token]), Stop>
     ensures { Gives seen result (where_at depth tokens.now) }
 {
     match after(tokens, Sign::Word(Keyword::Where)) {
@@ -124,7 +124,7 @@ fn filtered(
     alloc: Global,
     depth: usize,
     tokens: &[Token],
-) -> Result<(Option<Condition>, Items<ColumnName>, Items<Order>), Stop>
+) -> Result<(Option<Filter<ColumnName>>, Items<ColumnName>, Items<Order>), Stop>
     requires { depth < 2 ^ 32 }
     ensures { Gives (λ x. x) result (filtered_at depth tokens.now) }
 {
@@ -141,7 +141,7 @@ fn joined(
 ) -> Result<
     (
         Items<Name>,
-        Option<Condition>,
+        Option<Filter<ColumnName>>,
         Items<ColumnName>,
         Items<Order>,
     ),

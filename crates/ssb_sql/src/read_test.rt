@@ -8,12 +8,13 @@ ghost use Rattle.ssb_sql.specs.ReadConditions.{op_of, op_at, limits_at, among_at
 ghost use Rattle.ssb_sql.specs.declared.token.Sign.TheVariants as s;
 
 use crate::chain::{COMMA, chain};
-use crate::condition::{Condition, Operand};
+use crate::named::ColumnName;
 use crate::read_parts::{literal, operand};
 use crate::steps::{Stop, after, closing, expect, followed};
 use crate::token::{Mark, Sign, Token};
 use sqlite_items::Items;
 use ssb_terms::{Keyword, Literal, Op};
+use ssb_trees::{Condition, Filter, Operand};
 use std::alloc::Global;
 
 fn op_of(mark: Mark) -> Option<Op>
@@ -42,7 +43,10 @@ fn op(tokens: &[Token]) -> Option<(Op, &[Token])>
 
 // The two limits of a BETWEEN and the AND between them.
 #[tactic(auto, unfolding(crate::specs::ReadConditions::limits_at))]
-fn limits(alloc: Global, tokens: &[Token]) -> Result<((Operand, Operand), &[Token]), Stop>
+fn limits(
+    alloc: Global,
+    tokens: &[Token],
+) -> Result<((Operand<ColumnName>, Operand<ColumnName>), &[Token]), Stop>
     ensures { Gives seen result (limits_at tokens.now) }
 {
     let (low, rest) = operand(alloc, tokens)?;
@@ -66,7 +70,11 @@ fn among(alloc: Global, tokens: &[Token]) -> Result<(Items<Literal>, &[Token]), 
     closing(found, rest)
 }
 
-fn between_of(negated: bool, operand: Operand, limits: (Operand, Operand)) -> Condition
+fn between_of(
+    negated: bool,
+    operand: Operand<ColumnName>,
+    limits: (Operand<ColumnName>, Operand<ColumnName>),
+) -> Filter<ColumnName>
     ensures { result ≡ between_of negated operand limits }
 {
     let (low, high) = limits;
@@ -77,7 +85,7 @@ fn between_of(negated: bool, operand: Operand, limits: (Operand, Operand)) -> Co
     }
 }
 
-fn in_of(negated: bool, operand: Operand, members: Items<Literal>) -> Condition
+fn in_of(negated: bool, operand: Operand<ColumnName>, members: Items<Literal>) -> Filter<ColumnName>
     ensures { result ≡ in_of negated operand members }
 {
     if negated {
@@ -92,9 +100,9 @@ fn in_of(negated: bool, operand: Operand, members: Items<Literal>) -> Condition
 fn range(
     alloc: Global,
     negated: bool,
-    operand: Operand,
+    operand: Operand<ColumnName>,
     tokens: &[Token],
-) -> Result<(Condition, &[Token]), Stop>
+) -> Result<(Filter<ColumnName>, &[Token]), Stop>
     ensures { Gives seen result (range_at negated operand tokens.now) }
 {
     match after(tokens, Sign::Word(Keyword::Between)) {
@@ -107,19 +115,23 @@ fn range(
     }
 }
 
-fn null_of(negated: bool, operand: Operand) -> Option<Condition>
+fn null_of(negated: bool, operand: Operand<ColumnName>) -> Option<Filter<ColumnName>>
     ensures { result ≡ null_of negated operand }
 {
     match operand {
-        Operand::Column(column) if negated => Some(Condition::IsNotNull(column)),
-        Operand::Column(column) => Some(Condition::IsNull(column)),
+        Operand::Column(_) if negated => Some(Condition::IsNotNull(operand)),
+        Operand::Column(_) => Some(Condition::IsNull(operand)),
         Operand::Literal(_) => None,
     }
 }
 
 // NULL, after the operand, IS and a NOT if there is one.
 #[tactic(auto, unfolding(crate::specs::ReadConditions::nulled_at))]
-fn nulled(negated: bool, operand: Operand, tokens: &[Token]) -> Result<(Condition, &[Token]), Stop>
+fn nulled(
+    negated: bool,
+    operand: Operand<ColumnName>,
+    tokens: &[Token],
+) -> Result<(Filter<ColumnName>, &[Token]), Stop>
     ensures { Gives seen result (nulled_at negated operand tokens.now) }
 {
     let (operand, rest) = followed(operand, Sign::Word(Keyword::Null), tokens)?;
@@ -131,7 +143,10 @@ fn nulled(negated: bool, operand: Operand, tokens: &[Token]) -> Result<(Conditio
 
 // [NOT] NULL, after the operand and IS.
 #[tactic(auto, unfolding(crate::specs::ReadConditions::null_at))]
-fn null(operand: Operand, tokens: &[Token]) -> Result<(Condition, &[Token]), Stop>
+fn null(
+    operand: Operand<ColumnName>,
+    tokens: &[Token],
+) -> Result<(Filter<ColumnName>, &[Token]), Stop>
     ensures { Gives seen result (null_at operand tokens.now) }
 {
     match after(tokens, Sign::Word(Keyword::Not)) {
@@ -142,7 +157,11 @@ fn null(operand: Operand, tokens: &[Token]) -> Result<(Condition, &[Token]), Sto
 
 // An operator and an operand, or BETWEEN or IN.
 #[tactic(auto, unfolding(crate::specs::ReadConditions::compared_at))]
-fn compared(alloc: Global, left: Operand, tokens: &[Token]) -> Result<(Condition, &[Token]), Stop>
+fn compared(
+    alloc: Global,
+    left: Operand<ColumnName>,
+    tokens: &[Token],
+) -> Result<(Filter<ColumnName>, &[Token]), Stop>
     ensures { Gives seen result (compared_at left tokens.now) }
 {
     match op(tokens) {
@@ -155,7 +174,11 @@ fn compared(alloc: Global, left: Operand, tokens: &[Token]) -> Result<(Condition
 
 // What follows an operand.
 #[tactic(auto, unfolding(crate::specs::ReadConditions::tail_at))]
-fn tail(alloc: Global, operand: Operand, tokens: &[Token]) -> Result<(Condition, &[Token]), Stop>
+fn tail(
+    alloc: Global,
+    operand: Operand<ColumnName>,
+    tokens: &[Token],
+) -> Result<(Filter<ColumnName>, &[Token]), Stop>
     ensures { Gives seen result (tail_at operand tokens.now) }
 {
     if let Some(rest) = after(tokens, Sign::Word(Keyword::Not)) {
@@ -169,7 +192,7 @@ fn tail(alloc: Global, operand: Operand, tokens: &[Token]) -> Result<(Condition,
 
 /// Reads a test that has no parentheses round it.
 #[tactic(auto, unfolding(crate::specs::ReadConditions::bare_at))]
-pub(crate) fn bare(alloc: Global, tokens: &[Token]) -> Result<(Condition, &[Token]), Stop>
+pub(crate) fn bare(alloc: Global, tokens: &[Token]) -> Result<(Filter<ColumnName>, &[Token]), Stop>
     ensures { Gives seen result (bare_at tokens.now) }
 {
     let (operand, rest) = operand(alloc, tokens)?;

@@ -1,7 +1,7 @@
+use ssb_trees::{Aggregate, Filter};
 // What a query asks for, as it is written.
 
-use crate::condition::Condition;
-use crate::expr::{ColumnName, Expr};
+use crate::named::ColumnName;
 use sqlite_items::Items;
 use ssb_terms::Name;
 
@@ -10,12 +10,8 @@ use ssb_terms::Name;
 pub enum Output {
     /// A column's value.
     Column(ColumnName),
-    /// The sum of an expression's values.
-    Sum(Expr),
-    /// How many rows there are.
-    CountRows,
-    /// In how many rows the expression has a value.
-    Count(Expr),
+    /// What is computed over rows.
+    Aggregate(Aggregate<ColumnName>),
 }
 
 /// An item of the select list.
@@ -52,7 +48,7 @@ pub struct Select {
     /// The tables of FROM.
     pub from: Items<Name>,
     /// The condition of WHERE.
-    pub condition: Option<Condition>,
+    pub condition: Option<Filter<ColumnName>>,
     /// The columns of GROUP BY; none where it is not there.
     pub groups: Items<ColumnName>,
     /// The keys of ORDER BY; none where it is not there.

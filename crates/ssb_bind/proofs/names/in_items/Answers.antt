@@ -1,7 +1,7 @@
 use Rattle.std.proofs.Common.{sym}
 use Rattle.ssb_bind.specs.Columns.{is_wrong}
 use Rattle.ssb_bind.specs.Names.{item_names}
-use Rattle.ssb_bind.proofs.Finding.{part_has, part_lacks}
+use Rattle.ssb_trees.proofs.Finding.{part_has, part_lacks}
 use Rattle.ssb_bind.proofs.names.in_items.Goals as goal
 
 pub returns-in-Some : goal.returns-in-Some

@@ -1,6 +1,6 @@
 use Rattle.std.proofs.Common.{◌≡◌, find, drop, map}
 use Rattle.ssb_bind.specs.Columns.{is_wrong}
-use Rattle.ssb_query.specs.Star.{concat}
+use Rattle.ssb_trees.specs.Lists.{concat}
 use Rattle.ssb_bind.specs.Names.{item_names}
 use Rattle.ssb_bind.proofs.names.in_items.Given as goal
 

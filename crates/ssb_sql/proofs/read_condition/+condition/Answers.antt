@@ -1,5 +1,5 @@
 use Rattle.std.proofs.Common.{◌-◌, arith, rules}
-use Rattle.ssb_sql.specs.declared.condition.Condition.TheVariants as conditions
+use Rattle.ssb_trees.specs.declared.condition.Condition.TheVariants as conditions
 use Rattle.ssb_sql.specs.ReadConditions.{neg_at, conj_at, cond_at}
 use Rattle.ssb_sql.proofs.ConditionSound.{neg_shrinks, conj_shrinks, cond_is}
 use Rattle.ssb_sql.proofs.read_condition.+condition.Goals as goal

@@ -1,6 +1,6 @@
 use Rattle.std.proofs.Common.{[], sym, arith, rules}
 use Rattle.std.proofs.lemmas.Result.{err_from_is_err_and}
-use Rattle.ssb_sql.specs.declared.expr.Expr.TheVariants as expressions
+use Rattle.ssb_trees.specs.declared.expr.Expr.TheVariants as expressions
 use Rattle.ssb_sql.specs.Steps.{more_at}
 use Rattle.ssb_sql.specs.ReadExpressions.{factor_at, term_at, adding_at, step_at, expr_at}
 use Rattle.ssb_sql.proofs.Loop.{goes_on, is_done, turn_fails, shorter_by}

@@ -1,0 +1,61 @@
+// Conditions and aggregates with a column in the place of each name.
+
+ghost use Rattle.std.specs.Prelude.{◌≡◌, IfOk};
+ghost use Rattle.ssb_bind.specs.Bound as spec;
+ghost use Rattle.ssb_bind.specs.Columns as columns;
+
+use crate::resolve::{Scope, bound_name};
+use ssb_query::BoundColumn;
+use ssb_sql::ColumnName;
+use ssb_trees::{Aggregate, Filter, Leaves, Operand};
+use std::alloc::{AllocError, Global};
+
+impl Leaves<ColumnName, BoundColumn> for Scope<'_> {
+    ghost given = { λ scope name. columns.bound_name scope.catalog.now scope.from.now name };
+
+    fn leaf(&self, _alloc: Global, name: &ColumnName) -> Result<BoundColumn, AllocError> {
+        Ok(bound_name(self.catalog, self.from, name))
+    }
+}
+
+impl Leaves<Operand<ColumnName>, Operand<BoundColumn>> for Scope<'_> {
+    ghost given = { λ scope operand. spec.bound_operand scope.catalog.now scope.from.now operand };
+
+    fn leaf(
+        &self,
+        alloc: Global,
+        operand: &Operand<ColumnName>,
+    ) -> Result<Operand<BoundColumn>, AllocError> {
+        match operand {
+            Operand::Column(name) => Ok(Operand::Column(bound_name(self.catalog, self.from, name))),
+            Operand::Literal(literal) => Ok(Operand::Literal(literal.copy(alloc)?)),
+        }
+    }
+}
+
+pub(crate) fn bound_aggregate(
+    scope: Scope<'_>,
+    aggregate: &Aggregate<ColumnName>,
+) -> Result<Aggregate<BoundColumn>, AllocError>
+    ensures { IfOk result (λ a. a ≡ spec.bound_aggregate scope.entry.catalog.now scope.entry.from.now aggregate.now) }
+{
+    match aggregate {
+        Aggregate::Rows => Ok(Aggregate::Rows),
+        Aggregate::Of(function, expr) => {
+            let expr = expr.mapped(scope.alloc, &scope)?;
+            Ok(Aggregate::Of(*function, expr))
+        }
+    }
+}
+
+pub(crate) fn bound_where(
+    scope: Scope<'_>,
+    condition: &Option<Filter<ColumnName>>,
+) -> Result<Option<Filter<BoundColumn>>, AllocError>
+    ensures { IfOk result (λ c. c ≡ spec.bound_where scope.entry.catalog.now scope.entry.from.now condition.now) }
+{
+    match condition {
+        None => Ok(None),
+        Some(condition) => Ok(Some(condition.mapped(scope.alloc, &scope)?)),
+    }
+}

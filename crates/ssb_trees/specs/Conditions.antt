@@ -1,0 +1,47 @@
+-- Conditions over any operands: the same condition over others, and the operands that it has.
+-- Source: own; the forms are those of SQL-92, 8.12 <search condition>.
+use Rattle.std.specs.Prelude.{List, [], ◌∷◌}
+use Rattle.ssb_trees.specs.Lists.{concat}
+use Rattle.ssb_trees.specs.declared.condition.Condition.{Condition}
+use Rattle.ssb_trees.specs.declared.condition.Condition.TheVariants as condition
+use Rattle.ssb_trees.specs.declared.condition.Condition.TheOpen.{Condition-F}
+use Rattle.ssb_trees.specs.declared.condition.Condition.TheFolds.{fold-Condition}
+use Rattle.ssb_trees.specs.declared.operand.Operand.{Operand}
+
+-- a condition over columns and literals, as WHERE has one
+abbrev pub Filter : Type 0 → Type 0
+Filter C = Condition (Operand C)
+
+-- one form of condition, with f of each operand
+abbrev pub mapped_layer : (O P : Type 0) → (O → P) → Condition-F O (Condition P) → Condition P
+mapped_layer O P f (Condition-F.Any parts) = condition.Any parts
+mapped_layer O P f (Condition-F.All parts) = condition.All parts
+mapped_layer O P f (Condition-F.Not part) = condition.Not part
+mapped_layer O P f (Condition-F.Compare op a b) = condition.Compare op (f a) (f b)
+mapped_layer O P f (Condition-F.Between x a b) = condition.Between (f x) (f a) (f b)
+mapped_layer O P f (Condition-F.NotBetween x a b) = condition.NotBetween (f x) (f a) (f b)
+mapped_layer O P f (Condition-F.In x literals) = condition.In (f x) literals
+mapped_layer O P f (Condition-F.NotIn x literals) = condition.NotIn (f x) literals
+mapped_layer O P f (Condition-F.IsNull x) = condition.IsNull (f x)
+mapped_layer O P f (Condition-F.IsNotNull x) = condition.IsNotNull (f x)
+
+-- the same condition with f of each operand
+abbrev pub mapped : (O P : Type 0) → (O → P) → Condition O → Condition P
+mapped O P f = fold-Condition O (Condition P) (mapped_layer O P f)
+
+-- one form of condition, with the operands of the conditions in it
+abbrev pub operands_layer : (O : Type 0) → Condition-F O (List O) → List O
+operands_layer O (Condition-F.Any parts) = concat parts
+operands_layer O (Condition-F.All parts) = concat parts
+operands_layer O (Condition-F.Not part) = part
+operands_layer O (Condition-F.Compare op a b) = a ∷ b ∷ []
+operands_layer O (Condition-F.Between x a b) = x ∷ a ∷ b ∷ []
+operands_layer O (Condition-F.NotBetween x a b) = x ∷ a ∷ b ∷ []
+operands_layer O (Condition-F.In x literals) = x ∷ []
+operands_layer O (Condition-F.NotIn x literals) = x ∷ []
+operands_layer O (Condition-F.IsNull x) = x ∷ []
+operands_layer O (Condition-F.IsNotNull x) = x ∷ []
+
+-- the operands of a condition, in the order of its text, without the literals of IN
+abbrev pub operands : (O : Type 0) → Condition O → List O
+operands O = fold-Condition O (List O) (operands_layer O)

@@ -1,0 +1,36 @@
+// The leaves of a tree: the operands of a condition, the columns of an expression.
+
+ghost use Rattle.std.specs.Prelude.{◌≡◌, ◌∷◌, [], Bool, IfOk, find};
+ghost use Rattle.std.specs.Option.{option_copied};
+
+use std::alloc::{AllocError, Global};
+
+/// What each leaf of a tree becomes.
+pub trait Leaves<A, B> {
+    /// What a leaf becomes.
+    ghost given: { Self → A → B };
+
+    /// Makes it.
+    ///
+    /// # Errors
+    ///
+    /// Only where a growth was refused.
+    fn leaf(&self, alloc: Global, leaf: &A) -> Result<B, AllocError>
+        ensures { IfOk result (λ b. b ≡ given self.now leaf.now) };
+}
+
+/// A test of the leaves of a tree.
+pub trait Test<A> {
+    /// Whether a leaf passes.
+    ghost passed: { Self → A → Bool };
+
+    /// Whether it does.
+    fn passes(&self, leaf: &A) -> bool
+        ensures { result ≡ passed self.now leaf.now };
+}
+
+pub(crate) fn in_leaf<'a, A, T: Test<A>>(test: &T, leaf: &'a A) -> Option<&'a A>
+    ensures { option_copied result ≡ find (T.passed test.now) (leaf.now ∷ []) }
+{
+    if test.passes(leaf) { Some(leaf) } else { None }
+}

@@ -1,0 +1,23 @@
+//! Trees: the forms that a query's text and its meaning share.
+//!
+//! A [`Condition`] is over operands of any type, an [`Expr`] and an [`Aggregate`] over columns of any
+//! type, a [`Filter`] over columns and literals: as they are written these are names, and as they are meant they are places in tables.
+//! `specs/Conditions.antt` and `Expressions.antt` say what becomes of a tree where each leaf becomes
+//! another, and which leaves it has.
+#![tactic(auto)]
+
+pub mod aggregate;
+pub mod condition;
+pub mod expr;
+mod find_column;
+mod find_operand;
+pub mod leaf;
+mod map_condition;
+mod map_expr;
+pub mod operand;
+
+pub use aggregate::{Aggregate, SetFunction};
+pub use condition::Condition;
+pub use expr::{Expr, Step};
+pub use leaf::{Leaves, Test};
+pub use operand::{Filter, Operand};

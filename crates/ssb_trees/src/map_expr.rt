@@ -1,0 +1,90 @@
+// The same expression over other columns.
+
+ghost use Rattle.std.specs.Prelude.{◌≡◌, IfOk, map};
+ghost use Rattle.ssb_trees.specs.Expressions.{mapped, mapped_step};
+
+use crate::expr::{Expr, Step};
+use crate::leaf::Leaves;
+use sqlite_items::{Boxed, Items};
+use std::alloc::{AllocError, Global};
+
+#[cycle(expr)]
+fn mapped_steps<C, D: Drop, M: Leaves<C, D>>(
+    alloc: Global,
+    columns: &M,
+    steps: &[Step<C>],
+) -> Result<Items<Step<D>>, AllocError>
+    ensures { IfOk result (λ all. all ≡ map (mapped_step _ _ (M.given columns.now)) steps.now) }
+{
+    let mut all = Items::new(alloc);
+    for step in steps {
+        let term = mapped_expr(alloc, columns, &step.term)?;
+        let adding = step.adding;
+        all.push(Step { adding, term })?;
+    }
+    Ok(all)
+}
+
+#[cycle(expr)]
+fn mapped_factors<C, D: Drop, M: Leaves<C, D>>(
+    alloc: Global,
+    columns: &M,
+    factors: &[Expr<C>],
+) -> Result<Items<Expr<D>>, AllocError>
+    ensures { IfOk result (λ all. all ≡ map (mapped _ _ (M.given columns.now)) factors.now) }
+{
+    let mut all = Items::new(alloc);
+    for factor in factors {
+        all.push(mapped_expr(alloc, columns, factor)?)?;
+    }
+    Ok(all)
+}
+
+#[cycle(expr)]
+fn mapped_expr<C, D: Drop, M: Leaves<C, D>>(
+    alloc: Global,
+    columns: &M,
+    expr: &Expr<C>,
+) -> Result<Expr<D>, AllocError>
+    ensures { IfOk result (λ e. e ≡ mapped _ _ (M.given columns.now) expr.now) }
+{
+    match expr {
+        Expr::Column(column) => Ok(Expr::Column(columns.leaf(alloc, column)?)),
+        Expr::Number(number) => Ok(Expr::Number(*number)),
+        Expr::Positive(part) => {
+            let part = mapped_expr(alloc, columns, part.get())?;
+            Ok(Expr::Positive(Boxed::new(alloc, part)?))
+        }
+        Expr::Negative(part) => {
+            let part = mapped_expr(alloc, columns, part.get())?;
+            Ok(Expr::Negative(Boxed::new(alloc, part)?))
+        }
+        Expr::Chain(first, steps) => {
+            let first = mapped_expr(alloc, columns, first.get())?;
+            let first = Boxed::new(alloc, first)?;
+            let steps = mapped_steps(alloc, columns, steps.as_slice())?;
+            Ok(Expr::Chain(first, steps))
+        }
+        Expr::Times(factors) => {
+            let factors = mapped_factors(alloc, columns, factors.as_slice())?;
+            Ok(Expr::Times(factors))
+        }
+    }
+}
+
+impl<C> Expr<C> {
+    /// The same expression over what each column becomes.
+    ///
+    /// # Errors
+    ///
+    /// Only where a growth was refused.
+    pub fn mapped<D: Drop, M: Leaves<C, D>>(
+        &self,
+        alloc: Global,
+        columns: &M,
+    ) -> Result<Expr<D>, AllocError>
+        ensures { IfOk result (λ e. e ≡ mapped _ _ (M.given columns.now) self.now) }
+    {
+        mapped_expr(alloc, columns, self)
+    }
+}

@@ -1,9 +1,9 @@
 //! Trees: the forms that a query's text and its meaning share.
 //!
-//! A [`Condition`] is over operands of any type, an [`Expr`] and an [`Aggregate`] over columns of any
-//! type, a [`Filter`] over columns and literals: as they are written these are names, and as they are meant they are places in tables.
-//! `specs/Conditions.antt` and `Expressions.antt` say what becomes of a tree where each leaf becomes
-//! another, and which leaves it has.
+//! A [`Condition`] is over operands of any type, a [`Filter`] over columns and literals, an [`Expr`] and
+//! an [`Aggregate`] over columns. Columns are of any type too: as they are written they are names, and as
+//! they are meant they are places in tables. `specs/Conditions.antt` and `Expressions.antt` say what
+//! becomes of a tree where each leaf becomes another, and which leaves it has.
 #![tactic(auto)]
 
 pub mod aggregate;

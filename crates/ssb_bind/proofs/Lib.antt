@@ -3,3 +3,4 @@ pub mod Finding
 pub mod Least
 pub mod Meaning
 pub mod Relation
+pub mod TextColumns

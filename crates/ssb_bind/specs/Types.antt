@@ -1,7 +1,9 @@
--- The types of expressions, and tests of a number beside a text.
--- Source: SQL-92, 8.2 <comparison predicate> (comparable types) and 6.12 <numeric value expression> (operands are numbers).
-use Rattle.std.specs.Prelude.{ℕ, Bool, true, false, not, ◌||◌, if◌then◌else◌, List, ◌∷◌, Option, Some, None, is_none}
+-- The types of expressions and aggregates, and tests of a number beside a text.
+-- Source: SQL-92, 8.2 <comparison predicate> (comparable types), 6.12 <numeric value expression> (operands are numbers) and 6.5 <set function specification>
+-- (the type of a result).
+use Rattle.std.specs.Prelude.{◌≡◌, ℕ, Bool, true, false, not, ◌||◌, if◌then◌else◌, List, ◌∷◌, Option, Some, None, is_none}
 use Rattle.std.specs.List.{list_all, list_any}
+use Rattle.std.specs.Option.{is_some}
 use Rattle.ssb_terms.specs.declared.rule.ColType.{ColType}
 use Rattle.ssb_terms.specs.declared.rule.ColType.TheVariants as kinds
 use Rattle.ssb_terms.specs.declared.literal.Literal.{Literal}
@@ -10,9 +12,11 @@ use Rattle.ssb_query.specs.Tables.{kind_at}
 use Rattle.ssb_trees.specs.declared.condition.Condition.TheOpen.{Condition-F}
 use Rattle.ssb_trees.specs.declared.condition.Condition.TheFolds.{fold-Condition}
 use Rattle.ssb_trees.specs.declared.operand.Operand.TheVariants as operand
+use Rattle.ssb_trees.specs.declared.expr.Expr.TheVariants as expr
 use Rattle.ssb_trees.specs.declared.expr.Expr.TheOpen.{Expr-F, Step-F}
 use Rattle.ssb_trees.specs.declared.expr.Expr.TheFolds.{fold-Expr, fold-Step}
 use Rattle.ssb_trees.specs.declared.aggregate.Aggregate.TheVariants as aggregate
+use Rattle.ssb_trees.specs.declared.aggregate.SetFunction.{SetFunction}
 use Rattle.ssb_trees.specs.declared.aggregate.SetFunction.TheVariants as function
 use Rattle.ssb_query.specs.declared.query.QueryParts.{QueryParts}
 use Rattle.ssb_query.specs.declared.query.TableRules.{TableRules}
@@ -56,11 +60,30 @@ type_of tables from = fold-Expr BoundColumn (Option ColType) (Option ColType) (t
 abbrev pub type_of_step : List TableRules → List ℕ → Step BoundColumn → Option ColType
 type_of_step tables from = fold-Step BoundColumn (Option ColType) (Option ColType) (type_layer tables from) step_layer
 
--- SUM is of numbers; COUNT is of any type
+-- Since a sign or an operation gives a number, or has no type, no text is anything but a column.
+
+abbrev pub IsTextColumn : List TableRules → List ℕ → Expr BoundColumn → Type 0
+IsTextColumn tables from e = (x : BoundColumn) × (e ≡ expr.Column x) × (kind_at tables from x ≡ Some kinds.Text)
+
+abbrev pub TextsAreColumns : Type 0
+TextsAreColumns = (tables : List TableRules) (from : List ℕ) (e : Expr BoundColumn) → type_of tables from e ≡ Some kinds.Text → IsTextColumn tables from e
+
+-- Aggregates: of numbers SUM gives a number, and of values of either type COUNT does; MIN and MAX give one of the values.
+
+abbrev pub result_type : SetFunction → Option ColType → Option ColType
+result_type function.Sum t = number_if (is_int_type t)
+result_type function.Count t = number_if (is_some t)
+result_type function.Min t = t
+result_type function.Max t = t
+
+-- the type of an aggregate
+abbrev pub aggregate_type : List TableRules → List ℕ → Aggregate BoundColumn → Option ColType
+aggregate_type tables from aggregate.Rows = Some kinds.Int
+aggregate_type tables from (aggregate.Of f e) = result_type f (type_of tables from e)
+
+-- SUM of a text, and any aggregate of an expression that has no type
 abbrev pub is_untyped : List TableRules → List ℕ → Aggregate BoundColumn → Bool
-is_untyped tables from aggregate.Rows = false
-is_untyped tables from (aggregate.Of function.Sum e) = not (is_int_type (type_of tables from e))
-is_untyped tables from (aggregate.Of function.Count e) = is_none (type_of tables from e)
+is_untyped tables from a = is_none (aggregate_type tables from a)
 
 -- Conditions: what is compared has one type.
 

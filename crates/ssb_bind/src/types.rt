@@ -1,4 +1,4 @@
-// Types of expressions, and tests of a number beside a text.
+// Types of expressions and aggregates, and tests of a number beside a text.
 
 ghost use Rattle.std.specs.Prelude.{◌≡◌, ◌||◌, map};
 ghost use Rattle.std.specs.List.{list_all, list_any};
@@ -73,22 +73,34 @@ fn type_of(tables: &[TableRules], from: &[usize], expr: &Expr<BoundColumn>) -> O
     }
 }
 
-fn is_untyped(tables: &[TableRules], from: &[usize], aggregate: &Aggregate<BoundColumn>) -> bool
-    ensures { result ≡ spec.is_untyped tables.now from.now aggregate.now }
+// The type of what a set function gives over values of a type.
+fn result_type(function: SetFunction, argument: Option<ColType>) -> Option<ColType>
+    ensures { result ≡ spec.result_type function argument }
+{
+    match function {
+        SetFunction::Sum => number_if(is_int_type(argument)),
+        SetFunction::Count => number_if(argument.is_some()),
+        SetFunction::Min | SetFunction::Max => argument,
+    }
+}
+
+fn aggregate_type(
+    tables: &[TableRules],
+    from: &[usize],
+    aggregate: &Aggregate<BoundColumn>,
+) -> Option<ColType>
+    ensures { result ≡ spec.aggregate_type tables.now from.now aggregate.now }
 {
     match aggregate {
-        Aggregate::Rows => false,
-        Aggregate::Of(SetFunction::Sum, expr) => !is_int_type(type_of(tables, from, expr)),
-        Aggregate::Of(SetFunction::Count, expr) => type_of(tables, from, expr).is_none(),
+        Aggregate::Rows => Some(ColType::Int),
+        Aggregate::Of(function, expr) => result_type(*function, type_of(tables, from, expr)),
     }
 }
 
 fn has_untyped(tables: &[TableRules], from: &[usize], aggregates: &[Aggregate<BoundColumn>]) -> bool
     ensures { result ≡ list_any (spec.is_untyped tables.now from.now) aggregates.now }
 {
-    aggregates
-        .iter()
-        .any(|aggregate| is_untyped(tables, from, aggregate))
+    aggregates.iter().any(|aggregate| aggregate_type(tables, from, aggregate).is_none())
 }
 
 fn is_text_literal(literal: &Literal) -> bool

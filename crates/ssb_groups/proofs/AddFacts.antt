@@ -1,37 +1,39 @@
 -- One row more, as it is gathered.
-use Rattle.std.proofs.Common.{◌≡◌, ℕ, zero, suc, ◌+◌, ◌<◌, List, [], ◌∷◌, length, map, Some, refl, ap, ap₂, subst, ◌∙◌, arith}
+use Rattle.std.proofs.Common.{◌≡◌, ℕ, zero, suc, ◌+◌, ◌<◌, List, [], ◌∷◌, length, map, Some, refl, sym, ap, ap₂, subst, ◌∙◌, arith}
 use Rattle.std.specs.Prelude.{slice_get, unwrap_or}
-use Rattle.std.specs.List.{range_with_len}
 use Rattle.std.proofs.lemmas.List.{length-map}
 use Rattle.std.proofs.lemmas.List.Quantifiers.{position-Some}
 use Rattle.std.proofs.lemmas.Option.{same_Some}
 use Rattle.ssb_query.specs.Star.{IsStar}
 use Rattle.ssb_query.specs.Tables.{is_fact_table}
-use Rattle.ssb_cells.specs.Cell.{null}
+use Rattle.ssb_query.specs.declared.column.BoundColumn.{BoundColumn}
+use Rattle.ssb_trees.specs.declared.aggregate.Aggregate.{Aggregate}
+use Rattle.ssb_cells.specs.Cell.{Cell, null}
 use Rattle.ssb_cells.specs.Tables.{rows_in}
 use Rattle.ssb_job.specs.Kept.{Columns, IsCombination, JobShape, from_tables, rows_of}
 use Rattle.ssb_job.proofs.Found.{length-combination}
-use Rattle.ssb_groups.specs.Gathering.{each_alone}
+use Rattle.ssb_groups.specs.Aggregates.{agg, totals, totals_from}
+use Rattle.ssb_groups.specs.Gathering.{alone}
 use Rattle.ssb_groups.specs.Rows.{SeenRow}
-use Rattle.ssb_groups.specs.Stands.{accumulated, totals}
+use Rattle.ssb_groups.specs.Seen.{argument}
 use Rattle.ssb_groups.specs.Value.{Outcome, known}
-use Rattle.ssb_groups.specs.declared.accumulator.Accumulator.{Accumulator}
 
--- ---- the totals of one row are the accumulators of its arguments
+-- ---- the totals of one row are those over its arguments alone
 
-abbrev alone_at : List Outcome → ℕ → Accumulator
-alone_at os i = accumulated (unwrap_or (slice_get os i) (known null) ∷ [])
+module _ (cell : BoundColumn → Cell) where
+  -- the arguments of a row from the i-th on are those of these aggregates
+  abbrev IsAt : List Outcome → ℕ → List (Aggregate BoundColumn) → Type 0
+  IsAt os i aggs = (n : ℕ) → unwrap_or (slice_get os (i + n)) (known null) ≡ unwrap_or (slice_get (map (argument cell) aggs) n) (known null)
 
-shifted : (o : Outcome) (os : List Outcome) (a b n : ℕ) → b ≡ suc a → map (alone_at (o ∷ os)) (range_with_len b n) ≡ map (alone_at os) (range_with_len a n)
-shifted o os a b zero e = refl
-shifted o os a b (suc n) e = ap₂ (λ x xs. x ∷ xs) (ap (alone_at (o ∷ os)) e) (shifted o os (a + 1) (b + 1) n (omega arith))
+  totals_from-alone : (r : SeenRow) (i : ℕ) (aggs : List (Aggregate BoundColumn)) → IsAt r.arguments i aggs → totals_from i aggs (r ∷ []) ≡ map (alone cell) aggs
+  totals_from-alone r i [] at = refl
+  totals_from-alone r i (a ∷ aggs) at =
+      let z : i + 0 ≡ i = omega arith in
+      ap₂ (λ x xs. x ∷ xs) (ap (λ o. agg a (o ∷ [])) (ap (λ n. unwrap_or (slice_get r.arguments n) (known null)) (sym z) ∙ at 0))
+      (totals_from-alone r (i + 1) aggs (λ n. let e : i + 1 + n ≡ i + suc n = omega arith in ap (λ m. unwrap_or (slice_get r.arguments m) (known null)) e ∙ at (suc n)))
 
-each_place : (os : List Outcome) → map (alone_at os) (range_with_len 0 (length os)) ≡ each_alone os
-each_place [] = refl
-each_place (o ∷ os) = ap (λ t. accumulated (o ∷ []) ∷ t) (shifted o os 0 (0 + 1) (length os) refl ∙ each_place os)
-
-pub totals_alone : (w : ℕ) (r : SeenRow) → w ≡ length r.arguments → totals w (r ∷ []) ≡ each_alone r.arguments
-totals_alone w r e = ap (λ n. map (alone_at r.arguments) (range_with_len 0 n)) e ∙ each_place r.arguments
+  pub totals-alone : (r : SeenRow) (aggs : List (Aggregate BoundColumn)) → r.arguments ≡ map (argument cell) aggs → totals aggs (r ∷ []) ≡ map (alone cell) aggs
+  totals-alone r aggs e = totals_from-alone r 0 aggs (λ n. let z : 0 + n ≡ n = omega arith in ap₂ (λ os m. unwrap_or (slice_get os m) (known null)) e z)
 
 -- ---- a combination's row numbers
 
@@ -46,3 +48,12 @@ number_below [] (r ∷ rows) c i n at = absurd c
 number_below (t ∷ ts) [] c i n at = cc
 number_below (t ∷ ts) (r ∷ rows) c zero n at = let same : r ≡ n = same_Some r n at in subst (λ m. m < rows_in t) same c.0
 number_below (t ∷ ts) (r ∷ rows) c (suc i) n at = number_below ts rows c.1 i n at
+
+-- ---- the totals of no row
+
+totals_from-nothing : (i : ℕ) (aggs : List (Aggregate BoundColumn)) → totals_from i aggs [] ≡ map (λ a. agg a []) aggs
+totals_from-nothing i [] = refl
+totals_from-nothing i (a ∷ aggs) = ap (λ t. agg a [] ∷ t) (totals_from-nothing (i + 1) aggs)
+
+pub totals-nothing : (aggs : List (Aggregate BoundColumn)) → totals aggs [] ≡ map (λ a. agg a []) aggs
+totals-nothing aggs = totals_from-nothing 0 aggs

@@ -12,9 +12,9 @@ use Rattle.ssb_cells.proofs.CodeFacts.{among, place-known}
 use Rattle.ssb_job.specs.Kept.{Columns, IsCombination, JobShape, cell_by, column_value, from_tables}
 use Rattle.ssb_groups.specs.Keys.{AreKept, IsKept, column_in, column_values, key_cell, key_columns, key_of, kept_cell, spelt, spelt_cell, values_in}
 use Rattle.ssb_groups.specs.Places.{HasSomeRow, IsSomePlace, cell_at_place, place_in, place_of, table_at, values_at}
-use Rattle.ssb_groups.specs.declared.columns.Place.{Place}
-use Rattle.ssb_groups.specs.declared.key.KeyCell.{KeyCell}
-use Rattle.ssb_groups.specs.declared.key.KeyCell.TheVariants as kept
+use Rattle.ssb_groups.specs.declared.place.Place.{Place}
+use Rattle.ssb_groups.specs.declared.kept.Kept.{Kept}
+use Rattle.ssb_groups.specs.declared.kept.Kept.TheVariants as kept
 
 -- ---- what stands for a value spells it
 
@@ -41,7 +41,7 @@ respells-in : (f : Option Filled) (i : ℕ) → Respells (values_in f) (unwrap_o
 respells-in None i = (refl, tt)
 respells-in (Some f) i = respells-at f.values i (slice_get f.values i) refl
 
-respells-by : (t : Option Columns) (column : ℕ) (row : Option ℕ) → Respells (values_in (column_in t column)) (cell_by t column row)
+pub respells-by : (t : Option Columns) (column : ℕ) (row : Option ℕ) → Respells (values_in (column_in t column)) (cell_by t column row)
 respells-by None column row = (refl, tt)
 respells-by (Some t) column None = (refl, tt)
 respells-by (Some t) column (Some r) = respells-in (slice_get t column) r
@@ -139,7 +139,7 @@ place-cell j rows x c =
     let (r, at, below) = row-there (from_tables j) rows x.table (table_at j.tables n) c (from-at j x.table (Some n) e) in
     ap (kept_cell (values_in (slice_get (table_at j.tables n) x.column))) (same-by (table_at j.tables n) x.column r (slice_get rows x.table) at) ∙ sym (ap in-table (from-at j x.table (Some n) e)))
   where
-    in-table : Option Columns → KeyCell
+    in-table : Option Columns → Kept
     in-table t = kept_cell (values_in (column_in t x.column)) (cell_by t x.column (slice_get rows x.table))
 
 -- ---- all places
@@ -166,19 +166,19 @@ column-at j i p at =
 
 -- ---- one cell after the other
 
-pub kept-length : (columns : List (List Cell)) (cells : List KeyCell) → AreKept columns cells → length cells ≡ length columns
+pub kept-length : (columns : List (List Cell)) (cells : List Kept) → AreKept columns cells → length cells ≡ length columns
 kept-length [] [] h = refl
 kept-length [] (c ∷ cs) h = absurd h
 kept-length (v ∷ vs) [] h = absurd h
 kept-length (v ∷ vs) (c ∷ cs) h = let rest = kept-length vs cs h.1 in omega (arith, rest)
 
-pub kept-at : (columns : List (List Cell)) (cells : List KeyCell) (i : ℕ) (v : List Cell) (c : KeyCell) → AreKept columns cells → slice_get columns i ≡ Some v → slice_get cells i ≡ Some c → IsKept v c
+pub kept-at : (columns : List (List Cell)) (cells : List Kept) (i : ℕ) (v : List Cell) (c : Kept) → AreKept columns cells → slice_get columns i ≡ Some v → slice_get cells i ≡ Some c → IsKept v c
 kept-at [] cells i v c h at here = cc
 kept-at (u ∷ vs) [] i v c h at here = cc
 kept-at (u ∷ vs) (d ∷ cs) zero v c h at here = subst (λ w. IsKept w c) (same_Some u v at) (subst (IsKept u) (same_Some d c here) h.0)
 kept-at (u ∷ vs) (d ∷ cs) (suc i) v c h at here = kept-at vs cs i v c h.1 at here
 
-pub spelt-at : (columns : List (List Cell)) (cells : List KeyCell) (i next : ℕ) (v : List Cell) (c : KeyCell) → next ≡ i + 1 → slice_get columns i ≡ Some v → slice_get cells i ≡ Some c
+pub spelt-at : (columns : List (List Cell)) (cells : List Kept) (i next : ℕ) (v : List Cell) (c : Kept) → next ≡ i + 1 → slice_get columns i ≡ Some v → slice_get cells i ≡ Some c
     → spelt (drop i columns) (drop i cells) ≡ spelt_cell v c ∷ spelt (drop next columns) (drop next cells)
 spelt-at [] cells i next v c e at here = cc
 spelt-at (u ∷ vs) [] i next v c e at here = cc
@@ -197,19 +197,19 @@ mapped {X} {Y} f made xs i past e = sym (append-nil made) ∙ ap (λ (ys : List 
     none-left (y ∷ ys) (suc n) le = none-left ys n (omega arith)
 
 -- a key's cell at a place
-pub cell-there : (columns : List (List Cell)) (cells : List KeyCell) (i : ℕ) → AreKept columns cells → i < length columns → i < length cells
+pub cell-there : (columns : List (List Cell)) (cells : List Kept) (i : ℕ) → AreKept columns cells → i < length columns → i < length cells
 cell-there columns cells i is lt = let same = kept-length columns cells is in omega (arith, same, lt)
 
 -- ---- at one of the group columns
 
 -- at this number stand a place in the tables, its column, and a cell of the key
-pub record IsAt (j : JobShape) (tables : List Columns) (cells key : List KeyCell) (i : ℕ) (p : Option Place) : Type 0 where
+pub record IsAt (j : JobShape) (tables : List Columns) (cells key : List Kept) (i : ℕ) (p : Option Place) : Type 0 where
   pub place : IsSomePlace tables p
   pub column : slice_get (key_columns j) i ≡ Some (values_at tables p)
   pub below : i < length cells
   pub cell : slice_get key i ≡ Some (get_or cells i kept.Null)
 
-pub is-at : (j : JobShape) (tables : List Columns) (places : List (Option Place)) (cells key : List KeyCell) (i : ℕ)
+pub is-at : (j : JobShape) (tables : List Columns) (places : List (Option Place)) (cells key : List Kept) (i : ℕ)
     → tables ≡ j.tables → places ≡ map (place_of j) j.query.groups → cells ≡ key → AreKept (key_columns j) key → i < length places → IsAt j tables cells key i (get_or places i None)
 is-at j tables places cells key i t ps cs is lt = record {
   place = subst (λ ts. IsSomePlace ts p) (sym t) (each-place (IsSomePlace j.tables) j j.query.groups i p (place-there j) at);

@@ -1,5 +1,5 @@
 -- Keys are equal where their values are.
-use Rattle.std.proofs.Common.{◌≡◌, ◌∙◌, ◌<◌, ℕ, nat_eq, bytes_eq, Bool, true, false, true≢false, ◌&&◌, List, [], ◌∷◌, length, get_or, refl, sym, ap, ap₂}
+use Rattle.std.proofs.Common.{◌≡◌, ◌∙◌, ◌<◌, ℕ, ℤ, nat_eq, bytes_eq, Bool, true, false, true≢false, ◌&&◌, List, [], ◌∷◌, length, get_or, refl, sym, ap, ap₂}
 use Rattle.std.specs.Cmp.{IsEquivalence}
 use Rattle.std.specs.Cmp.Lexicographic.{pointwise}
 use Rattle.std.proofs.lemmas.Bool.{eq-eqb, eqb-true}
@@ -12,10 +12,10 @@ use Rattle.ssb_cells.proofs.CodeFacts.{code-of}
 use Rattle.ssb_groups.specs.Keys.{AreKept, IsKept, IsKey, cells_in, spelt, spelt_cell}
 use Rattle.ssb_groups.specs.Rows.{cell_eq, key_eq}
 use Rattle.ssb_groups.specs.contracts.key.GroupKeyPartialEq.TheImpl as group_keys
-use Rattle.ssb_groups.specs.contracts.key.KeyCellPartialEq.TheImpl as key_cells
+use Rattle.ssb_groups.specs.contracts.kept.KeptPartialEq.TheImpl as key_cells
 use Rattle.ssb_groups.specs.declared.key.GroupKey.{GroupKey}
-use Rattle.ssb_groups.specs.declared.key.KeyCell.{KeyCell}
-use Rattle.ssb_groups.specs.declared.key.KeyCell.TheVariants as kept
+use Rattle.ssb_groups.specs.declared.kept.Kept.{Kept}
+use Rattle.ssb_groups.specs.declared.kept.Kept.TheVariants as kept
 
 cell_itself : (a : Cell) → cell_eq a a ≡ true
 cell_itself null = refl
@@ -56,7 +56,7 @@ key_eq_laws = lists_equiv cell_eq_laws
 
 -- ---- the derived comparisons
 
-abbrev pub cells_equal : KeyCell → KeyCell → Bool
+abbrev pub cells_equal : Kept → Kept → Bool
 cells_equal = key_cells.eq-value.it
 
 abbrev pub keys_equal : GroupKey → GroupKey → Bool
@@ -78,7 +78,7 @@ codes_same values a b p q = by (nat_eq a b) (bytes_eq (letters a) (letters b)) r
     by false true e h = absurd (true≢false (sym (eq-eqb a b (same h)) ∙ e))
     by false false e h = refl
 
-cell_same : (values : List Cell) (a b : KeyCell) → IsKept values a → IsKept values b → cells_equal a b ≡ cell_eq (spelt_cell values a) (spelt_cell values b)
+cell_same : (values : List Cell) (a b : Kept) → IsKept values a → IsKept values b → cells_equal a b ≡ cell_eq (spelt_cell values a) (spelt_cell values b)
 cell_same values kept.Null kept.Null p q = refl
 cell_same values kept.Null (kept.Number b) p q = refl
 cell_same values kept.Null (kept.Code b) p q = refl
@@ -89,7 +89,7 @@ cell_same values (kept.Code a) kept.Null p q = refl
 cell_same values (kept.Code a) (kept.Number b) p q = refl
 cell_same values (kept.Code a) (kept.Code b) p q = codes_same values a b p q
 
-cells_same : (columns : List (List Cell)) (xs ys : List KeyCell) → AreKept columns xs → AreKept columns ys → pointwise cells_equal xs ys ≡ key_eq (spelt columns xs) (spelt columns ys)
+cells_same : (columns : List (List Cell)) (xs ys : List Kept) → AreKept columns xs → AreKept columns ys → pointwise cells_equal xs ys ≡ key_eq (spelt columns xs) (spelt columns ys)
 cells_same [] [] [] p q = refl
 cells_same [] [] (y ∷ ys) p q = absurd q
 cells_same [] (x ∷ xs) ys p q = absurd p

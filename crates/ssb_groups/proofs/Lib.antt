@@ -1,10 +1,12 @@
 pub mod AddFacts
+pub mod AggregateFacts
 pub mod Bounds
 pub mod ColumnFacts
-pub mod JoinedFront
+pub mod JoiningFacts
 pub mod KeyFacts
 mod MergeFacts
 pub mod Permuted
 pub mod RowFacts
 pub mod StandsFacts
 pub mod TableFacts
+pub mod TakenFacts

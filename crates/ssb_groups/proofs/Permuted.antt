@@ -1,16 +1,21 @@
 -- What groups stand for does not see the order of the rows.
 use Rattle.std.proofs.Common.{◌≡◌, ◌∙◌, ◌∷◌, [], ◌||◌, ◌+◌, ◌<◌, ℕ, zero, suc, ℤ, pos, ◌+ℤ◌, Bool, true, false, cond, List, length, map, Option, None, Some, refl, sym, ap, ap₂, arith}
-use Rattle.std.specs.Prelude.{slice_get, unwrap_or}
-use Rattle.std.specs.List.{All, filter, swap, slice_set, slice_index_or, range_with_len}
+use Rattle.std.specs.Prelude.{◌==◌, if◌then◌else◌, slice_get, unwrap_or}
+use Rattle.std.specs.List.{All, filter, swap, slice_set, slice_index_or}
 use Rattle.std.specs.List.Sorted.{IsPermutation, SwapsInRange, apply_swaps}
 use Rattle.std.proofs.lemmas.Int.{ints}
 use Rattle.std.proofs.lemmas.List.{length-set}
 use Rattle.std.proofs.lemmas.List.Sorted.{All-permutation}
 use Rattle.ssb_groups.specs.Rows.{Key, key_eq, SeenRow}
-use Rattle.ssb_groups.specs.Stands.{GroupMap, Stands, has_over, overflows, least_of, least, count_of, amount_of, value_count, exact_sum, arguments_at, totals, group, summary, EachRanged, AreRanged}
-use Rattle.ssb_groups.specs.Value.{known}
-use Rattle.ssb_groups.specs.declared.accumulator.Accumulator.{Accumulator}
-use Rattle.ssb_cells.specs.Cell.{null}
+use Rattle.ssb_groups.specs.Aggregates.{agg, amount_of, arguments_at, cell_in, chosen, count_of, exact_sum, greater, lesser, totals, totals_from, value_count}
+use Rattle.ssb_groups.specs.Stands.{GroupMap, Stands, has_over, overflows, least_of, least, group, summary, EachRanged, AreRanged}
+use Rattle.ssb_groups.specs.Value.{Outcome, known}
+use Rattle.ssb_groups.proofs.AggregateFacts.{greater-assoc, greater-comm, lesser-assoc, lesser-comm}
+use Rattle.ssb_cells.specs.Cell.{Cell, null, number}
+use Rattle.ssb_query.specs.declared.column.BoundColumn.{BoundColumn}
+use Rattle.ssb_trees.specs.declared.aggregate.Aggregate.{Aggregate}
+use Rattle.ssb_trees.specs.declared.aggregate.Aggregate.TheVariants as aggregate
+use Rattle.ssb_trees.specs.declared.aggregate.SetFunction.TheVariants as function
 
 -- ---- what is computed row by row, by steps that commute
 
@@ -85,57 +90,95 @@ least_all (r ∷ R) = by (has_over r) (least_all R)
     by true h = ap (least_of (Some r.fact)) h
     by false h = h
 
+-- ---- what each value does to an aggregate
+
+abbrev count : Outcome → ℕ → ℕ
+count x n = count_of x + n
+
+count_flips : (x y : Outcome) (n : ℕ) → count x (count y n) ≡ count y (count x n)
+count_flips x y n = omega arith
+
+abbrev sum : Outcome → ℤ → ℤ
+sum x n = amount_of x +ℤ n
+
+sum_flips : (x y : Outcome) (n : ℤ) → sum x (sum y n) ≡ sum y (sum x n)
+sum_flips x y n = omega (arith, ints)
+
+module _ (choice : Cell → Cell → Cell) (assoc : (a b c : Cell) → choice a (choice b c) ≡ choice (choice a b) c) (comm : (a b : Cell) → choice a b ≡ choice b a) where
+  abbrev choose : Outcome → Cell → Cell
+  choose x c = choice (cell_in x) c
+
+  choose_flips : (x y : Outcome) (c : Cell) → choose x (choose y c) ≡ choose y (choose x c)
+  choose_flips x y c = assoc (cell_in x) (cell_in y) c ∙ ap (λ d. choice d c) (comm (cell_in x) (cell_in y)) ∙ sym (assoc (cell_in y) (cell_in x) c)
+
 -- the rows of a group, by a step on each
 
 module _ (k : Key) where
-  or_counted : ℕ → SeenRow → ℕ → ℕ
-  or_counted i r n = cond (key_eq k r.key) (count_of (unwrap_or (slice_get r.arguments i) (known null)) + n) n
+  -- what the i-th aggregate takes of a row
+  abbrev taken : ℕ → SeenRow → Outcome
+  taken i r = unwrap_or (slice_get r.arguments i) (known null)
 
-  counted_commutes : (i : ℕ) (x y : SeenRow) (n : ℕ) → or_counted i x (or_counted i y n) ≡ or_counted i y (or_counted i x n)
-  unfolding or_counted
-  counted_commutes i x y n = by (key_eq k x.key) (key_eq k y.key) (count_of (unwrap_or (slice_get x.arguments i) (known null))) (count_of (unwrap_or (slice_get y.arguments i) (known null)))
+  -- what is computed of the group's values, by steps on each that commute
+  module _ {S : Type 0} (step : Outcome → S → S) (base : S) (flips : (x y : Outcome) (s : S) → step x (step y s) ≡ step y (step x s)) where
+    or_taken : ℕ → SeenRow → S → S
+    or_taken i r s = cond (key_eq k r.key) (step (taken i r) s) s
+
+    taken_commutes : (i : ℕ) (x y : SeenRow) (s : S) → or_taken i x (or_taken i y s) ≡ or_taken i y (or_taken i x s)
+    unfolding or_taken
+    taken_commutes i x y s = by (key_eq k x.key) (key_eq k y.key)
+      where
+        by : (a b : Bool) → cond a (step (taken i x) (cond b (step (taken i y) s) s)) (cond b (step (taken i y) s) s) ≡ cond b (step (taken i y) (cond a (step (taken i x) s) s)) (cond a (step (taken i x) s) s)
+        by true true = flips (taken i x) (taken i y) s
+        by true false = refl
+        by false true = refl
+        by false false = refl
+
+    abbrev over : List Outcome → S
+    over [] = base
+    over (x ∷ xs) = step x (over xs)
+
+    over_group : (i : ℕ) (R : List SeenRow) → over (arguments_at i (group k R)) ≡ all (or_taken i) base (taken_commutes i) R
+    unfolding or_taken
+    over_group i [] = refl
+    over_group i (r ∷ R) = by (key_eq k r.key) (over_group i R)
+      where
+        by : (b : Bool) → over (arguments_at i (group k R)) ≡ all (or_taken i) base (taken_commutes i) R
+            → over (arguments_at i (cond b (r ∷ group k R) (group k R))) ≡ cond b (step (taken i r) (all (or_taken i) base (taken_commutes i) R)) (all (or_taken i) base (taken_commutes i) R)
+        by true h = ap (step (taken i r)) h
+        by false h = h
+
+    same_over : (i : ℕ) (R Q : List SeenRow) → IsPermutation R Q → over (arguments_at i (group k R)) ≡ over (arguments_at i (group k Q))
+    same_over i R Q p = over_group i R ∙ permuted (or_taken i) base (taken_commutes i) R Q p ∙ sym (over_group i Q)
+
+  same_count : (i : ℕ) (R Q : List SeenRow) → IsPermutation R Q → value_count (arguments_at i (group k R)) ≡ value_count (arguments_at i (group k Q))
+  same_count i R Q p = counts (arguments_at i (group k R)) ∙ same_over count 0 count_flips i R Q p ∙ sym (counts (arguments_at i (group k Q)))
     where
-      by : (a b : Bool) (p q : ℕ) → cond a (p + cond b (q + n) n) (cond b (q + n) n) ≡ cond b (q + cond a (p + n) n) (cond a (p + n) n)
-      by true true p q = omega arith
-      by true false p q = refl
-      by false true p q = refl
-      by false false p q = refl
+      counts : (xs : List Outcome) → value_count xs ≡ over count 0 count_flips xs
+      counts [] = refl
+      counts (x ∷ xs) = ap (count x) (counts xs)
 
-  counted_all : (i : ℕ) (R : List SeenRow) → value_count (arguments_at i (group k R)) ≡ all (or_counted i) 0 (counted_commutes i) R
-  unfolding or_counted
-  counted_all i [] = refl
-  counted_all i (r ∷ R) = by (key_eq k r.key) (counted_all i R)
+  same_sum : (i : ℕ) (R Q : List SeenRow) → IsPermutation R Q → exact_sum (arguments_at i (group k R)) ≡ exact_sum (arguments_at i (group k Q))
+  same_sum i R Q p = sums (arguments_at i (group k R)) ∙ same_over sum (pos 0) sum_flips i R Q p ∙ sym (sums (arguments_at i (group k Q)))
     where
-      by : (b : Bool) → value_count (arguments_at i (group k R)) ≡ all (or_counted i) 0 (counted_commutes i) R
-          → value_count (arguments_at i (cond b (r ∷ group k R) (group k R))) ≡ cond b (count_of (unwrap_or (slice_get r.arguments i) (known null)) + all (or_counted i) 0 (counted_commutes i) R) (all (or_counted i) 0 (counted_commutes i) R)
-      by true h = ap (λ n. count_of (unwrap_or (slice_get r.arguments i) (known null)) + n) h
-      by false h = h
+      sums : (xs : List Outcome) → exact_sum xs ≡ over sum (pos 0) sum_flips xs
+      sums [] = refl
+      sums (x ∷ xs) = ap (sum x) (sums xs)
 
-  or_summed : ℕ → SeenRow → ℤ → ℤ
-  or_summed i r n = cond (key_eq k r.key) (amount_of (unwrap_or (slice_get r.arguments i) (known null)) +ℤ n) n
-
-  flips_ℤ : (p q n : ℤ) → p +ℤ (q +ℤ n) ≡ q +ℤ (p +ℤ n)
-  flips_ℤ p q n = omega (arith, ints)
-
-  summed_commutes : (i : ℕ) (x y : SeenRow) (n : ℤ) → or_summed i x (or_summed i y n) ≡ or_summed i y (or_summed i x n)
-  unfolding or_summed
-  summed_commutes i x y n = by (key_eq k x.key) (key_eq k y.key) (amount_of (unwrap_or (slice_get x.arguments i) (known null))) (amount_of (unwrap_or (slice_get y.arguments i) (known null)))
+  same_choice : (choice : Cell → Cell → Cell) (assoc : (a b c : Cell) → choice a (choice b c) ≡ choice (choice a b) c) (comm : (a b : Cell) → choice a b ≡ choice b a) (i : ℕ) (R Q : List SeenRow) → IsPermutation R Q
+      → chosen choice (arguments_at i (group k R)) ≡ chosen choice (arguments_at i (group k Q))
+  same_choice choice assoc comm i R Q p =
+      choices (arguments_at i (group k R)) ∙ same_over (choose choice assoc comm) null (choose_flips choice assoc comm) i R Q p ∙ sym (choices (arguments_at i (group k Q)))
     where
-      by : (a b : Bool) (p q : ℤ) → cond a (p +ℤ cond b (q +ℤ n) n) (cond b (q +ℤ n) n) ≡ cond b (q +ℤ cond a (p +ℤ n) n) (cond a (p +ℤ n) n)
-      by true true p q = flips_ℤ p q n
-      by true false p q = refl
-      by false true p q = refl
-      by false false p q = refl
+      choices : (xs : List Outcome) → chosen choice xs ≡ over (choose choice assoc comm) null (choose_flips choice assoc comm) xs
+      choices [] = refl
+      choices (x ∷ xs) = ap (choice (cell_in x)) (choices xs)
 
-  summed_all : (i : ℕ) (R : List SeenRow) → exact_sum (arguments_at i (group k R)) ≡ all (or_summed i) (pos 0) (summed_commutes i) R
-  unfolding or_summed
-  summed_all i [] = refl
-  summed_all i (r ∷ R) = by (key_eq k r.key) (summed_all i R)
-    where
-      by : (b : Bool) → exact_sum (arguments_at i (group k R)) ≡ all (or_summed i) (pos 0) (summed_commutes i) R
-          → exact_sum (arguments_at i (cond b (r ∷ group k R) (group k R))) ≡ cond b (amount_of (unwrap_or (slice_get r.arguments i) (known null)) +ℤ all (or_summed i) (pos 0) (summed_commutes i) R) (all (or_summed i) (pos 0) (summed_commutes i) R)
-      by true h = ap (λ n. amount_of (unwrap_or (slice_get r.arguments i) (known null)) +ℤ n) h
-      by false h = h
+  same_agg : (a : Aggregate BoundColumn) (i : ℕ) (R Q : List SeenRow) → IsPermutation R Q → agg a (arguments_at i (group k R)) ≡ agg a (arguments_at i (group k Q))
+  same_agg aggregate.Rows i R Q p = ap (λ n. number (pos n)) (same_count i R Q p)
+  same_agg (aggregate.Of function.Sum e) i R Q p = ap₂ (λ n s. if n == 0 then null else number s) (same_count i R Q p) (same_sum i R Q p)
+  same_agg (aggregate.Of function.Count e) i R Q p = ap (λ n. number (pos n)) (same_count i R Q p)
+  same_agg (aggregate.Of function.Min e) i R Q p = same_choice lesser lesser-assoc lesser-comm i R Q p
+  same_agg (aggregate.Of function.Max e) i R Q p = same_choice greater greater-assoc greater-comm i R Q p
 
   or_there : SeenRow → Bool → Bool
   or_there r b = key_eq k r.key || b
@@ -149,31 +192,26 @@ module _ (k : Key) where
       by true false = refl
       by false q = refl
 
-  abbrev summary_if : ℕ → Bool → List SeenRow → Option (List Accumulator)
-  summary_if w b G = cond b (Some (totals w G)) None
+  abbrev summary_if : List (Aggregate BoundColumn) → Bool → List SeenRow → Option (List Cell)
+  summary_if aggs b G = cond b (Some (totals aggs G)) None
 
-  summary_all : (w : ℕ) (R : List SeenRow) → summary w (group k R) ≡ summary_if w (all or_there false there_commutes R) (group k R)
+  summary_all : (aggs : List (Aggregate BoundColumn)) (R : List SeenRow) → summary aggs (group k R) ≡ summary_if aggs (all or_there false there_commutes R) (group k R)
   unfolding or_there
-  summary_all w [] = refl
-  summary_all w (r ∷ R) = by (key_eq k r.key) (summary_all w R)
+  summary_all aggs [] = refl
+  summary_all aggs (r ∷ R) = by (key_eq k r.key) (summary_all aggs R)
     where
-      by : (b : Bool) → summary w (group k R) ≡ summary_if w (all or_there false there_commutes R) (group k R)
-          → summary w (cond b (r ∷ group k R) (group k R)) ≡ summary_if w (b || all or_there false there_commutes R) (cond b (r ∷ group k R) (group k R))
+      by : (b : Bool) → summary aggs (group k R) ≡ summary_if aggs (all or_there false there_commutes R) (group k R)
+          → summary aggs (cond b (r ∷ group k R) (group k R)) ≡ summary_if aggs (b || all or_there false there_commutes R) (cond b (r ∷ group k R) (group k R))
       by true h = refl
       by false h = h
 
-  same_totals : (w : ℕ) (R Q : List SeenRow) → IsPermutation R Q → totals w (group k R) ≡ totals w (group k Q)
-  same_totals w R Q p =
-      λ j. map
-      (λ i. record {
-        values = (counted_all i R ∙ permuted (or_counted i) 0 (counted_commutes i) R Q p ∙ sym (counted_all i Q)) j;
-        total = (summed_all i R ∙ permuted (or_summed i) (pos 0) (summed_commutes i) R Q p ∙ sym (summed_all i Q)) j;
-      })
-      (range_with_len 0 w)
+  same_totals : (i : ℕ) (aggs : List (Aggregate BoundColumn)) (R Q : List SeenRow) → IsPermutation R Q → totals_from i aggs (group k R) ≡ totals_from i aggs (group k Q)
+  same_totals i [] R Q p = refl
+  same_totals i (a ∷ aggs) R Q p = ap₂ (λ x xs. x ∷ xs) (same_agg a i R Q p) (same_totals (i + 1) aggs R Q p)
 
-  pub same_summary : (w : ℕ) (R Q : List SeenRow) → IsPermutation R Q → summary w (group k R) ≡ summary w (group k Q)
-  same_summary w R Q p =
-      summary_all w R ∙ ap₂ (λ b ts. cond b (Some ts) None) (permuted or_there false there_commutes R Q p) (same_totals w R Q p) ∙ sym (summary_all w Q)
+  pub same_summary : (aggs : List (Aggregate BoundColumn)) (R Q : List SeenRow) → IsPermutation R Q → summary aggs (group k R) ≡ summary aggs (group k Q)
+  same_summary aggs R Q p =
+      summary_all aggs R ∙ ap₂ (λ b ts. cond b (Some ts) None) (permuted or_there false there_commutes R Q p) (same_totals 0 aggs R Q p) ∙ sym (summary_all aggs Q)
 
 -- ---- ranges
 
@@ -192,6 +230,6 @@ any_order g R Q p s = record {
   ranged = each_ranged Q (All-permutation (λ r. EachRanged r.arguments) R Q p (ranged_each R s.ranged));
   counted = s.counted ∙ length_all R ∙ permuted (λ r n. suc n) 0 (λ x y n. refl) R Q p ∙ sym (length_all Q);
   overflow = s.overflow ∙ least_all R ∙ permuted or_least None least_commutes R Q p ∙ sym (least_all Q);
-  exact = λ none k. s.exact none k ∙ same_summary k g.width R Q p;
+  exact = λ none k. s.exact none k ∙ same_summary k g.job.query.aggregates R Q p;
   distinct = s.distinct;
 }

@@ -1,80 +1,96 @@
 -- A table of groups, read by the values of its keys.
-use Rattle.std.proofs.Common.{◌≡◌, Bool, true, false, cond, List, [], ◌∷◌, map, Option, None, Some, refl, sym, ap, ap₂, subst, ◌∙◌, true≢false}
-use Rattle.std.specs.Prelude.{if◌then◌else◌}
+use Rattle.std.proofs.Common.{◌≡◌, ℤ, Bool, true, false, cond, List, [], ◌∷◌, map, Option, None, Some, refl, sym, ap, ap₂, subst, ◌∙◌, true≢false}
+use Rattle.std.specs.Prelude.{if◌then◌else◌, option_map}
 use Rattle.std.specs.List.{AllByRecursion, IsDistinct}
 use Rattle.std.specs.Map.{keys_of, lookup, set_value}
 use Rattle.std.specs.Option.{IsSome}
 use Rattle.std.specs.Cmp.{IsEquivalence}
 use Rattle.std.specs.HashMap.Eq.{lookup_congr}
 use Rattle.std.proofs.lemmas.Map.{lookup-set_value}
+use Rattle.std.proofs.lemmas.Option.{same_Some}
 use Rattle.indexmap.specs.IndexMap.{insert_entry}
-use Rattle.ssb_groups.specs.declared.accumulator.Accumulator.{Accumulator}
-use Rattle.ssb_groups.specs.declared.key.GroupKey.{GroupKey}
-use Rattle.ssb_groups.specs.Rows.{Key, key_eq}
-use Rattle.ssb_groups.specs.Joining.{joined_each, option_joined}
 use Rattle.ssb_cells.specs.Cell.{Cell}
-use Rattle.ssb_groups.specs.Keys.{AreKeys, IsKey, cells_in, entries_of}
+use Rattle.ssb_job.specs.Kept.{JobShape}
+use Rattle.ssb_groups.specs.Entries.{AreEntries, AreTotals, Entry, entries_of, entry_of, totals_in}
+use Rattle.ssb_groups.specs.Joining.{joined_each, option_joined}
+use Rattle.ssb_groups.specs.Keys.{IsKey, cells_in, key_columns}
+use Rattle.ssb_groups.specs.Rows.{Key, key_eq}
+use Rattle.ssb_groups.specs.declared.joining.Joining.{Joining}
+use Rattle.ssb_groups.specs.declared.kept.Kept.{Kept}
+use Rattle.ssb_groups.specs.declared.key.GroupKey.{GroupKey}
 use Rattle.ssb_groups.proofs.KeyFacts.{key_eq_laws, keys_equal, key_same}
 
-abbrev pub Table : Type 0
-Table = List (GroupKey × List Accumulator)
-
 -- the key test of a program's map, by the values of its keys
-abbrev pub table_eq : List (List Cell) → GroupKey → GroupKey → Bool
-table_eq columns x y = key_eq (cells_in columns x) (cells_in columns y)
+abbrev pub table_eq : JobShape → GroupKey → GroupKey → Bool
+table_eq j x y = key_eq (cells_in (key_columns j) x) (cells_in (key_columns j) y)
 
-module _ (columns : List (List Cell)) where
+module _ (j : JobShape) where
+  abbrev cells : GroupKey → Key
+  cells k = cells_in (key_columns j) k
+
   -- a look-up by values
-  pub lookup-entries_of : (test : Key → Bool) (es : Table) → lookup test (entries_of columns es) ≡ lookup (λ x. test (cells_in columns x)) es
+  pub lookup-entries_of : (test : Key → Bool) (es : List Entry) → lookup test (entries_of j es) ≡ option_map (totals_in j) (lookup (λ x. test (cells x)) es)
   lookup-entries_of test [] = refl
-  lookup-entries_of test (e ∷ es) = ap (cond (test (cells_in columns e.0)) (Some e.1)) (lookup-entries_of test es)
+  lookup-entries_of test (e ∷ es) =
+      elim (test (cells e.0)) as (λ t. cond t (Some (totals_in j e.1)) (lookup test (entries_of j es)) ≡ option_map (totals_in j) (cond t (Some e.1) (lookup (λ x. test (cells x)) es))) [
+        | true ↦ refl
+        | false ↦ lookup-entries_of test es
+      ]
 
-  pub entries_of-set_value : (test : Key → Bool) (es : Table) (w : List Accumulator) → entries_of columns (set_value (λ x. test (cells_in columns x)) es w) ≡ set_value test (entries_of columns es) w
+  pub entries_of-set_value : (test : Key → Bool) (es : List Entry) (w : List Kept) → entries_of j (set_value (λ x. test (cells x)) es w) ≡ set_value test (entries_of j es) (totals_in j w)
   entries_of-set_value test [] w = refl
   entries_of-set_value test (e ∷ es) w =
-      elim (test (cells_in columns e.0)) as (λ t. entries_of columns (cond t ((e.0, w) ∷ es) (e ∷ set_value (λ x. test (cells_in columns x)) es w)) ≡ cond t (((cells_in columns e.0), w) ∷ entries_of columns es) (((cells_in columns e.0), e.1) ∷ set_value test (entries_of columns es) w)) [
+      elim (test (cells e.0)) as (λ t. entries_of j (cond t ((e.0, w) ∷ es) (e ∷ set_value (λ x. test (cells x)) es w)) ≡ cond t ((cells e.0, totals_in j w) ∷ entries_of j es) (entry_of j e ∷ set_value test (entries_of j es) (totals_in j w))) [
         | true ↦ refl
-        | false ↦ ap (λ t. ((cells_in columns e.0), e.1) ∷ t) (entries_of-set_value test es w)
+        | false ↦ ap (λ t. entry_of j e ∷ t) (entries_of-set_value test es w)
       ]
 
-  pub entries_of-insert : (es : Table) (k : GroupKey) (w : List Accumulator) → entries_of columns (insert_entry (table_eq columns) es k w) ≡ insert_entry key_eq (entries_of columns es) (cells_in columns k) w
+  pub entries_of-insert : (es : List Entry) (k : GroupKey) (w : List Kept) → entries_of j (insert_entry (table_eq j) es k w) ≡ insert_entry key_eq (entries_of j es) (cells k) (totals_in j w)
   entries_of-insert [] k w = refl
   entries_of-insert (e ∷ es) k w =
-      elim (table_eq columns k e.0) as (λ t. entries_of columns (if t then (e.0, w) ∷ es else e ∷ insert_entry (table_eq columns) es k w) ≡ (if t then ((cells_in columns e.0), w) ∷ entries_of columns es else ((cells_in columns e.0), e.1) ∷ insert_entry key_eq (entries_of columns es) (cells_in columns k) w)) [
+      elim (table_eq j k e.0) as (λ t. entries_of j (if t then (e.0, w) ∷ es else e ∷ insert_entry (table_eq j) es k w) ≡ (if t then (cells e.0, totals_in j w) ∷ entries_of j es else entry_of j e ∷ insert_entry key_eq (entries_of j es) (cells k) (totals_in j w))) [
         | true ↦ refl
-        | false ↦ ap (λ t. ((cells_in columns e.0), e.1) ∷ t) (entries_of-insert es k w)
+        | false ↦ ap (λ t. entry_of j e ∷ t) (entries_of-insert es k w)
       ]
 
-  -- among keys of these columns, the derived comparison finds what the values find
+  -- among keys of the job, the derived comparison finds what the values find
 
-  pub lookup-same : (k : GroupKey) (es : Table) → IsKey columns k → AreKeys columns es → lookup (keys_equal k) es ≡ lookup (table_eq columns k) es
+  pub lookup-same : (k : GroupKey) (es : List Entry) → IsKey (key_columns j) k → AreEntries j es → lookup (keys_equal k) es ≡ lookup (table_eq j k) es
   lookup-same k [] p q = refl
-  lookup-same k (e ∷ es) p q = ap₂ (λ t rest. cond t (Some e.1) rest) (key_same columns k e.0 p q.0) (lookup-same k es p q.1)
+  lookup-same k (e ∷ es) p q = ap₂ (λ t rest. cond t (Some e.1) rest) (key_same (key_columns j) k e.0 p q.0.0) (lookup-same k es p q.1)
 
-  pub set_value-same : (k : GroupKey) (es : Table) (w : List Accumulator) → IsKey columns k → AreKeys columns es → set_value (keys_equal k) es w ≡ set_value (table_eq columns k) es w
+  pub set_value-same : (k : GroupKey) (es : List Entry) (w : List Kept) → IsKey (key_columns j) k → AreEntries j es → set_value (keys_equal k) es w ≡ set_value (table_eq j k) es w
   set_value-same k [] w p q = refl
-  set_value-same k (e ∷ es) w p q = ap₂ (λ t rest. cond t ((e.0, w) ∷ es) (e ∷ rest)) (key_same columns k e.0 p q.0) (set_value-same k es w p q.1)
+  set_value-same k (e ∷ es) w p q = ap₂ (λ t rest. cond t ((e.0, w) ∷ es) (e ∷ rest)) (key_same (key_columns j) k e.0 p q.0.0) (set_value-same k es w p q.1)
 
-  pub insert-same : (k : GroupKey) (es : Table) (w : List Accumulator) → IsKey columns k → AreKeys columns es → insert_entry keys_equal es k w ≡ insert_entry (table_eq columns) es k w
+  pub insert-same : (k : GroupKey) (es : List Entry) (w : List Kept) → IsKey (key_columns j) k → AreEntries j es → insert_entry keys_equal es k w ≡ insert_entry (table_eq j) es k w
   insert-same k [] w p q = refl
-  insert-same k (e ∷ es) w p q = ap₂ (λ t rest. if t then (e.0, w) ∷ es else e ∷ rest) (key_same columns k e.0 p q.0) (insert-same k es w p q.1)
+  insert-same k (e ∷ es) w p q = ap₂ (λ t rest. if t then (e.0, w) ∷ es else e ∷ rest) (key_same (key_columns j) k e.0 p q.0.0) (insert-same k es w p q.1)
 
-  -- and the keys stay of these columns
+  -- what is found is of the job, and the entries stay so
 
-  pub set_value-keys : (test : GroupKey → Bool) (es : Table) (w : List Accumulator) → AreKeys columns es → AreKeys columns (set_value test es w)
-  set_value-keys test [] w q = tt
-  set_value-keys test (e ∷ es) w q =
-      elim (test e.0) as (λ t. AreKeys columns (cond t ((e.0, w) ∷ es) (e ∷ set_value test es w))) [
-        | true ↦ q
-        | false ↦ (q.0, set_value-keys test es w q.1)
+  pub found : (test : GroupKey → Bool) (es : List Entry) (w : List Kept) → AreEntries j es → lookup test es ≡ Some w → AreTotals j w
+  found test [] w q e = cc
+  found test (x ∷ es) w q e =
+      (elim (test x.0) as (λ t. cond t (Some x.1) (lookup test es) ≡ Some w → AreTotals j w) [
+        | true ↦ λ here. subst (AreTotals j) (same_Some x.1 w here) q.0.1
+        | false ↦ found test es w q.1
+      ]) e
+
+  pub set_value-entries : (test : GroupKey → Bool) (es : List Entry) (w : List Kept) → AreTotals j w → AreEntries j es → AreEntries j (set_value test es w)
+  set_value-entries test [] w p q = tt
+  set_value-entries test (e ∷ es) w p q =
+      elim (test e.0) as (λ t. AreEntries j (cond t ((e.0, w) ∷ es) (e ∷ set_value test es w))) [
+        | true ↦ ((q.0.0, p), q.1)
+        | false ↦ (q.0, set_value-entries test es w p q.1)
       ]
 
-  pub insert-keys : (k : GroupKey) (es : Table) (w : List Accumulator) → IsKey columns k → AreKeys columns es → AreKeys columns (insert_entry keys_equal es k w)
-  insert-keys k [] w p q = (p, tt)
-  insert-keys k (e ∷ es) w p q =
-      elim (keys_equal k e.0) as (λ t. AreKeys columns (if t then (e.0, w) ∷ es else e ∷ insert_entry keys_equal es k w)) [
-        | true ↦ q
-        | false ↦ (q.0, insert-keys k es w p q.1)
+  pub insert-entries : (k : GroupKey) (es : List Entry) (w : List Kept) → IsKey (key_columns j) k → AreTotals j w → AreEntries j es → AreEntries j (insert_entry keys_equal es k w)
+  insert-entries k [] w p r q = ((p, r), tt)
+  insert-entries k (e ∷ es) w p r q =
+      elim (keys_equal k e.0) as (λ t. AreEntries j (if t then (e.0, w) ∷ es else e ∷ insert_entry keys_equal es k w)) [
+        | true ↦ ((q.0.0, r), q.1)
+        | false ↦ (q.0, insert-entries k es w p r q.1)
       ]
 
 module _ {K X : Type 0} {eq : K → K → Bool} (laws : IsEquivalence eq) (q k : K) (v : X) where
@@ -95,50 +111,50 @@ module _ {K X : Type 0} {eq : K → K → Bool} (laws : IsEquivalence eq) (q k :
       by rest false false false ea eb ec =
           ap (λ t. cond t (Some e.1) (lookup (eq q) (insert_entry eq es k v))) eb ∙ rest ∙ ap (λ t. cond t (Some v) (lookup (eq q) es)) ec
 
-pub option_joined-none : (o : Option (List Accumulator)) → option_joined o None ≡ o
-option_joined-none None = refl
-option_joined-none (Some a) = refl
+pub option_joined-none : (ws : List Joining) (o : Option (List Cell)) → option_joined ws o None ≡ o
+option_joined-none ws None = refl
+option_joined-none ws (Some a) = refl
 
--- the accumulator of a key that is there, joined with m
-pub put_present : (columns : List (List Cell)) (es : Table) (k : Key) (a m w : List Accumulator) → lookup (λ x. key_eq k (cells_in columns x)) es ≡ Some a → w ≡ joined_each a m → (q : Key)
-    → lookup (key_eq q) (entries_of columns (set_value (λ x. key_eq k (cells_in columns x)) es w)) ≡ option_joined (lookup (key_eq q) (entries_of columns es)) (cond (key_eq q k) (Some m) None)
-put_present columns es k a m w at is q =
-    ap (lookup (key_eq q)) (entries_of-set_value columns (key_eq k) es w)
-    ∙ lookup-set_value key_eq_laws (key_eq k) (λ x y h. key_eq_laws.congr k x y h) q w (entries_of columns es) (subst IsSome (sym there) refl)
-    ∙ ap (λ t. cond t (Some w) (lookup (key_eq q) (entries_of columns es))) (key_eq_laws.symm k q)
+-- the totals of a key that is there, joined with m
+pub put_present : (j : JobShape) (ws : List Joining) (es : List Entry) (k : Key) (a w : List Kept) (m : List Cell) → lookup (λ x. key_eq k (cells_in (key_columns j) x)) es ≡ Some a → totals_in j w ≡ joined_each ws (totals_in j a) m → (q : Key)
+    → lookup (key_eq q) (entries_of j (set_value (λ x. key_eq k (cells_in (key_columns j) x)) es w)) ≡ option_joined ws (lookup (key_eq q) (entries_of j es)) (cond (key_eq q k) (Some m) None)
+put_present j ws es k a w m at is q =
+    ap (lookup (key_eq q)) (entries_of-set_value j (key_eq k) es w)
+    ∙ lookup-set_value key_eq_laws (key_eq k) (λ x y h. key_eq_laws.congr k x y h) q (totals_in j w) (entries_of j es) (subst IsSome (sym there) refl)
+    ∙ ap (λ t. cond t (Some (totals_in j w)) (lookup (key_eq q) (entries_of j es))) (key_eq_laws.symm k q)
     ∙ by (key_eq q k) refl
   where
-    there : lookup (key_eq k) (entries_of columns es) ≡ Some a
-    there = lookup-entries_of columns (key_eq k) es ∙ at
+    there : lookup (key_eq k) (entries_of j es) ≡ Some (totals_in j a)
+    there = lookup-entries_of j (key_eq k) es ∙ ap (option_map (totals_in j)) at
 
-    by : (b : Bool) → key_eq q k ≡ b → cond b (Some w) (lookup (key_eq q) (entries_of columns es)) ≡ option_joined (lookup (key_eq q) (entries_of columns es)) (cond b (Some m) None)
+    by : (b : Bool) → key_eq q k ≡ b → cond b (Some (totals_in j w)) (lookup (key_eq q) (entries_of j es)) ≡ option_joined ws (lookup (key_eq q) (entries_of j es)) (cond b (Some m) None)
     by true e =
-        ap Some is ∙ sym (ap (λ o. option_joined o (Some m)) (lookup_congr key_eq key_eq_laws.congr (entries_of columns es) q k e ∙ there))
-    by false e = sym (option_joined-none (lookup (key_eq q) (entries_of columns es)))
+        ap Some is ∙ sym (ap (λ o. option_joined ws o (Some m)) (lookup_congr key_eq key_eq_laws.congr (entries_of j es) q k e ∙ there))
+    by false e = sym (option_joined-none ws (lookup (key_eq q) (entries_of j es)))
 
 -- a key that was not there, with m
-pub put_absent : (columns : List (List Cell)) (es : Table) (g : GroupKey) (k : Key) (m : List Accumulator) → cells_in columns g ≡ k → lookup (λ x. key_eq k (cells_in columns x)) es ≡ None → (q : Key)
-    → lookup (key_eq q) (entries_of columns (insert_entry (table_eq columns) es g m)) ≡ option_joined (lookup (key_eq q) (entries_of columns es)) (cond (key_eq q k) (Some m) None)
-put_absent columns es g k m is at q =
-    ap (lookup (key_eq q)) (entries_of-insert columns es g m)
-    ∙ ap (λ j. lookup (key_eq q) (insert_entry key_eq (entries_of columns es) j m)) is
-    ∙ lookup-insert_entry key_eq_laws q k m (entries_of columns es)
-    ∙ ap (λ t. cond t (Some m) (lookup (key_eq q) (entries_of columns es))) (key_eq_laws.symm k q)
+pub put_absent : (j : JobShape) (ws : List Joining) (es : List Entry) (g : GroupKey) (k : Key) (w : List Kept) → cells_in (key_columns j) g ≡ k → lookup (λ x. key_eq k (cells_in (key_columns j) x)) es ≡ None → (q : Key)
+    → lookup (key_eq q) (entries_of j (insert_entry (table_eq j) es g w)) ≡ option_joined ws (lookup (key_eq q) (entries_of j es)) (cond (key_eq q k) (Some (totals_in j w)) None)
+put_absent j ws es g k w is at q =
+    ap (lookup (key_eq q)) (entries_of-insert j es g w)
+    ∙ ap (λ x. lookup (key_eq q) (insert_entry key_eq (entries_of j es) x (totals_in j w))) is
+    ∙ lookup-insert_entry key_eq_laws q k (totals_in j w) (entries_of j es)
+    ∙ ap (λ t. cond t (Some (totals_in j w)) (lookup (key_eq q) (entries_of j es))) (key_eq_laws.symm k q)
     ∙ by (key_eq q k) refl
   where
-    by : (b : Bool) → key_eq q k ≡ b → cond b (Some m) (lookup (key_eq q) (entries_of columns es)) ≡ option_joined (lookup (key_eq q) (entries_of columns es)) (cond b (Some m) None)
+    by : (b : Bool) → key_eq q k ≡ b → cond b (Some (totals_in j w)) (lookup (key_eq q) (entries_of j es)) ≡ option_joined ws (lookup (key_eq q) (entries_of j es)) (cond b (Some (totals_in j w)) None)
     by true e =
-        sym (ap (λ o. option_joined o (Some m)) (lookup_congr key_eq key_eq_laws.congr (entries_of columns es) q k e ∙ lookup-entries_of columns (key_eq k) es ∙ at))
-    by false e = sym (option_joined-none (lookup (key_eq q) (entries_of columns es)))
+        sym (ap (λ o. option_joined ws o (Some (totals_in j w))) (lookup_congr key_eq key_eq_laws.congr (entries_of j es) q k e ∙ lookup-entries_of j (key_eq k) es ∙ ap (option_map (totals_in j)) at))
+    by false e = sym (option_joined-none ws (lookup (key_eq q) (entries_of j es)))
 
 -- ---- keys are all different
 
-module _ (columns : List (List Cell)) where
-  all_apart : (x : GroupKey) (es : Table) → IsKey columns x → AreKeys columns es → AllByRecursion (λ y. keys_equal x y ≡ false) (keys_of es) → AllByRecursion (λ y. key_eq (cells_in columns x) y ≡ false) (map (λ e. e.0) (entries_of columns es))
+module _ (j : JobShape) where
+  all_apart : (x : GroupKey) (es : List Entry) → IsKey (key_columns j) x → AreEntries j es → AllByRecursion (λ y. keys_equal x y ≡ false) (keys_of es) → AllByRecursion (λ y. key_eq (cells_in (key_columns j) x) y ≡ false) (map (λ e. e.0) (entries_of j es))
   all_apart x [] p q h = tt
-  all_apart x (e ∷ es) p q h = (sym (key_same columns x e.0 p q.0) ∙ h.0, all_apart x es p q.1 h.1)
+  all_apart x (e ∷ es) p q h = (sym (key_same (key_columns j) x e.0 p q.0.0) ∙ h.0, all_apart x es p q.1 h.1)
 
-  pub keys_distinct : (es : Table) → AreKeys columns es → IsDistinct keys_equal (keys_of es) → IsDistinct key_eq (map (λ e. e.0) (entries_of columns es))
+  pub keys_distinct : (es : List Entry) → AreEntries j es → IsDistinct keys_equal (keys_of es) → IsDistinct key_eq (map (λ e. e.0) (entries_of j es))
   unfolding IsDistinct
   keys_distinct [] q h = tt
-  keys_distinct (e ∷ es) q h = (all_apart e.0 es q.0 q.1 h.0, keys_distinct es q.1 h.1)
+  keys_distinct (e ∷ es) q h = (all_apart e.0 es q.0.0 q.1 h.0, keys_distinct es q.1 h.1)

@@ -1,67 +1,131 @@
--- Accumulators over the values of two lists.
+-- Totals over two lists of rows, from those over each.
 -- For the contracts inside this crate.
-use Rattle.std.specs.Prelude.{ℕ, zero, suc, ◌+◌, ◌^◌, ◌<◌, ◌+ℤ◌, ◌≡◌, ⊤, cond, List, [], ◌∷◌, Option, None, Some}
+use Rattle.std.specs.Prelude.{ℕ, zero, suc, ◌+ℤ◌, ◌≡◌, ⊤, cond, List, [], ◌∷◌, map, Option, None, Some}
 use Rattle.std.specs.Int.RustNames.{FitsSigned}
 use Rattle.std.specs.Int.{w128}
 use Rattle.std.specs.Map.{lookup}
-use Rattle.ssb_cells.specs.Cell.{Cell}
-use Rattle.ssb_groups.specs.Keys.{AreKeys, IsKey, cells_in, entries_of}
+use Rattle.ssb_cells.specs.Cell.{Cell, null, number, text}
+use Rattle.ssb_job.specs.Kept.{Columns, JobShape}
+use Rattle.ssb_query.specs.declared.column.BoundColumn.{BoundColumn}
+use Rattle.ssb_trees.specs.declared.aggregate.Aggregate.{Aggregate}
+use Rattle.ssb_trees.specs.declared.aggregate.Aggregate.TheVariants as aggregate
+use Rattle.ssb_trees.specs.declared.aggregate.SetFunction.TheVariants as function
+use Rattle.ssb_groups.specs.Aggregates.{greater, lesser}
+use Rattle.ssb_groups.specs.Keys.{IsKept}
+use Rattle.ssb_groups.specs.Places.{IsSomePlace, place_of, values_at}
 use Rattle.ssb_groups.specs.Rows.{Key, key_eq}
-use Rattle.ssb_groups.specs.declared.accumulator.Accumulator.{Accumulator}
-use Rattle.ssb_groups.specs.declared.key.GroupKey.{GroupKey}
+use Rattle.ssb_groups.specs.Value.{column_of}
+use Rattle.ssb_groups.specs.declared.joining.Joining.{Joining}
+use Rattle.ssb_groups.specs.declared.joining.Joining.TheVariants as joining
+use Rattle.ssb_groups.specs.declared.kept.Kept.{Kept}
+use Rattle.ssb_groups.specs.declared.place.Place.{Place}
 
-abbrev pub joined : Accumulator → Accumulator → Accumulator
-joined a b = record { values = a.values + b.values; total = a.total +ℤ b.total }
+-- ---- how an aggregate's totals are joined
 
--- two accumulators fit: joined, neither of their numbers leaves its range
-pub record Fits (a b : Accumulator) : Type 0 where
-  pub values : a.values + b.values < 2 ^ 64
-  pub total : FitsSigned w128 (a.total +ℤ b.total)
+abbrev pub place_alone : JobShape → Option BoundColumn → Option Place
+place_alone j None = None
+place_alone j (Some x) = place_of j x
 
--- the accumulators of two lists joined, place by place
-abbrev pub joined_each : List Accumulator → List Accumulator → List Accumulator
-joined_each (x ∷ xs) (b ∷ bs) = joined x b ∷ joined_each xs bs
-joined_each xs bs = []
+abbrev pub joining_of : JobShape → Aggregate BoundColumn → Joining
+joining_of j aggregate.Rows = joining.Adds
+joining_of j (aggregate.Of function.Sum e) = joining.Adds
+joining_of j (aggregate.Of function.Count e) = joining.Adds
+joining_of j (aggregate.Of function.Min e) = joining.Least (place_alone j (column_of e))
+joining_of j (aggregate.Of function.Max e) = joining.Greatest (place_alone j (column_of e))
 
--- two lists are of one length, and the accumulators at each place fit
-abbrev pub FitEach : List Accumulator → List Accumulator → Type 0
-FitEach [] [] = ⊤
-FitEach (x ∷ xs) (b ∷ bs) = Fits x b × FitEach xs bs
-FitEach xs bs = ⊥
+-- those of a job's aggregates
+abbrev pub joinings_of : JobShape → List Joining
+joinings_of j = map (joining_of j) j.query.aggregates
 
--- the first n accumulators joined, and the rest as they were
-abbrev pub joined_front : ℕ → List Accumulator → List Accumulator → List Accumulator
-joined_front zero xs ys = xs
-joined_front (suc n) [] ys = []
-joined_front (suc n) (x ∷ xs) [] = x ∷ xs
-joined_front (suc n) (x ∷ xs) (y ∷ ys) = joined x y ∷ joined_front n xs ys
+-- the values among which a total's texts are
+abbrev pub values_by : List Columns → Joining → List Cell
+values_by tables joining.Adds = []
+values_by tables (joining.Least p) = values_at tables p
+values_by tables (joining.Greatest p) = values_at tables p
 
-abbrev pub option_joined : Option (List Accumulator) → Option (List Accumulator) → Option (List Accumulator)
-option_joined None other = other
-option_joined (Some xs) None = Some xs
-option_joined (Some xs) (Some ys) = Some (joined_each xs ys)
+-- its place is one of the tables
+abbrev pub IsJoining : List Columns → Joining → Type 0
+IsJoining tables joining.Adds = ⊤
+IsJoining tables (joining.Least p) = IsSomePlace tables p
+IsJoining tables (joining.Greatest p) = IsSomePlace tables p
 
--- accumulators are joined to those of one key, where they fit, and the other keys have what they had
-abbrev pub JoinsAt : Key → List Accumulator → List (Key × List Accumulator) → List (Key × List Accumulator) → Type 0
-JoinsAt k more before after = ((xs : List Accumulator) → lookup (key_eq k) before ≡ Some xs → FitEach xs more)
-    → (q : Key) → lookup (key_eq q) after ≡ option_joined (lookup (key_eq q) before) (cond (key_eq q k) (Some more) None)
+abbrev pub AreJoinings : List Columns → List Joining → Type 0
+AreJoinings tables [] = ⊤
+AreJoinings tables (w ∷ ws) = IsJoining tables w × AreJoinings tables ws
 
--- the accumulators of each key that two tables have fit
-abbrev pub FitByKey : List (Key × List Accumulator) → List (Key × List Accumulator) → Type 0
-FitByKey more before = (k : Key) (xs ys : List Accumulator) → lookup (key_eq k) before ≡ Some xs → lookup (key_eq k) more ≡ Some ys → FitEach xs ys
+-- two totals of a column at a place of the tables
+pub record AreOfPlace (tables : List Columns) (p : Option Place) (a b : Kept) : Type 0 where
+  pub place : IsSomePlace tables p
+  pub left : IsKept (values_at tables p) a
+  pub right : IsKept (values_at tables p) b
+
+-- the sum of two totals that are not null; no sum is a text
+abbrev pub added : Cell → Cell → Cell
+added null b = b
+added a null = a
+added (number x) (number y) = number (x +ℤ y)
+added a b = null
+
+abbrev pub joined : Joining → Cell → Cell → Cell
+joined joining.Adds = added
+joined (joining.Least p) = lesser
+joined (joining.Greatest p) = greater
+
+-- two numbers may be added: their sum does not leave 128 bits
+abbrev pub FitsAdded : Cell → Cell → Type 0
+FitsAdded (number x) (number y) = FitsSigned w128 (x +ℤ y)
+FitsAdded a b = ⊤
+
+abbrev pub Fits : Joining → Cell → Cell → Type 0
+Fits joining.Adds a b = FitsAdded a b
+Fits (joining.Least p) a b = ⊤
+Fits (joining.Greatest p) a b = ⊤
+
+-- ---- place by place
+
+-- the totals of two lists joined, place by place
+abbrev pub joined_each : List Joining → List Cell → List Cell → List Cell
+joined_each (w ∷ ws) (x ∷ xs) (y ∷ ys) = joined w x y ∷ joined_each ws xs ys
+joined_each ws xs ys = []
+
+-- two lists have a total for each, and those at each place fit
+abbrev pub FitEach : List Joining → List Cell → List Cell → Type 0
+FitEach [] [] [] = ⊤
+FitEach (w ∷ ws) (x ∷ xs) (y ∷ ys) = Fits w x y × FitEach ws xs ys
+FitEach ws xs ys = ⊥
+
+-- totals are joined to those of a group, where they fit
+abbrev pub JoinsTotals : List Joining → List Cell → List Cell → List Cell → Type 0
+JoinsTotals ws before more after = FitEach ws before more → after ≡ joined_each ws before more
+
+-- ---- key by key
+
+abbrev pub option_joined : List Joining → Option (List Cell) → Option (List Cell) → Option (List Cell)
+option_joined ws None other = other
+option_joined ws (Some xs) None = Some xs
+option_joined ws (Some xs) (Some ys) = Some (joined_each ws xs ys)
+
+-- totals are joined to those of one key, where they fit, and the other keys have what they had
+abbrev pub JoinsAt : List Joining → Key → List Cell → List (Key × List Cell) → List (Key × List Cell) → Type 0
+JoinsAt ws k more before after = ((xs : List Cell) → lookup (key_eq k) before ≡ Some xs → FitEach ws xs more)
+    → (q : Key) → lookup (key_eq q) after ≡ option_joined ws (lookup (key_eq q) before) (cond (key_eq q k) (Some more) None)
+
+-- the totals of each key that two tables have fit
+abbrev pub FitByKey : List Joining → List (Key × List Cell) → List (Key × List Cell) → Type 0
+FitByKey ws more before = (k : Key) (xs ys : List Cell) → lookup (key_eq k) before ≡ Some xs → lookup (key_eq k) more ≡ Some ys → FitEach ws xs ys
 
 -- the groups of two tables are joined key by key, where those of each key fit
-abbrev pub JoinsEach : List (Key × List Accumulator) → List (Key × List Accumulator) → List (Key × List Accumulator) → Type 0
-JoinsEach more before after =
-    FitByKey more before
-    → (q : Key) → lookup (key_eq q) after ≡ option_joined (lookup (key_eq q) before) (lookup (key_eq q) more)
+abbrev pub JoinsEach : List Joining → List (Key × List Cell) → List (Key × List Cell) → List (Key × List Cell) → Type 0
+JoinsEach ws more before after =
+    FitByKey ws more before
+    → (q : Key) → lookup (key_eq q) after ≡ option_joined ws (lookup (key_eq q) before) (lookup (key_eq q) more)
 
--- accumulators are joined to those of a key, by whatever columns the keys are spelt
-abbrev pub JoinsKey : GroupKey → List Accumulator → List (GroupKey × List Accumulator) → List (GroupKey × List Accumulator) → Type 0
-JoinsKey key more before after =
-    (columns : List (List Cell)) → IsKey columns key → AreKeys columns before → JoinsAt (cells_in columns key) more (entries_of columns before) (entries_of columns after)
+-- ---- on the way
 
--- the groups of two tables are joined, by whatever columns the keys are spelt
-abbrev pub JoinsTable : List (GroupKey × List Accumulator) → List (GroupKey × List Accumulator) → List (GroupKey × List Accumulator) → Type 0
-JoinsTable more before after =
-    (columns : List (List Cell)) → AreKeys columns more → AreKeys columns before → JoinsEach (entries_of columns more) (entries_of columns before) (entries_of columns after)
+-- the first n totals joined, and the rest as they were
+abbrev pub joined_front : ℕ → List Joining → List Cell → List Cell → List Cell
+joined_front zero ws xs ys = xs
+joined_front (suc n) [] xs ys = xs
+joined_front (suc n) (w ∷ ws) [] ys = []
+joined_front (suc n) (w ∷ ws) (x ∷ xs) [] = x ∷ xs
+joined_front (suc n) (w ∷ ws) (x ∷ xs) (y ∷ ys) = joined w x y ∷ joined_front n ws xs ys

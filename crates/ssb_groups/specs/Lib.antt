@@ -1,3 +1,5 @@
+pub mod Aggregates
+pub mod Entries
 pub mod Gathering
 pub mod Joining
 pub mod Keys
@@ -6,4 +8,5 @@ pub mod Places
 pub mod Rows
 pub mod Seen
 pub mod Stands
+pub mod Totals
 pub mod Value

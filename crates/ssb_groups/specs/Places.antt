@@ -1,14 +1,14 @@
--- Where the group columns of a job stand in its tables.
+-- Where columns of a job stand in its tables.
 -- Source: own; for the contracts inside this crate.
-use Rattle.std.specs.Prelude.{ℕ, ◌<◌, List, [], length, Option, None, Some, slice_get, unwrap_or, nat_lt, if◌then◌else◌, ⊤}
+use Rattle.std.specs.Prelude.{ℕ, ◌<◌, ℤ, List, [], length, Option, None, Some, map, slice_get, unwrap_or, nat_lt, if◌then◌else◌, ⊤}
 use Rattle.ssb_query.specs.declared.column.BoundColumn.{BoundColumn}
 use Rattle.ssb_cells.specs.Cell.{Cell, null}
 use Rattle.ssb_cells.specs.Tables.{rows_in}
 use Rattle.ssb_job.specs.Kept.{Columns, JobShape}
 use Rattle.ssb_groups.specs.Keys.{kept_cell, values_in}
-use Rattle.ssb_groups.specs.declared.columns.Place.{Place}
-use Rattle.ssb_groups.specs.declared.key.KeyCell.{KeyCell}
-use Rattle.ssb_groups.specs.declared.key.KeyCell.TheVariants as kept
+use Rattle.ssb_groups.specs.declared.place.Place.{Place}
+use Rattle.ssb_groups.specs.declared.kept.Kept.{Kept}
+use Rattle.ssb_groups.specs.declared.kept.Kept.TheVariants as kept
 
 -- a table of the catalog; the table without columns where there is no such table
 abbrev pub table_at : List Columns → ℕ → Columns
@@ -21,6 +21,10 @@ place_in tables x (Some n) = if nat_lt x.column (length (table_at tables n)) the
 
 abbrev pub place_of : JobShape → BoundColumn → Option Place
 place_of j x = place_in j.tables x (slice_get j.query.from x.table)
+
+-- those of the group columns
+abbrev pub places_of : JobShape → List (Option Place)
+places_of j = map (place_of j) j.query.groups
 
 -- the values of the column at a place
 abbrev pub values_at : List Columns → Option Place → List Cell
@@ -46,7 +50,7 @@ HasSomeRow tables rows None = ⊤
 HasSomeRow tables rows (Some p) = HasRow tables rows p
 
 -- what stands for the value at a place in a combination
-abbrev pub cell_at_place : List Columns → List ℕ → Option Place → KeyCell
+abbrev pub cell_at_place : List Columns → List ℕ → Option Place → Kept
 cell_at_place tables rows None = kept.Null
 cell_at_place tables rows (Some p) =
     let values : List Cell = values_at tables (Some p) in

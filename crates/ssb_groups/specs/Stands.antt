@@ -1,13 +1,15 @@
 -- What groups stand for: the aggregates of a list of seen rows, or the least fact row of an overflow among them.
 -- Source: SQL-92, 6.5 <set function specification>, 7.7 <group by clause>; that an overflow goes before all sums is this project's own.
-use Rattle.std.specs.Prelude.{◌≡◌, ℕ, ◌+◌, ℤ, pos, ◌+ℤ◌, Bool, true, false, List, [], ◌∷◌, map, min, length, Option, None, Some, slice_get, unwrap_or, ⊤}
-use Rattle.std.specs.List.{filter, list_any, range_with_len, IsDistinct}
+use Rattle.std.specs.Prelude.{◌≡◌, ℕ, Bool, true, false, List, [], ◌∷◌, map, min, length, Option, None, Some, ⊤}
+use Rattle.std.specs.List.{filter, list_any, IsDistinct}
 use Rattle.std.specs.Map.{lookup}
-use Rattle.ssb_cells.specs.Cell.{null, number, text}
+use Rattle.ssb_cells.specs.Cell.{Cell, number}
+use Rattle.ssb_query.specs.declared.column.BoundColumn.{BoundColumn}
+use Rattle.ssb_trees.specs.declared.aggregate.Aggregate.{Aggregate}
 use Rattle.ssb_job.specs.Kept.{JobShape}
+use Rattle.ssb_groups.specs.Aggregates.{totals}
 use Rattle.ssb_groups.specs.Rows.{Key, key_eq, SeenRow}
 use Rattle.ssb_groups.specs.Value.{Outcome, over, known, in_range}
-use Rattle.ssb_groups.specs.declared.accumulator.Accumulator.{Accumulator}
 
 -- ---- overflow
 
@@ -31,59 +33,21 @@ abbrev pub least : List ℕ → Option ℕ
 least [] = None
 least (n ∷ ns) = least_of (Some n) (least ns)
 
--- ---- aggregates
-
--- 1 for a value that is not null
-abbrev pub count_of : Outcome → ℕ
-count_of over = 0
-count_of (known null) = 0
-count_of (known (number n)) = 1
-count_of (known (text t)) = 1
-
--- what a value adds to a sum
-abbrev pub amount_of : Outcome → ℤ
-amount_of over = pos 0
-amount_of (known null) = pos 0
-amount_of (known (number n)) = n
-amount_of (known (text t)) = pos 0
-
--- how many values are not null
-abbrev pub value_count : List Outcome → ℕ
-value_count [] = 0
-value_count (x ∷ xs) = count_of x + value_count xs
-
--- the exact sum of the numbers, in whole numbers of any size
-abbrev pub exact_sum : List Outcome → ℤ
-exact_sum [] = pos 0
-exact_sum (x ∷ xs) = amount_of x +ℤ exact_sum xs
-
--- what the i-th aggregate takes of the rows
-abbrev pub arguments_at : ℕ → List SeenRow → List Outcome
-arguments_at i R = map (λ r. unwrap_or (slice_get r.arguments i) (known null)) R
-
-abbrev pub accumulated : List Outcome → Accumulator
-accumulated xs = record { values = value_count xs; total = exact_sum xs }
-
--- the first so many aggregates, each over the rows
-abbrev pub totals : ℕ → List SeenRow → List Accumulator
-totals width R = map (λ i. accumulated (arguments_at i R)) (range_with_len 0 width)
-
 -- ---- groups
 
 -- the rows of the group with this key
 abbrev pub group : Key → List SeenRow → List SeenRow
 group k R = filter (λ r. key_eq k r.key) R
 
--- a group's aggregates; a group without rows is none
-abbrev pub summary : ℕ → List SeenRow → Option (List Accumulator)
-summary width [] = None
-summary width (r ∷ rs) = Some (totals width (r ∷ rs))
+-- the aggregates over a group; a group without rows is none
+abbrev pub summary : List (Aggregate BoundColumn) → List SeenRow → Option (List Cell)
+summary aggs [] = None
+summary aggs (r ∷ rs) = Some (totals aggs (r ∷ rs))
 
--- what a contract sees of groups: their job, how many aggregates they have, the aggregates of each key, the least fact row of an overflow, and a count of rows
+-- what a contract sees of groups: their job, the aggregates of each key, the least fact row of an overflow, and a count of rows
 pub record GroupMap : Type 0 where
   pub job : JobShape
-  pub width : ℕ
-  pub entries : List (Key × List Accumulator)
+  pub entries : List (Key × List Cell)
   pub overflow : Option ℕ
   pub counted : ℕ
 
@@ -106,5 +70,5 @@ pub record Stands (g : GroupMap) (R : List SeenRow) : Type 0 where
   pub ranged : AreRanged R
   pub counted : g.counted ≡ length R
   pub overflow : g.overflow ≡ least (overflows R)
-  pub exact : g.overflow ≡ None → (k : Key) → lookup (key_eq k) g.entries ≡ summary g.width (group k R)
+  pub exact : g.overflow ≡ None → (k : Key) → lookup (key_eq k) g.entries ≡ summary g.job.query.aggregates (group k R)
   pub distinct : IsDistinct key_eq (map (λ e. e.0) g.entries)

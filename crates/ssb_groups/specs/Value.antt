@@ -1,6 +1,6 @@
 -- The value of an expression, in whole numbers of any size, cut to the range of an `int` at each column, number, sign and operation.
 -- Source: SQL-92, 6.12 <numeric value expression>, for nulls; the range, and that Over goes before null, are this project's own.
-use Rattle.std.specs.Prelude.{◌^◌, nat_lt, ℤ, pos, negsuc, ◌+ℤ◌, ◌-ℤ◌, ◌*ℤ◌, Bool, if◌then◌else◌, List, fold}
+use Rattle.std.specs.Prelude.{◌^◌, nat_lt, ℤ, pos, negsuc, ◌+ℤ◌, ◌-ℤ◌, ◌*ℤ◌, Bool, if◌then◌else◌, List, Option, None, Some, fold}
 use Rattle.ssb_cells.specs.Cell.{Cell, null, number, text}
 use Rattle.ssb_terms.specs.declared.operator.Adding.{Adding}
 use Rattle.ssb_terms.specs.declared.operator.Adding.TheVariants as adding
@@ -22,6 +22,12 @@ in_range (negsuc n) = nat_lt n (2 ^ 63)
 
 abbrev pub checked : ℤ → Outcome
 checked z = if in_range z then known (number z) else over
+
+-- a column's number; a text has none
+abbrev pub column_number : Cell → Outcome
+column_number null = known null
+column_number (number n) = checked n
+column_number (text t) = known null
 
 -- a column's value
 abbrev pub column_outcome : Cell → Outcome
@@ -54,22 +60,43 @@ add_step so_far (adding.Minus, term) = minus so_far term
 abbrev pub product : List Outcome → Outcome
 product xs = fold times (known (number (pos 1))) xs
 
--- one form of expression, with the values of the expressions in it
-abbrev pub value_layer : (BoundColumn → Cell) → Expr-F BoundColumn Outcome (Adding × Outcome) → Outcome
-value_layer cell (Expr-F.Column x) = column_outcome (cell x)
-value_layer cell (Expr-F.Number n) = checked (pos n)
-value_layer cell (Expr-F.Positive part) = part
-value_layer cell (Expr-F.Negative part) = minus (known (number (pos 0))) part
-value_layer cell (Expr-F.Chain first steps) = fold add_step first steps
-value_layer cell (Expr-F.Times factors) = product factors
+-- one form of expression, with the numbers of the expressions in it
+abbrev pub number_layer : (BoundColumn → Cell) → Expr-F BoundColumn Outcome (Adding × Outcome) → Outcome
+number_layer cell (Expr-F.Column x) = column_number (cell x)
+number_layer cell (Expr-F.Number n) = checked (pos n)
+number_layer cell (Expr-F.Positive part) = part
+number_layer cell (Expr-F.Negative part) = minus (known (number (pos 0))) part
+number_layer cell (Expr-F.Chain first steps) = fold add_step first steps
+number_layer cell (Expr-F.Times factors) = product factors
 
 abbrev pub step_layer : Step-F BoundColumn Outcome (Adding × Outcome) → Adding × Outcome
 step_layer s = (s.adding, s.term)
 
--- the value of an expression where the columns have these values
-abbrev pub value : (BoundColumn → Cell) → Expr BoundColumn → Outcome
-value cell = fold-Expr BoundColumn Outcome (Adding × Outcome) (value_layer cell) step_layer
+-- the number of an expression where the columns have these values
+abbrev pub number_of : (BoundColumn → Cell) → Expr BoundColumn → Outcome
+number_of cell = fold-Expr BoundColumn Outcome (Adding × Outcome) (number_layer cell) step_layer
 
--- the value of a further term, with its sign
-abbrev pub step_value : (BoundColumn → Cell) → Step BoundColumn → Adding × Outcome
-step_value cell = fold-Step BoundColumn Outcome (Adding × Outcome) (value_layer cell) step_layer
+-- the number of a further term, with its sign
+abbrev pub step_number : (BoundColumn → Cell) → Step BoundColumn → Adding × Outcome
+step_number cell = fold-Step BoundColumn Outcome (Adding × Outcome) (number_layer cell) step_layer
+
+-- one form of expression, as a column
+abbrev pub column_layer : Expr-F BoundColumn (Option BoundColumn) (Option BoundColumn) → Option BoundColumn
+column_layer (Expr-F.Column x) = Some x
+column_layer (Expr-F.Number n) = None
+column_layer (Expr-F.Positive part) = None
+column_layer (Expr-F.Negative part) = None
+column_layer (Expr-F.Chain first steps) = None
+column_layer (Expr-F.Times factors) = None
+
+-- the column that an expression is, where it is one column alone
+abbrev pub column_of : Expr BoundColumn → Option BoundColumn
+column_of = fold-Expr BoundColumn (Option BoundColumn) (Option BoundColumn) column_layer (λ s. s.term)
+
+abbrev pub value_by : (BoundColumn → Cell) → Expr BoundColumn → Option BoundColumn → Outcome
+value_by cell e None = number_of cell e
+value_by cell e (Some x) = column_outcome (cell x)
+
+-- the value of an expression: that of the column which it is, and else its number
+abbrev pub value : (BoundColumn → Cell) → Expr BoundColumn → Outcome
+value cell e = value_by cell e (column_of e)

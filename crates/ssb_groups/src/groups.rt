@@ -3,19 +3,22 @@
 ghost use Rattle.std.specs.Prelude.{◌≡◌, ◌+◌, ◌<◌, ◌^◌, ◌∷◌, ◌++◌, [], List, length, map, Some, slice_get, IfErr, IfOk, OnOk, OnErr};
 ghost use Rattle.ssb_cells.specs.Values.{cell_of};
 ghost use Rattle.ssb_job.specs.Kept.{AreOneJob, IsCombination, from_tables};
+ghost use Rattle.ssb_groups.specs.Aggregates.{totals};
 ghost use Rattle.ssb_groups.specs.Rows.{SeenRow};
 ghost use Rattle.ssb_groups.specs.Seen.{seen};
 ghost use Rattle.ssb_groups.specs.Stands.{GroupMap, Stands};
+ghost use Rattle.ssb_groups.specs.Totals.{total_cell};
 ghost use Rattle.std.specs.List.Sorted.{IsPermutation};
 
-use crate::accumulator::Accumulator;
-use crate::columns::KeyColumns;
+use crate::columns::Columns;
 use crate::gather::{fact_of, gather};
 use crate::key::GroupKey;
 use crate::store::Store;
-use crate::totals::Totals;
+use crate::totals::{Total, Totals};
 use ssb_cells::Value;
 use ssb_job::{Job, JoinedRow};
+use ssb_query::BoundColumn;
+use ssb_trees::Aggregate;
 use std::alloc::{AllocError, Global};
 use std::marker::Model;
 
@@ -25,12 +28,12 @@ use std::marker::Model;
 /// What they stand for does not depend on the order in which the rows come.
 pub struct Groups {
     alloc: Global,
-    // Where the job's group columns stand, in tables that are the job's own.
-    columns: KeyColumns,
+    // Where the columns of the job's groups and aggregates stand, in tables that are the job's own.
+    columns: Columns,
     store: Store,
-    // The key and the accumulators of the row that is added, whose room is used again for the next.
+    // The key and the totals of the row that is added, whose room is used again for the next.
     key: GroupKey,
-    more: Vec<Accumulator>,
+    more: Totals,
 }
 
 // Written out, so that the crates above need no proof of how its parts are let go.
@@ -61,9 +64,18 @@ impl Model for Groups {
 
     ghost view = { λ g. g.store };
 
-    ghost use Rattle.std.specs.Prelude.{◌≡◌, length};
+    ghost use Rattle.std.specs.Prelude.{◌≡◌};
 
-    ghost invariant = { λ g. (g.columns ≡ g.store.job) × (g.store.width ≡ length g.store.job.query.aggregates) };
+    ghost invariant = { λ g. g.columns ≡ g.store.job };
+}
+
+/// A group.
+#[derive(Drop)]
+pub struct Group<'a> {
+    /// The values of its key, in the order of GROUP BY.
+    pub key: Vec<Value<'a>>,
+    /// Its aggregates, in the order of the query.
+    pub totals: Vec<Total<'a>>,
 }
 
 impl Groups {
@@ -75,22 +87,21 @@ impl Groups {
     pub fn empty(alloc: Global, job: &Job) -> Result<Groups, AllocError>
         ensures stands { IfOk result (λ g. Stands g []) }
         ensures job { IfOk result (λ g. AreOneJob g.job job.now) }
-        ensures width { IfOk result (λ g. g.width ≡ length job.now.query.aggregates) }
         ensures counted { IfOk result (λ g. g.counted ≡ 0) }
     {
-        let columns = KeyColumns::of(alloc, job)?;
+        let columns = Columns::of(alloc, job)?;
         Ok(Groups {
             alloc,
             columns,
             store: Store::new(alloc, job),
             key: GroupKey::new(alloc),
-            more: Vec::new(alloc),
+            more: Totals::new(alloc),
         })
     }
 
     /// Adds a combination of rows of the groups' own job, as [`Job::probe`] gives it. Where an
     /// aggregate's argument leaves 64 bits there, the least such row of the fact table is kept, and no
-    /// sum any more. There may be 4,294,967,295 rows.
+    /// total any more. There may be 4,294,967,295 rows.
     ///
     /// # Errors
     ///
@@ -101,18 +112,16 @@ impl Groups {
         requires few { self.old.counted + 1 < 2 ^ 32 }
         ensures stands { OnOk result ((A : List SeenRow) → Stands self.old A → Stands self.new (A ++ seen job.now row.now ∷ [])) }
         ensures job { self.new.job ≡ self.old.job }
-        ensures width { OnOk result (self.new.width ≡ self.old.width) }
         ensures counted { OnOk result (self.new.counted ≡ self.old.counted + 1) }
         ensures err { OnErr result (self.new ≡ self.old) }
     {
-        let parts = job.query().parts();
-        if gather(job, row, parts.aggregates.as_slice(), &mut self.more)? {
+        if gather(job, row, &mut self.more)? {
             self.store.add_over(fact_of(job, row));
             return Ok(());
         }
         self.columns.fill(row, &mut self.key)?;
         self.store
-            .add_plain(self.alloc, &self.key, self.more.as_slice())?;
+            .add_plain(self.alloc, &self.columns, &self.key, &self.more)?;
         Ok(())
     }
 
@@ -127,7 +136,6 @@ impl Groups {
         requires few { self.old.counted + other.counted < 2 ^ 32 }
         ensures stands { OnOk result ((A B : List SeenRow) → Stands self.old A → Stands other B → Stands self.new (A ++ B)) }
         ensures job { self.new.job ≡ self.old.job }
-        ensures width { OnOk result (self.new.width ≡ self.old.width) }
         ensures counted { OnOk result (self.new.counted ≡ self.old.counted + other.counted) }
         ensures err { OnErr result (self.new ≡ self.old) }
         ensures other { IfErr result (λ e. e.0 ≡ other) }
@@ -139,7 +147,7 @@ impl Groups {
             key,
             more,
         } = other;
-        match self.store.merge(store) {
+        match self.store.merge(&self.columns, store) {
             Ok(()) => Ok(()),
             Err((store, refused)) => Err((
                 Groups {
@@ -152,14 +160,6 @@ impl Groups {
                 refused,
             )),
         }
-    }
-
-    /// How many aggregates each group has: those of the job's query.
-    pub fn width(&self) -> usize
-        ensures width { result ≡ self.now.width }
-        ensures job { self.now.width ≡ length self.now.job.query.aggregates }
-    {
-        self.store.width()
     }
 
     /// The least row of the fact table, from 1, at which an aggregate's argument left 64 bits.
@@ -183,20 +183,23 @@ impl Groups {
         self.store.group_count()
     }
 
-    /// The values of a group's key, and its accumulators, by the group's number from 0. Groups stand in
+    /// The values of a group's key and of its aggregates, by the group's number from 0. Groups stand in
     /// the order of their first rows.
     ///
     /// # Errors
     ///
     /// Only where a growth was refused.
-    pub fn group(&self, alloc: Global, at: usize) -> Result<(Vec<Value<'_>>, &Totals), AllocError>
+    pub fn group(&self, alloc: Global, at: usize) -> Result<Group<'_>, AllocError>
         requires { at < length self.now.entries }
-        ensures { IfOk result (λ e. slice_get self.now.entries at ≡ Some (map cell_of e.0.items, e.1.now)) }
+        ensures { IfOk result (λ e. slice_get self.now.entries at ≡ Some (map cell_of e.key.items, map total_cell e.totals.items)) }
     {
         let Some((key, totals)) = self.store.group(at) else {
             unreachable!()
         };
-        Ok((self.columns.spell(alloc, key)?, totals))
+        Ok(Group {
+            key: self.columns.spell_key(alloc, key)?,
+            totals: self.columns.spell_totals(alloc, totals)?,
+        })
     }
 }
 
@@ -204,3 +207,21 @@ impl Groups {
 pub fn any_order()
     ensures { (g : GroupMap) (R Q : List SeenRow) → IsPermutation R Q → Stands g R → Stands g Q }
 {}
+
+/// The aggregates over no row, which the one group of a query without GROUP BY may be over.
+///
+/// # Errors
+///
+/// Only where a growth was refused.
+pub fn over_no_row<'a>(
+    alloc: Global,
+    aggregates: &[Aggregate<BoundColumn>],
+) -> Result<Vec<Total<'a>>, AllocError>
+    ensures { IfOk result (λ values. map total_cell values.items ≡ totals aggregates.now []) }
+{
+    let mut values = Vec::with_capacity(alloc, aggregates.len())?;
+    for aggregate in aggregates {
+        values.push(Total::over_no_row(aggregate))?;
+    }
+    Ok(values)
+}

@@ -2,24 +2,14 @@
 
 ghost use Rattle.std.specs.Prelude.{◌≡◌, [], IfOk};
 
+use crate::kept::Kept;
 use std::alloc::{AllocError, Global};
-
-/// What stands for a value of a group column.
-#[derive(Clone, Copy, PartialEq, Eq, Hash)]
-pub(crate) enum KeyCell {
-    /// No value.
-    Null,
-    /// A number.
-    Number(i64),
-    /// A text, by its code in its column.
-    Code(u32),
-}
 
 /// What stands for the values of the group columns, in their order. Two keys of one job are equal
 /// exactly where their values are.
 #[derive(PartialEq, Eq, Hash, Drop)]
 pub(crate) struct GroupKey {
-    pub cells: Vec<KeyCell>,
+    pub cells: Vec<Kept>,
 }
 
 impl GroupKey {

@@ -1,13 +1,14 @@
-// The value of an expression, which may be Over.
+// The number of an expression, which may be Over.
 
-ghost use Rattle.std.specs.Prelude.{◌≡◌, ◌∷◌, []};
+ghost use Rattle.std.specs.Prelude.{◌≡◌, List, IfSome, pos};
+ghost use Rattle.ssb_groups.specs.Keys.{IsKept};
+ghost use Rattle.ssb_cells.specs.Cell.{Cell};
 ghost use Rattle.ssb_cells.specs.Values.{cell_of};
-ghost use Rattle.ssb_groups.specs.Outcomes.{checked_outcome, exact, outcome_of};
-ghost use Rattle.ssb_groups.specs.Stands.{accumulated, is_over, IsRanged};
-ghost use Rattle.ssb_groups.specs.Value.{apply, checked, column_outcome};
-ghost use Rattle.std.specs.Prelude.{pos};
+ghost use Rattle.ssb_groups.specs.Outcomes.{checked_outcome, exact, kept_outcome, outcome_of};
+ghost use Rattle.ssb_groups.specs.Stands.{IsRanged};
+ghost use Rattle.ssb_groups.specs.Value.{apply, checked, column_number};
 
-use crate::accumulator::Accumulator;
+use crate::kept::Kept;
 use ssb_cells::Value;
 
 /// What is done with two numbers.
@@ -21,17 +22,15 @@ pub(crate) enum Operation {
     Times,
 }
 
-/// The value of an expression.
+/// The number of an expression.
 #[derive(Clone, Copy)]
-pub(crate) enum Outcome<'a> {
-    /// A number beyond 64 bits, in the value or on the way to it.
+pub(crate) enum Outcome {
+    /// A number beyond 64 bits, at the end or on the way to it.
     Over,
-    /// No value.
+    /// None.
     Null,
     /// A number.
     Number(i64),
-    /// A text, of an expression that is one text column.
-    Text(&'a str),
 }
 
 impl Operation {
@@ -47,20 +46,19 @@ impl Operation {
     }
 }
 
-impl<'a> Outcome<'a> {
-    // A column's value.
-    pub(crate) fn of(value: Value<'a>) -> Outcome<'a>
-        ensures { outcome_of result ≡ column_outcome (cell_of value.entry) }
+impl Outcome {
+    // That of a column's value; a text has none.
+    pub(crate) fn of(value: Value<'_>) -> Outcome
+        ensures { outcome_of result ≡ column_number (cell_of value.entry) }
     {
         match value {
-            Value::Null => Outcome::Null,
+            Value::Null | Value::Text(_) => Outcome::Null,
             Value::Int(number) => Outcome::Number(number),
-            Value::Text(text) => Outcome::Text(text),
         }
     }
 
     // A number of the query.
-    pub(crate) fn of_number(number: u64) -> Outcome<'a>
+    pub(crate) fn of_number(number: u64) -> Outcome
         ensures { outcome_of result ≡ checked (pos number) }
     {
         match i64::try_from(number) {
@@ -70,8 +68,8 @@ impl<'a> Outcome<'a> {
     }
 
     // Over where an operand is, else null without two numbers, else exact, or Over beyond 64 bits.
-    pub(crate) fn apply(self, operation: Operation, other: Outcome<'a>) -> Outcome<'a>
-        ensures { outcome_of result ≡ apply (exact operation) (outcome_of self.entry) (outcome_of other.entry) }
+    pub(crate) fn apply(self, operation: Operation, other: Outcome) -> Outcome
+        ensures { outcome_of result ≡ apply (exact operation) (outcome_of self) (outcome_of other) }
     {
         match (self, other) {
             (Outcome::Over, _) | (_, Outcome::Over) => Outcome::Over,
@@ -83,30 +81,16 @@ impl<'a> Outcome<'a> {
         }
     }
 
-    pub(crate) fn is_over(self) -> bool
-        ensures { result ≡ is_over (outcome_of self.entry) }
-    {
-        matches!(self, Outcome::Over)
-    }
-
-    // The accumulator over this value alone.
-    pub(crate) fn accumulator(self) -> Accumulator
-        ensures alone { result ≡ accumulated (outcome_of self.entry ∷ []) }
-        ensures ranged { IsRanged (outcome_of self.entry) }
+    // What stands for it; None where it is Over.
+    pub(crate) fn kept(self) -> Option<Kept>
+        ensures value { (values : List Cell) → kept_outcome values result ≡ outcome_of self }
+        ensures kept { (values : List Cell) → IfSome result (IsKept values) }
+        ensures ranged { IsRanged (outcome_of self) }
     {
         match self {
-            Outcome::Number(number) => Accumulator {
-                values: 1,
-                total: i128::from(number),
-            },
-            Outcome::Text(_) => Accumulator {
-                values: 1,
-                total: 0,
-            },
-            Outcome::Over | Outcome::Null => Accumulator {
-                values: 0,
-                total: 0,
-            },
+            Outcome::Over => None,
+            Outcome::Null => Some(Kept::Null),
+            Outcome::Number(number) => Some(Kept::Number(number)),
         }
     }
 }

@@ -2,13 +2,14 @@
 
 ghost use Rattle.std.specs.Prelude.{◌≡◌, ◌+◌, ◌<◌, ◌^◌, [], ◌++◌, ◌↔◌, List, length, Some, slice_get, IfErr, IfSome, OnOk, OnErr};
 ghost use Rattle.std.specs.Option.{IsSome};
+ghost use Rattle.ssb_groups.specs.Entries.{AreTotals, totals_in};
 ghost use Rattle.ssb_groups.specs.Keys.{IsKey, cells_in, key_columns};
 ghost use Rattle.ssb_job.specs.Kept.{AreOneJob};
 ghost use Rattle.ssb_groups.specs.Gathering.{AddsRow, IsOverAt, IsPlain};
 ghost use Rattle.ssb_groups.specs.Rows.{SeenRow};
 ghost use Rattle.ssb_groups.specs.Stands.{Stands, least_of};
 
-use crate::accumulator::Accumulator;
+use crate::columns::Columns;
 use crate::key::GroupKey;
 use crate::table::{GroupTable, put, take_all_in};
 use crate::totals::Totals;
@@ -18,12 +19,11 @@ use std::alloc::{AllocError, Global};
 use std::marker::Model;
 use std::snapshot::Snapshot;
 
-/// The aggregates of each key of a job's rows, the least fact row of an overflow, and a count of rows.
+/// The totals of each key of a job's rows, the least fact row of an overflow, and a count of rows.
 #[derive(Drop)]
 pub(crate) struct Store {
     // What the job is, for contracts alone: it has no bytes.
     job: Snapshot<Job>,
-    width: usize,
     table: GroupTable,
     overflow: Option<u32>,
     counted: u32,
@@ -31,7 +31,7 @@ pub(crate) struct Store {
 
 impl Model for Store {
     ghost use Rattle.indexmap.specs.IndexMap.{IsUnique};
-    ghost use Rattle.ssb_groups.specs.Keys.{AreKeys, entries_of, key_columns};
+    ghost use Rattle.ssb_groups.specs.Entries.{AreEntries, entries_of};
     ghost use Rattle.ssb_groups.specs.Stands.{GroupMap};
     ghost use Rattle.ssb_groups.specs.contracts.key.GroupKeyPartialEq.TheImpl as keys;
 
@@ -42,9 +42,9 @@ impl Model for Store {
 
     ghost coded = { Prim.hlevel (codes, job_type.the_row.coded) };
 
-    ghost view = { λ s. record { job = s.job.value; width = s.width; entries = entries_of (key_columns s.job.value) s.table.entries; overflow = s.overflow; counted = s.counted } };
+    ghost view = { λ s. record { job = s.job.value; entries = entries_of s.job.value s.table.entries; overflow = s.overflow; counted = s.counted } };
 
-    ghost invariant = { λ s. IsUnique keys.eq-value.it s.table × AreKeys (key_columns s.job.value) s.table.entries };
+    ghost invariant = { λ s. IsUnique keys.eq-value.it s.table × AreEntries s.job.value s.table.entries };
 }
 
 // The lesser of two numbers, either of which may be missing.
@@ -63,13 +63,10 @@ impl Store {
     pub(crate) fn new(alloc: Global, job: &Job) -> Store
         ensures stands { Stands result [] }
         ensures job { result.job ≡ job.now }
-        ensures width { result.width ≡ length job.now.query.aggregates }
         ensures counted { result.counted ≡ 0 }
     {
-        let parts = job.query().parts();
         Store {
             job: Snapshot::of(job),
-            width: parts.aggregates.len(),
             table: IndexMap::new(alloc),
             overflow: None,
             counted: 0,
@@ -81,30 +78,31 @@ impl Store {
         requires { self.old.counted + 1 < 2 ^ 32 }
         ensures stands { AddsRow (IsOverAt fact) self.old self.new }
         ensures job { self.new.job ≡ self.old.job }
-        ensures width { self.new.width ≡ self.old.width }
         ensures counted { self.new.counted ≡ self.old.counted + 1 }
     {
         self.overflow = lesser(self.overflow, Some(fact));
         self.counted += 1;
     }
 
-    // One more row, at which none is: its key, and its accumulators.
+    // Adds one more row, at which none is: its key, and the totals over it alone.
     pub(crate) fn add_plain(
         &mut self,
         alloc: Global,
+        columns: &Columns,
         key: &GroupKey,
-        more: &[Accumulator],
+        more: &Totals,
     ) -> Result<(), AllocError>
         requires few { self.old.counted + 1 < 2 ^ 32 }
+        requires columns { columns.now ≡ self.old.job }
         requires key { IsKey (key_columns self.old.job) key.now }
-        ensures stands { OnOk result (AddsRow (IsPlain self.old.width (cells_in (key_columns self.old.job) key.now) more.now) self.old self.new) }
+        requires more { AreTotals self.old.job more.now }
+        ensures stands { OnOk result (AddsRow (IsPlain self.old.job.query.aggregates (cells_in (key_columns self.old.job) key.now) (totals_in self.old.job more.now)) self.old self.new) }
         ensures job { OnOk result (self.new.job ≡ self.old.job) }
-        ensures width { OnOk result (self.new.width ≡ self.old.width) }
         ensures counted { OnOk result (self.new.counted ≡ self.old.counted + 1) }
         ensures err { OnErr result (self.new ≡ self.old) }
     {
         if self.overflow.is_none() {
-            put(alloc, &mut self.table, key, more)?;
+            put(alloc, columns, &mut self.table, key, more)?;
         }
         self.counted += 1;
         Ok(())
@@ -112,13 +110,16 @@ impl Store {
 
     // The rows of both. Where a growth is refused, both stand as before, and the other comes back. No
     // sum is asked for where a row overflowed, so the tables are joined only where none did.
-    pub(crate) fn merge(&mut self, other: Store) -> Result<(), (Store, AllocError)>
+    pub(crate) fn merge(
+        &mut self,
+        columns: &Columns,
+        other: Store,
+    ) -> Result<(), (Store, AllocError)>
+        requires columns { columns.now ≡ self.old.job }
         requires few { self.old.counted + other.counted < 2 ^ 32 }
         requires one_job { AreOneJob self.old.job other.job }
-        requires width { other.width ≡ self.old.width }
         ensures stands { OnOk result ((A B : List SeenRow) → Stands self.old A → Stands other B → Stands self.new (A ++ B)) }
         ensures job { self.new.job ≡ self.old.job }
-        ensures width { self.new.width ≡ self.old.width }
         ensures counted { OnOk result (self.new.counted ≡ self.old.counted + other.counted) }
         ensures err { OnErr result (self.new ≡ self.old) }
         ensures other { IfErr result (λ e. e.0 ≡ other) }
@@ -129,17 +130,11 @@ impl Store {
             if let Err(refused) = self.table.reserve(other.table.len()) {
                 return Err((other, refused));
             }
-            take_all_in(&mut self.table, other.table);
+            take_all_in(columns, &mut self.table, other.table);
         }
         self.overflow = overflow;
         self.counted = counted;
         Ok(())
-    }
-
-    pub(crate) fn width(&self) -> usize
-        ensures { result ≡ self.now.width }
-    {
-        self.width
     }
 
     pub(crate) fn overflow(&self) -> Option<u32>
@@ -164,7 +159,8 @@ impl Store {
     pub(crate) fn group(&self, at: usize) -> Option<(&GroupKey, &Totals)>
         ensures found { IsSome result ↔ (at < length self.now.entries) }
         ensures key { IfSome result (λ e. IsKey (key_columns self.now.job) e.0.now) }
-        ensures entry { IfSome result (λ e. slice_get self.now.entries at ≡ Some (cells_in (key_columns self.now.job) e.0.now, e.1.now)) }
+        ensures totals { IfSome result (λ e. AreTotals self.now.job e.1.now) }
+        ensures entry { IfSome result (λ e. slice_get self.now.entries at ≡ Some (cells_in (key_columns self.now.job) e.0.now, totals_in self.now.job e.1.now)) }
     {
         self.table.get_index(at)
     }

@@ -1,13 +1,12 @@
-// The aggregates of each key. The clauses hold by whatever columns the keys are spelt.
+// The totals of each key.
 
-ghost use Rattle.std.specs.Prelude.{◌≡◌, ◌+◌, ◌<◌, ◌≤◌, List, OnOk, OnErr};
-ghost use Rattle.ssb_cells.specs.Cell.{Cell};
+ghost use Rattle.std.specs.Prelude.{◌≡◌, ◌+◌, ◌<◌, ◌≤◌, OnOk, OnErr};
 ghost use Rattle.indexmap.specs.IndexMap.{IsUnique, index_map_len, spare};
-ghost use Rattle.ssb_groups.specs.Joining.{JoinsKey, JoinsTable};
-ghost use Rattle.ssb_groups.specs.Keys.{AreKeys, IsKey};
+ghost use Rattle.ssb_groups.specs.Entries.{AreEntries, AreTotals, JoinsKey, JoinsTable};
+ghost use Rattle.ssb_groups.specs.Keys.{IsKey, key_columns};
 ghost use Rattle.ssb_groups.specs.contracts.key.GroupKeyPartialEq.TheImpl as keys;
 
-use crate::accumulator::Accumulator;
+use crate::columns::Columns;
 use crate::key::GroupKey;
 use crate::totals::Totals;
 use indexmap::IndexMap;
@@ -16,41 +15,48 @@ use std::alloc::{AllocError, Global};
 /// Keys in the order in which they came.
 pub(crate) type GroupTable = IndexMap<GroupKey, Totals>;
 
-// Joins accumulators to those of a key.
+// Joins totals to those of a key.
 pub(crate) fn put(
     alloc: Global,
+    columns: &Columns,
     table: &mut GroupTable,
     key: &GroupKey,
-    more: &[Accumulator],
+    more: &Totals,
 ) -> Result<(), AllocError>
-    requires { IsUnique keys.eq-value.it table.old }
-    ensures joined { OnOk result (JoinsKey key.now more.now table.old.entries table.new.entries) }
-    ensures keys { (columns : List (List Cell)) → IsKey columns key.now → AreKeys columns table.old.entries → AreKeys columns table.new.entries }
+    requires unique { IsUnique keys.eq-value.it table.old }
+    requires entries { AreEntries columns.now table.old.entries }
+    requires key { IsKey (key_columns columns.now) key.now }
+    requires more { AreTotals columns.now more.now }
+    ensures joined { OnOk result (JoinsKey columns.now key.now more.now table.old.entries table.new.entries) }
+    ensures entries { AreEntries columns.now table.new.entries }
     ensures unique { IsUnique keys.eq-value.it table.new }
     ensures err { OnErr result (table.new.entries ≡ table.old.entries) }
 {
     match table.get_mut(key) {
-        Some(totals) => totals.join(more),
+        Some(totals) => columns.join(totals, more),
         None => {
             let copy = key.copy(alloc)?;
-            let totals = Totals::of(alloc, more)?;
+            let totals = more.copy(alloc)?;
             table.insert(copy, totals)?;
         }
     }
     Ok(())
 }
 
-// Joins a group's accumulators to those of its key, where there is room for one group more.
-fn take_in(table: &mut GroupTable, key: GroupKey, more: Totals)
+// Joins a group's totals to those of its key, where there is room for one group more.
+fn take_in(columns: &Columns, table: &mut GroupTable, key: GroupKey, more: Totals)
     requires unique { IsUnique keys.eq-value.it table.old }
+    requires entries { AreEntries columns.now table.old.entries }
+    requires key { IsKey (key_columns columns.now) key }
+    requires more { AreTotals columns.now more }
     requires room { 0 < spare table.old }
-    ensures joined { JoinsKey key more table.old.entries table.new.entries }
-    ensures keys { (columns : List (List Cell)) → IsKey columns key → AreKeys columns table.old.entries → AreKeys columns table.new.entries }
+    ensures joined { JoinsKey columns.now key more table.old.entries table.new.entries }
+    ensures entries { AreEntries columns.now table.new.entries }
     ensures unique { IsUnique keys.eq-value.it table.new }
     ensures room { spare table.old ≤ spare table.new + 1 }
 {
     match table.get_mut(&key) {
-        Some(totals) => totals.join(more.as_slice()),
+        Some(totals) => columns.join(totals, &more),
         None => {
             let Ok(_) = table.insert(key, more) else {
                 unreachable!()
@@ -60,15 +66,17 @@ fn take_in(table: &mut GroupTable, key: GroupKey, more: Totals)
 }
 
 // Joins the groups of another table, where there is room for as many more.
-pub(crate) fn take_all_in(table: &mut GroupTable, other: GroupTable)
+pub(crate) fn take_all_in(columns: &Columns, table: &mut GroupTable, other: GroupTable)
     requires unique { IsUnique keys.eq-value.it table.old }
     requires others { IsUnique keys.eq-value.it other }
+    requires entries { AreEntries columns.now table.old.entries }
+    requires more { AreEntries columns.now other.entries }
     requires room { index_map_len other ≤ spare table.old }
-    ensures joined { JoinsTable other.entries table.old.entries table.new.entries }
-    ensures keys { (columns : List (List Cell)) → AreKeys columns other.entries → AreKeys columns table.old.entries → AreKeys columns table.new.entries }
+    ensures joined { JoinsTable columns.now other.entries table.old.entries table.new.entries }
+    ensures entries { AreEntries columns.now table.new.entries }
     ensures unique { IsUnique keys.eq-value.it table.new }
 {
     for (key, totals) in other {
-        take_in(table, key, totals);
+        take_in(columns, table, key, totals);
     }
 }

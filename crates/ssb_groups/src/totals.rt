@@ -1,61 +1,117 @@
 // The aggregates of one group.
 
-ghost use Rattle.std.specs.Prelude.{◌≡◌, IfOk, length};
-ghost use Rattle.ssb_groups.specs.Joining.{FitEach, joined_each};
+ghost use Rattle.std.specs.Prelude.{◌≡◌, ◌∷◌, ◌++◌, [], IfOk, OnOk, map};
+ghost use Rattle.ssb_groups.specs.Aggregates.{agg};
+ghost use Rattle.ssb_groups.specs.Joining.{AreJoinings, JoinsTotals, values_by};
+ghost use Rattle.ssb_groups.specs.Keys.{AreKept, kept_total, spelt};
+ghost use Rattle.ssb_groups.specs.Totals.{total_cell};
 
-use crate::accumulator::Accumulator;
+use crate::joining::Joining;
+use crate::kept::KeptTotal;
+use ssb_cells::Table;
+use ssb_query::BoundColumn;
+use ssb_trees::{Aggregate, SetFunction};
 use std::alloc::{AllocError, Global};
 use std::marker::Model;
 
-/// The accumulators of a group, one for each aggregate, seen as their list.
+/// The value of an aggregate.
+#[derive(Clone, Copy)]
+pub enum Total<'a> {
+    /// No value.
+    Null,
+    /// A count, an exact sum, or the least or greatest of numbers.
+    Number(i128),
+    /// The least or greatest of texts.
+    Text(&'a str),
+}
+
+impl<'a> Total<'a> {
+    // An aggregate over no row.
+    pub(crate) fn over_no_row(aggregate: &Aggregate<BoundColumn>) -> Total<'a>
+        ensures { total_cell result ≡ agg aggregate.now [] }
+    {
+        match aggregate {
+            Aggregate::Rows | Aggregate::Of(SetFunction::Count, _) => Total::Number(0),
+            Aggregate::Of(SetFunction::Sum | SetFunction::Min | SetFunction::Max, _) => Total::Null,
+        }
+    }
+}
+
+// Joins each total to that at its place.
+fn join_each(tables: &[Table], joinings: &[Joining], into: &mut [KeptTotal], more: &[KeptTotal])
+    requires joinings { AreJoinings tables.now joinings.now }
+    requires into { AreKept (map (values_by tables.now) joinings.now) (map kept_total into.old) }
+    requires more { AreKept (map (values_by tables.now) joinings.now) (map kept_total more.now) }
+    ensures joined { JoinsTotals joinings.now (spelt (map (values_by tables.now) joinings.now) (map kept_total into.old)) (spelt (map (values_by tables.now) joinings.now) (map kept_total more.now)) (spelt (map (values_by tables.now) joinings.now) (map kept_total into.new)) }
+    ensures kept { AreKept (map (values_by tables.now) joinings.now) (map kept_total into.new) }
+{
+    for at in 0..joinings.len() {
+        into[at] = joinings[at].join(tables, into[at], more[at]);
+    }
+}
+
+/// The aggregates of a group as they are kept, in the order of the query, seen as their list.
 #[derive(Drop)]
-pub struct Totals {
-    each: Vec<Accumulator>,
+pub(crate) struct Totals {
+    each: Vec<KeptTotal>,
 }
 
 impl Model for Totals {
-    ghost use Rattle.std.specs.Prelude.{List};
-    ghost use Rattle.ssb_groups.specs.declared.accumulator.Accumulator.{Accumulator};
+    ghost use Rattle.std.specs.Prelude.{List, map};
+    ghost use Rattle.ssb_groups.specs.Keys.{kept_total};
+    ghost use Rattle.ssb_groups.specs.declared.kept.Kept.{Kept as AnyKept};
 
-    ghost Value = { List Accumulator };
+    ghost Value = { List AnyKept };
 
-    ghost view = { λ t. t.each.items };
-}
-
-// Joins each accumulator to that at its place.
-fn join_each(into: &mut [Accumulator], more: &[Accumulator])
-    requires { length into.old ≡ length more.now }
-    ensures { FitEach into.old more.now → into.new ≡ joined_each into.old more.now }
-{
-    for i in 0..into.len() {
-        into[i] = into[i].join(more[i]);
-    }
+    ghost view = { λ t. map kept_total t.each.items };
 }
 
 impl Totals {
-    // The accumulators of a group's first row.
-    pub(crate) fn of(alloc: Global, more: &[Accumulator]) -> Result<Totals, AllocError>
-        ensures { IfOk result (λ t. t ≡ more.now) }
+    // Of no aggregate.
+    pub(crate) fn new(alloc: Global) -> Totals
+        ensures { result ≡ [] }
     {
-        let mut each = Vec::with_capacity(alloc, more.len())?;
-        each.extend_from_slice(more)?;
-        Ok(Totals { each })
-    }
-
-    // Joins each to that at its place, where there are as many.
-    #[tactic(auto, using(crate::proofs::JoinedFront::same_length))]
-    pub(crate) fn join(&mut self, more: &[Accumulator])
-        ensures { FitEach self.old more.now → self.new ≡ joined_each self.old more.now }
-    {
-        if self.each.len() == more.len() {
-            join_each(self.each.as_mut_slice(), more);
+        Totals {
+            each: Vec::new(alloc),
         }
     }
 
-    /// The accumulators, in the order of the aggregates.
-    pub fn as_slice(&self) -> &[Accumulator]
-        ensures { result.now ≡ self.now }
+    pub(crate) fn clear(&mut self)
+        ensures { self.new ≡ [] }
+    {
+        self.each.clear();
+    }
+
+    pub(crate) fn push(&mut self, total: KeptTotal) -> Result<(), AllocError>
+        ensures { OnOk result (self.new ≡ self.old ++ kept_total total ∷ []) }
+    {
+        self.each.push(total)?;
+        Ok(())
+    }
+
+    // A copy for a new group.
+    pub(crate) fn copy(&self, alloc: Global) -> Result<Totals, AllocError>
+        ensures { IfOk result (λ t. t ≡ self.now) }
+    {
+        let mut each = Vec::with_capacity(alloc, self.each.len())?;
+        each.extend_from_slice(&self.each)?;
+        Ok(Totals { each })
+    }
+
+    pub(crate) fn as_slice(&self) -> &[KeptTotal]
+        ensures { map kept_total result.now ≡ self.now }
     {
         self.each.as_slice()
+    }
+
+    // Joins each to that at its place, by the joinings of a job.
+    pub(crate) fn join(&mut self, tables: &[Table], joinings: &[Joining], more: &Totals)
+        requires joinings { AreJoinings tables.now joinings.now }
+        requires into { AreKept (map (values_by tables.now) joinings.now) self.old }
+        requires more { AreKept (map (values_by tables.now) joinings.now) more.now }
+        ensures joined { JoinsTotals joinings.now (spelt (map (values_by tables.now) joinings.now) self.old) (spelt (map (values_by tables.now) joinings.now) more.now) (spelt (map (values_by tables.now) joinings.now) self.new) }
+        ensures kept { AreKept (map (values_by tables.now) joinings.now) self.new }
+    {
+        join_each(tables, joinings, self.each.as_mut_slice(), more.as_slice());
     }
 }

@@ -16,9 +16,10 @@ use Rattle.crossbeam_queue.specs.contracts.array_queue.Doing as Doing
 use Rattle.crossbeam_queue.specs.contracts.array_queue.Slotted as Slotted
 use Rattle.crossbeam_queue.specs.contracts.array_queue.Turns as Turns
 use Rattle.crossbeam_queue.specs.contracts.array_queue.TurnsTableRuleOptionDoingUnit.TheImpl as turns
-use Rattle.ssb_groups.specs.contracts.columns.KeyColumns as Columns
-use Rattle.ssb_groups.specs.contracts.columns.KeyColumns.TheInside as InColumns
-use Rattle.ssb_groups.specs.contracts.columns.Place as Place
+use Rattle.ssb_groups.specs.contracts.columns.Columns as Columns
+use Rattle.ssb_groups.specs.contracts.columns.Columns.TheInside as InColumns
+use Rattle.ssb_groups.specs.contracts.joining.Joining as Joining
+use Rattle.ssb_groups.specs.contracts.place.Place as Place
 use Rattle.ssb_groups.specs.contracts.groups.Groups as Groups
 use Rattle.ssb_groups.specs.contracts.groups.Groups.TheInside as InGroups
 use Rattle.ssb_groups.specs.contracts.key.GroupKey as Key
@@ -48,24 +49,24 @@ store_send =
     view_send InStore.the_row _ _ _ _ (declared_send InStore.the_type (
       search (crosses, sendable) depth 20,
       (
-        search (as_row_send, sendable) depth 20,
-        (
-          search (key_send, totals_send, crosses, sendable) depth 20,
-          (search (as_row_send, sendable) depth 20, (search (as_row_send, sendable) depth 20, tt)),
-        ),
+        search (key_send, totals_send, crosses, sendable) depth 20,
+        (search (as_row_send, sendable) depth 20, (search (as_row_send, sendable) depth 20, tt)),
       ),
     ))
 
 place_send : IsSend Place.the_row
 place_send = search (crosses, sendable) depth 20
 
+joining_send : IsSend Joining.the_row
+joining_send = search (place_send, crosses, sendable) depth 20
+
 columns_send : IsSend Columns.the_row
 columns_send =
-    view_send InColumns.the_row _ _ _ _ (declared_send InColumns.the_type (search (crosses, sendable) depth 20, (tables.0, (search (place_send, as_row_send, crosses, sendable) depth 20, tt))))
+    view_send InColumns.the_row _ _ _ _ (declared_send InColumns.the_type (search (crosses, sendable) depth 20, (tables.0, (search (place_send, as_row_send, crosses, sendable) depth 20, (search (joining_send, as_row_send, crosses, sendable) depth 20, tt)))))
 
 groups_send : IsSend Groups.the_row
 groups_send =
-    view_send InGroups.the_row _ _ _ _ (declared_send InGroups.the_type (search (as_row_send, crosses, sendable) depth 20, (columns_send, (store_send, (key_send, (search (as_row_send, crosses, sendable) depth 20, tt))))))
+    view_send InGroups.the_row _ _ _ _ (declared_send InGroups.the_type (search (as_row_send, crosses, sendable) depth 20, (columns_send, (store_send, (key_send, (totals_send, tt))))))
 
 pub part_send : IsSend Part.the_row
 part_send =

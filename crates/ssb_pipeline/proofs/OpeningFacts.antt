@@ -54,9 +54,9 @@ rows-fit j size a n = fit (length (rows_in j size (range_with_len a n))) (row_cu
 
 -- what the fields of an opening part keep
 pub opens : (j : JobShape) (size s k first end : ℕ) (marks : List Bool) (g : GroupMap) → 0 < k → first ≡ morsel_cut (morsel_count (fact_rows j) size) k s → end ≡ morsel_cut (morsel_count (fact_rows j) size) k (s + 1)
-    → length marks ≡ end - first → ((i : ℕ) → slice_get marks i ≡ Some true → ⊥) → end < 2 ^ 32 → fact_rows j < 2 ^ 32 → Stands g [] → AreOneJob g.job j → g.width ≡ length j.query.aggregates → g.counted ≡ 0
+    → length marks ≡ end - first → ((i : ℕ) → slice_get marks i ≡ Some true → ⊥) → end < 2 ^ 32 → fact_rows j < 2 ^ 32 → Stands g [] → AreOneJob g.job j → g.counted ≡ 0
     → IsKept j size s k first 0 marks 0 g
-opens j size s k first end marks g pos begins ends many free bound rows stands job width counted =
+opens j size s k first end marks g pos begins ends many free bound rows stands job counted =
     let up = morsel-rises (morsel_count (fact_rows j) size) k s pos in
     let none = none-marked first marks free in
     let last : first + length marks ≡ end = omega (arith, begins, ends, many, up) in
@@ -68,7 +68,6 @@ opens j size s k first end marks g pos begins ends many free bound rows stands j
       below = λ i e. absurd (free i e);
       came = sym (ap length none);
       job = job;
-      width = width;
       stands = subst (Stands g) (sym (ap (seen_in j size) none ∙ seen-none j size)) stands;
       few = omega (arith, counted);
       bound = omega (arith, last, bound);

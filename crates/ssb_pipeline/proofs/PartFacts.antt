@@ -147,9 +147,9 @@ module _ (j : JobShape) (size s k first : ℕ) where
     within (b ∷ bs) (suc q) (suc r) e = elim (within bs q r e) [ inl same ↦ inl (ap (λ n. suc n) same) | inr there ↦ inr there ]
 
     -- the part's fields keep what they keep with one mark more
-    pub kept-more : (n : GroupMap) → n.job ≡ g.job → n.width ≡ g.width → n.counted ≡ g.counted + x.groups.counted → ((A B : List SeenRow) → Stands g A → Stands x.groups B → Stands n (A ++ B))
+    pub kept-more : (n : GroupMap) → n.job ≡ g.job → n.counted ≡ g.counted + x.groups.counted → ((A B : List SeenRow) → Stands g A → Stands x.groups B → Stands n (A ++ B))
         → IsKept j size s k first next after (back + 1) n
-    kept-more n job width counted merges =
+    kept-more n job counted merges =
         let e = still in
         let fits = h.fits in
         let bound = h.bound in
@@ -161,7 +161,6 @@ module _ (j : JobShape) (size s k first : ℕ) where
           below = λ q at. elim (within marks p q at) [ inl same ↦ subst (λ m. m < next) (sym same) lt | inr there ↦ h.below q there ];
           came = count-more;
           job = job ∙ h.job;
-          width = width ∙ h.width;
           stands = stands-more n merges;
           few = let a = h.few in let b = few-here in let m = rows-more in omega (arith, counted, a, b, m);
           bound = omega (arith, e, bound);

@@ -13,9 +13,9 @@ use Rattle.ssb_pipeline.specs.State.{IsOfTicket, TicketState}
 one-morsel : (j : JobShape) (size i : ℕ) → rows_in j size (i ∷ []) ≡ morsel (fact_rows j) size i
 one-morsel j size i = append-nil (morsel (fact_rows j) size i)
 
-by-rows : (j : JobShape) (size i : ℕ) (g : GroupMap) → Stands g (map (seen j) (joined j (morsel (fact_rows j) size i))) → AreOneJob g.job j → g.width ≡ length j.query.aggregates
+by-rows : (j : JobShape) (size i : ℕ) (g : GroupMap) → Stands g (map (seen j) (joined j (morsel (fact_rows j) size i))) → AreOneJob g.job j
     → g.counted ≤ row_cut (fact_rows j) size (i + 1) - row_cut (fact_rows j) size i → IsOfTicket (record { ticket = record { job = j; size = size; morsel = i }; groups = g })
-by-rows j size i g stands job width few =
+by-rows j size i g stands job few =
     let from = row_cut (fact_rows j) size i in
     let end = row_cut (fact_rows j) size (i + 1) in
     record {
@@ -24,12 +24,11 @@ by-rows j size i g stands job width few =
         stands = subst (λ rs. Stands g (map (seen j) (joined j rs))) (sym (one-morsel j size i)) stands;
         few = subst (λ n. g.counted ≤ n) (sym (ap length (one-morsel j size i) ∙ length-range_with_len from (end - from))) few;
       };
-      width = width;
     }
 
 pub of-ticket : (t : TicketState) (j : JobShape) (from end : ℕ) (g : GroupMap) → t.job ≡ j → from ≡ row_cut (fact_rows j) t.size t.morsel → end ≡ row_cut (fact_rows j) t.size (t.morsel + 1)
-    → Stands g (map (seen j) (joined j (range_with_len from (end - from)))) → AreOneJob g.job j → g.width ≡ length j.query.aggregates → g.counted ≤ end - from → IsOfTicket (record { ticket = t; groups = g })
-of-ticket t j from end g one is-from is-end stands job width few =
+    → Stands g (map (seen j) (joined j (range_with_len from (end - from)))) → AreOneJob g.job j → g.counted ≤ end - from → IsOfTicket (record { ticket = t; groups = g })
+of-ticket t j from end g one is-from is-end stands job few =
     let P : JobShape → Type 0 = λ k. IsOfTicket (record { ticket = record { job = k; size = t.size; morsel = t.morsel }; groups = g }) in
     subst P (sym one)
-    (by-rows j t.size t.morsel g (rw (is-from, is-end) at stands) job width (rw (is-from, is-end) at few))
+    (by-rows j t.size t.morsel g (rw (is-from, is-end) at stands) job (rw (is-from, is-end) at few))

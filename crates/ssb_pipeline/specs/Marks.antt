@@ -22,7 +22,6 @@ pub record IsKept (j : JobShape) (size s k first next : ℕ) (marks : List Bool)
   pub below : (i : ℕ) → slice_get marks i ≡ Some true → i < next
   pub came : back ≡ length (marked first marks)
   pub job : AreOneJob g.job j
-  pub width : g.width ≡ length j.query.aggregates
   pub stands : Stands g (seen_in j size (marked first marks))
   pub few : g.counted ≤ length (rows_in j size (marked first marks))
   pub bound : first + length marks < 2 ^ 32

@@ -29,7 +29,7 @@ no_part = record {
   handed = [];
   returned = [];
   gave_up = false;
-  groups = record { job = no_job; width = 0; entries = []; overflow = None; counted = 0 };
+  groups = record { job = no_job; entries = []; overflow = None; counted = 0 };
 }
 
 -- the first pass of a queue, before a part was put

@@ -25,4 +25,3 @@ pub record AreOver (j : JobShape) (size : ℕ) (morsels : List ℕ) (g : GroupMa
 -- the groups are of the ticket's job, over its morsel
 pub record IsOfTicket (p : PartialState) : Type 0 where
   pub over : AreOver p.ticket.job p.ticket.size (p.ticket.morsel ∷ []) p.groups
-  pub width : p.groups.width ≡ length p.ticket.job.query.aggregates

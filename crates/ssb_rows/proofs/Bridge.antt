@@ -1,27 +1,23 @@
 -- What groups stand for is what SQL answers.
 use Rattle.std.proofs.Common.{◌≡◌, ◌∙◌, ◌∷◌, [], ◌||◌, ◌+◌, ◌<◌, ℕ, zero, suc, Bool, true, false, cond, is_some, List, length, map, Option, None, Some, slice_get, refl, sym, ap, ap₂, subst, true≢false, arith, inl, inr}
-use Rattle.std.specs.List.{list_any, range_with_len, All}
+use Rattle.std.specs.List.{list_any, All}
 use Rattle.std.specs.List.Sorted.{IsPermutation}
 use Rattle.std.specs.Map.{lookup}
 use Rattle.std.proofs.lemmas.Bool.{cases_Bool}
 use Rattle.std.proofs.lemmas.List.Sorted.{IsPermutation-map, IsPermutation-refl, IsPermutation-trans}
-use Rattle.std.specs.Prelude.{pos, replicate, Ok, Err}
-use Rattle.std.proofs.lemmas.Option.{slice_get_within}
+use Rattle.std.specs.Prelude.{Ok, Err}
 use Rattle.ssb_groups.proofs.Bounds.{summary_is}
 use Rattle.ssb_query.specs.declared.column.BoundColumn.{BoundColumn}
-use Rattle.ssb_trees.specs.declared.aggregate.Aggregate.TheVariants as aggregate
-use Rattle.ssb_trees.specs.declared.aggregate.SetFunction.TheVariants as function
 use Rattle.ssb_query.specs.declared.query.QueryParts.{QueryParts}
 use Rattle.ssb_query.specs.declared.query.Origin.{Origin}
 use Rattle.ssb_query.specs.declared.query.Origin.TheVariants as origin
 use Rattle.ssb_groups.specs.Rows.{Key, key_eq, SeenRow}
-use Rattle.ssb_groups.specs.Stands.{GroupMap, Stands, arguments_at, accumulated, totals, group, summary}
-use Rattle.ssb_groups.specs.Value.{Outcome}
-use Rattle.ssb_groups.specs.declared.accumulator.Accumulator.{Accumulator}
+use Rattle.ssb_groups.specs.Stands.{GroupMap, Stands, group, summary}
+use Rattle.ssb_groups.specs.Aggregates.{totals}
 use Rattle.ssb_groups.proofs.KeyFacts.{key_eq_laws}
-use Rattle.ssb_rows.specs.Entries.{Entry, entry_beyond, entry_cell, entry_row, total_cell, total_if, total_at, zeros, all_entries, IsBeyondFault}
+use Rattle.ssb_rows.specs.Entries.{Entry, entry_beyond, entry_cell, entry_row, whole_entry, entries_by, all_entries, IsBeyondFault}
 use Rattle.ssb_rows.specs.Order.{Row, IsOrdered}
-use Rattle.ssb_rows.specs.Result.{agg, agg_if, agg_at, bag, has_beyond, is_beyond, item_cell, leaves_range, row_of, present, keys, AreKeyed, Answers}
+use Rattle.ssb_rows.specs.Result.{bag, has_beyond, item_cell, leaves_range, row_of, present, keys, AreKeyed, Answers}
 use Rattle.ssb_rows.specs.declared.fault.AnswerFault.{AnswerFault}
 use Rattle.ssb_rows.specs.declared.fault.AnswerFault.TheVariants as fault
 use Rattle.ssb_rows.proofs.Members.{key-same, member, Apart, apart, distinct_apart, member_distinct, same_members}
@@ -29,48 +25,26 @@ use Rattle.ssb_trees.specs.declared.aggregate.Aggregate.{Aggregate}
 
 -- ---- the values of a group
 
-agg_is : (a : Aggregate BoundColumn) (xs : List Outcome) → total_cell a (accumulated xs) ≡ agg a xs
-agg_is aggregate.Rows xs = refl
-agg_is (aggregate.Of function.Sum e) xs = refl
-agg_is (aggregate.Of function.Count e) xs = refl
-
-get_map : (f : ℕ → Accumulator) (a n i j : ℕ) → i < n → j ≡ a + i → slice_get (map f (range_with_len a n)) i ≡ Some (f j)
-get_map f a zero i j below is = absurd (omega arith)
-get_map f a (suc n) zero j below is = let h : a ≡ j = omega arith in ap (λ x. Some (f x)) h
-get_map f a (suc n) (suc i) j below is = get_map f (a + 1) n i j (omega arith) (omega arith)
-
-at_by : (q : QueryParts) (G : List SeenRow) (i : ℕ) (o : Option (Aggregate BoundColumn)) → slice_get q.aggregates i ≡ o → total_at q (totals (length q.aggregates) G) i ≡ agg_at q G i
-at_by q G i None e = ap (λ a. total_if a (slice_get (totals (length q.aggregates) G) i)) e ∙ sym (ap (λ a. agg_if a (arguments_at i G)) e)
-at_by q G i (Some a) e =
-    let t = get_map (λ j. accumulated (arguments_at j G)) 0 (length q.aggregates) i i (slice_get_within q.aggregates i a e) (omega arith) in
-    ap₂ total_if e t ∙ agg_is a (arguments_at i G) ∙ sym (ap (λ a. agg_if a (arguments_at i G)) e)
-
-total_is : (q : QueryParts) (G : List SeenRow) (i : ℕ) → total_at q (totals (length q.aggregates) G) i ≡ agg_at q G i
-total_is q G i = at_by q G i (slice_get q.aggregates i) refl
-
-beyond_is : (q : QueryParts) (G : List SeenRow) (k : Key) → entry_beyond q (k, totals (length q.aggregates) G) ≡ has_beyond q G
-beyond_is q G k = λ j. list_any (λ i. is_beyond (total_is q G i j)) (range_with_len 0 (length q.aggregates))
-
-cell_is : (q : QueryParts) (G : List SeenRow) (k : Key) (s : Origin) → entry_cell q (k, totals (length q.aggregates) G) s ≡ item_cell q G k s
+cell_is : (q : QueryParts) (G : List SeenRow) (k : Key) (s : Origin) → entry_cell (k, totals q.aggregates G) s ≡ item_cell q G k s
 cell_is q G k (origin.Group i) = refl
-cell_is q G k (origin.Aggregate i) = total_is q G i
+cell_is q G k (origin.Aggregate i) = refl
 
-row_is : (q : QueryParts) (G : List SeenRow) (k : Key) → entry_row q (k, totals (length q.aggregates) G) ≡ row_of q G k
+row_is : (q : QueryParts) (G : List SeenRow) (k : Key) → entry_row q (k, totals q.aggregates G) ≡ row_of q G k
 row_is q G k = λ j. map (λ item. cell_is q G k item.origin j) q.items
 
 -- ---- entries with the aggregates of their groups
 
 abbrev pub AreRight : QueryParts → List SeenRow → List Entry → Type 0
 AreRight q R [] = Unit {0}
-AreRight q R (e ∷ es) = (e.1 ≡ totals (length q.aggregates) (group e.0 R)) × AreRight q R es
+AreRight q R (e ∷ es) = (e.1 ≡ totals q.aggregates (group e.0 R)) × AreRight q R es
 
 pub rows_are : (q : QueryParts) (R : List SeenRow) (es : List Entry) → AreRight q R es → map (entry_row q) es ≡ map (λ k. row_of q (group k R) k) (map (λ e. e.0) es)
 rows_are q R [] h = refl
 rows_are q R (e ∷ es) h = ap₂ (λ x xs. x ∷ xs) (ap (λ ts. entry_row q (e.0, ts)) h.0 ∙ row_is q (group e.0 R) e.0) (rows_are q R es h.1)
 
-pub beyond_are : (q : QueryParts) (R : List SeenRow) (es : List Entry) → AreRight q R es → list_any (entry_beyond q) es ≡ list_any (λ k. has_beyond q (group k R)) (map (λ e. e.0) es)
+pub beyond_are : (q : QueryParts) (R : List SeenRow) (es : List Entry) → AreRight q R es → list_any entry_beyond es ≡ list_any (λ k. has_beyond q (group k R)) (map (λ e. e.0) es)
 beyond_are q R [] h = refl
-beyond_are q R (e ∷ es) h = ap₂ (λ x y. x || y) (ap (λ ts. entry_beyond q (e.0, ts)) h.0 ∙ beyond_is q (group e.0 R) e.0) (beyond_are q R es h.1)
+beyond_are q R (e ∷ es) h = ap₂ (λ x y. x || y) (ap (λ ts. entry_beyond (e.0, ts)) h.0) (beyond_are q R es h.1)
 
 -- each entry is what is looked up at its key
 abbrev Finds : List Entry → List Entry → Type 0
@@ -91,11 +65,11 @@ finds : (es : List Entry) → Apart (map (λ e. e.0) es) → Finds es es
 finds [] h = tt
 finds (e ∷ es) h = (ap (λ b. cond b (Some e.1) (lookup (key_eq e.0) es)) (key_eq_laws.refl e.0), later e es es h.0 (finds es h.1))
 
-right : (q : QueryParts) (g : GroupMap) (R : List SeenRow) (es : List Entry) → g.width ≡ length q.aggregates → ((k : Key) → lookup (key_eq k) g.entries ≡ summary g.width (group k R)) → Finds g.entries es → AreRight q R es
+right : (q : QueryParts) (g : GroupMap) (R : List SeenRow) (es : List Entry) → g.job.query ≡ q → ((k : Key) → lookup (key_eq k) g.entries ≡ summary g.job.query.aggregates (group k R)) → Finds g.entries es → AreRight q R es
 right q g R [] w h f = tt
-right q g R (e ∷ es) w h f = (summary_is g.width (group e.0 R) e.1 (sym (h e.0) ∙ f.0) ∙ ap (λ n. totals n (group e.0 R)) w, right q g R es w h f.1)
+right q g R (e ∷ es) w h f = (summary_is g.job.query.aggregates (group e.0 R) e.1 (sym (h e.0) ∙ f.0) ∙ ap (λ (x : QueryParts). totals x.aggregates (group e.0 R)) w, right q g R es w h f.1)
 
-pub are_right : (q : QueryParts) (g : GroupMap) (R : List SeenRow) → Stands g R → g.overflow ≡ None → g.width ≡ length q.aggregates → AreRight q R g.entries
+pub are_right : (q : QueryParts) (g : GroupMap) (R : List SeenRow) → Stands g R → g.overflow ≡ None → g.job.query ≡ q → AreRight q R g.entries
 are_right q g R s none w = right q g R g.entries w (s.exact none) (finds g.entries (apart _ s.distinct))
 
 -- ---- keys
@@ -108,7 +82,7 @@ member_lookup k (e ∷ es) = by (key_eq k e.0) (member_lookup k es)
     by true h = refl
     by false h = h
 
-member_group : (w : ℕ) (k : Key) (R : List SeenRow) → member k (map (λ r. r.key) R) ≡ is_some (summary w (group k R))
+member_group : (w : List (Aggregate BoundColumn)) (k : Key) (R : List SeenRow) → member k (map (λ r. r.key) R) ≡ is_some (summary w (group k R))
 member_group w k [] = refl
 member_group w k (r ∷ R) = by (key_eq k r.key) (member_group w k R)
   where
@@ -121,17 +95,13 @@ pub same_keys : (g : GroupMap) (R : List SeenRow) → Stands g R → g.overflow 
     → IsPermutation (present R) (map (λ e. e.0) g.entries) × ((p : Key → Bool) → list_any p (present R) ≡ list_any p (map (λ e. e.0) g.entries))
 same_keys g R s none =
     same_members (present R) (map (λ e. e.0) g.entries) (distinct_apart (map (λ r. r.key) R)) (apart _ s.distinct)
-    (λ k. member_distinct k (map (λ r. r.key) R) ∙ member_group g.width k R ∙ sym (ap is_some (s.exact none k)) ∙ sym (member_lookup k g.entries))
+    (λ k. member_distinct k (map (λ r. r.key) R) ∙ member_group g.job.query.aggregates k R ∙ sym (ap is_some (s.exact none k)) ∙ sym (member_lookup k g.entries))
 
 -- ---- without GROUP BY
 
-none_summary : (w : ℕ) (G : List SeenRow) → None ≡ summary w G → G ≡ []
+none_summary : (w : List (Aggregate BoundColumn)) (G : List SeenRow) → None ≡ summary w G → G ≡ []
 none_summary w [] e = refl
 none_summary w (r ∷ rs) e = cc
-
-zeros_are : (a n : ℕ) → replicate n (record { values = 0; total = pos 0 }) ≡ map (λ i. accumulated (arguments_at i [])) (range_with_len a n)
-zeros_are a zero = refl
-zeros_are a (suc n) = ap (λ ts. record { values = 0; total = pos 0 } ∷ ts) (zeros_are (a + 1) n)
 
 no_length : (k : Key) → length k ≡ 0 → k ≡ []
 no_length [] e = refl
@@ -154,10 +124,10 @@ record AreGroups (q : QueryParts) (R : List SeenRow) (es : List Entry) : Type 0 
 itself : (q : QueryParts) (R : List SeenRow) (es : List Entry) → AreRight q R es → keys q.groups R ≡ map (λ e. e.0) es → AreGroups q R es
 itself q R es h e = record { right = h; same = subst (IsPermutation (keys q.groups R)) e (IsPermutation-refl (keys q.groups R)); any = λ p. ap (list_any p) e }
 
-whole_empty : (q : QueryParts) (g : GroupMap) (R : List SeenRow) → Stands g R → g.overflow ≡ None → g.width ≡ length q.aggregates → q.groups ≡ [] → g.entries ≡ [] → AreGroups q R (([], zeros g.width) ∷ [])
+whole_empty : (q : QueryParts) (g : GroupMap) (R : List SeenRow) → Stands g R → g.overflow ≡ None → g.job.query ≡ q → q.groups ≡ [] → g.entries ≡ [] → AreGroups q R (whole_entry q ∷ [])
 whole_empty q g R s none w no_group no_entry =
-    let nothing : group [] R ≡ [] = none_summary g.width (group [] R) (sym (ap (lookup (key_eq [])) no_entry) ∙ s.exact none []) in
-    let right : zeros g.width ≡ totals (length q.aggregates) (group [] R) = ap zeros w ∙ zeros_are 0 (length q.aggregates) ∙ sym (ap (totals (length q.aggregates)) nothing) in
+    let nothing : group [] R ≡ [] = none_summary g.job.query.aggregates (group [] R) (sym (ap (lookup (key_eq [])) no_entry) ∙ s.exact none []) in
+    let right : totals q.aggregates [] ≡ totals q.aggregates (group [] R) = sym (ap (totals q.aggregates) nothing) in
     itself q R _ (right, tt) (ap (λ xs. keys xs R) no_group)
 
 only_one : (q : QueryParts) (R : List SeenRow) (e : Entry) (es : List Entry) → AreRight q R (e ∷ es) → Apart (map (λ f. f.0) (e ∷ es)) → ((k : Key) → member k (map (λ f. f.0) (e ∷ es)) ≡ true → k ≡ []) → q.groups ≡ [] → AreGroups q R (e ∷ es)
@@ -177,11 +147,11 @@ only_one q R e (f ∷ es) h a empty no_group =
     or_first true y e = cc e
     or_first false y e = refl
 
-groups_by : (q : QueryParts) (g : GroupMap) (R : List SeenRow) → Stands g R → g.overflow ≡ None → g.width ≡ length q.aggregates → AreKeyed q R → (xs : List BoundColumn) → q.groups ≡ xs → (es : List Entry) → g.entries ≡ es → AreGroups q R (all_entries xs g.width es)
+groups_by : (q : QueryParts) (g : GroupMap) (R : List SeenRow) → Stands g R → g.overflow ≡ None → g.job.query ≡ q → AreKeyed q R → (xs : List BoundColumn) → q.groups ≡ xs → (es : List Entry) → g.entries ≡ es → AreGroups q R (entries_by q xs es)
 groups_by q g R s none w keyed [] no_group [] no_entry = whole_empty q g R s none w no_group no_entry
 groups_by q g R s none w keyed [] no_group (e ∷ es) is =
     only_one q R e es (subst (AreRight q R) is (are_right q g R s none w)) (subst (λ es. Apart (map (λ f. f.0) es)) is (apart _ s.distinct))
-    (λ k m. empty_key k R (λ i d below. keyed i d below ∙ ap length no_group) (member_group g.width k R ∙ sym (ap is_some (s.exact none k)) ∙ sym (member_lookup k g.entries) ∙ ap (λ es. member k (map (λ f. f.0) es)) is ∙ m)) no_group
+    (λ k m. empty_key k R (λ i d below. keyed i d below ∙ ap length no_group) (member_group g.job.query.aggregates k R ∙ sym (ap is_some (s.exact none k)) ∙ sym (member_lookup k g.entries) ∙ ap (λ es. member k (map (λ f. f.0) es)) is ∙ m)) no_group
 groups_by q g R s none w keyed (x ∷ xs) some es is =
     let k = same_keys g R s none in
     let these : keys q.groups R ≡ present R = ap (λ ys. keys ys R) some in
@@ -196,12 +166,12 @@ groups_by q g R s none w keyed (x ∷ xs) some es is =
 bag_of : (q : QueryParts) (R : List SeenRow) (es : List Entry) → AreGroups q R es → IsPermutation (bag q R) (map (entry_row q) es)
 bag_of q R es h = subst (IsPermutation (bag q R)) (sym (rows_are q R es h.right)) (IsPermutation-map (λ k. row_of q (group k R) k) _ _ h.same)
 
-leaves_of : (q : QueryParts) (R : List SeenRow) (es : List Entry) → AreGroups q R es → leaves_range q R ≡ list_any (entry_beyond q) es
+leaves_of : (q : QueryParts) (R : List SeenRow) (es : List Entry) → AreGroups q R es → leaves_range q R ≡ list_any entry_beyond es
 leaves_of q R es h = h.any (λ k. has_beyond q (group k R)) ∙ sym (beyond_are q R es h.right)
 
 -- the rows of the entries, put in order, are the answer
-pub ordered : (q : QueryParts) (g : GroupMap) (R : List SeenRow) (found rows : List Row) → Stands g R → g.overflow ≡ None → g.width ≡ length q.aggregates → AreKeyed q R
-    → list_any (entry_beyond q) (all_entries q.groups g.width g.entries) ≡ false → found ≡ map (entry_row q) (all_entries q.groups g.width g.entries) → IsOrdered q.orders found rows
+pub ordered : (q : QueryParts) (g : GroupMap) (R : List SeenRow) (found rows : List Row) → Stands g R → g.overflow ≡ None → g.job.query ≡ q → AreKeyed q R
+    → list_any entry_beyond (all_entries q g.entries) ≡ false → found ≡ map (entry_row q) (all_entries q g.entries) → IsOrdered q.orders found rows
     → Answers q R (Ok rows)
 ordered q g R found rows s none w keyed fine is o =
     let h = groups_by q g R s none w keyed q.groups refl g.entries refl in (
@@ -211,8 +181,8 @@ ordered q g R found rows s none w keyed fine is o =
     )
 
 -- where an entry is beyond the range, that is the answer
-pub refused : (q : QueryParts) (g : GroupMap) (R : List SeenRow) (f : AnswerFault) → Stands g R → g.overflow ≡ None → g.width ≡ length q.aggregates → AreKeyed q R
-    → IsBeyondFault (list_any (entry_beyond q) (all_entries q.groups g.width g.entries)) f → Answers q R (Err f)
+pub refused : (q : QueryParts) (g : GroupMap) (R : List SeenRow) (f : AnswerFault) → Stands g R → g.overflow ≡ None → g.job.query ≡ q → AreKeyed q R
+    → IsBeyondFault (list_any entry_beyond (all_entries q g.entries)) f → Answers q R (Err f)
 refused q g R (fault.RowOverflow n) s none w keyed h = absurd h
 refused q g R fault.SumOutOfRange s none w keyed h = (sym s.overflow ∙ none, leaves_of q R _ (groups_by q g R s none w keyed q.groups refl g.entries refl) ∙ h)
 refused q g R fault.Memory s none w keyed h = tt

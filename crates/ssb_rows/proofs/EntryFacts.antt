@@ -1,47 +1,40 @@
 -- Rows of entries, one after another.
-use Rattle.std.proofs.Common.{◌≡◌, ◌∙◌, ◌++◌, ◌∷◌, [], ◌||◌, ◌+◌, ◌<◌, ◌≤◌, ℕ, zero, suc, Bool, false, List, length, map, drop, None, Some, Ok, Err, slice_get, refl, sym, ap, subst, arith, append_assoc}
-use Rattle.std.specs.List.{list_any, range_with_len}
-use Rattle.std.proofs.lemmas.Bool.{or_parts}
+use Rattle.std.proofs.Common.{◌≡◌, ◌∙◌, ◌++◌, ◌∷◌, [], ◌||◌, ◌+◌, ◌<◌, ℕ, zero, suc, nat_lt, Bool, true, false, List, length, map, drop, get_or, Some, Ok, Err, slice_get, refl, sym, ap, subst, arith, append_assoc}
+use Rattle.std.specs.List.{list_any}
+use Rattle.std.specs.Prelude.{option_map, unwrap_or}
+use Rattle.std.proofs.lemmas.Bool.{ltb-false, ltb-true, or_parts}
+use Rattle.std.proofs.lemmas.List.{drop_more, length-map}
+use Rattle.std.proofs.lemmas.Option.{slice_get-get_or, slice_get-map, slice_get_past}
 use Rattle.ssb_query.specs.declared.query.QueryParts.{QueryParts}
-use Rattle.ssb_groups.specs.declared.accumulator.Accumulator.{Accumulator}
-use Rattle.ssb_rows.specs.Entries.{Entry, entry_beyond, entry_row, total_if, total_at, IsBeyondFault, JudgesEntry}
+use Rattle.ssb_cells.specs.Cell.{Cell, null}
+use Rattle.ssb_groups.specs.Totals.{total_cell}
+use Rattle.ssb_groups.specs.declared.totals.Total.{Total}
+use Rattle.ssb_rows.specs.Entries.{Entry, entry_beyond, entry_row, IsBeyondFault, JudgesEntry}
 use Rattle.ssb_rows.specs.Order.{Row}
-use Rattle.ssb_rows.specs.Result.{is_beyond}
+use Rattle.ssb_rows.specs.Result.{at_or_null, is_beyond}
 use Rattle.ssb_rows.specs.declared.fault.AnswerFault.{AnswerFault}
 use Rattle.ssb_rows.specs.declared.fault.AnswerFault.TheVariants as fault
-use Rattle.ssb_query.specs.declared.column.BoundColumn.{BoundColumn}
-use Rattle.ssb_trees.specs.declared.aggregate.Aggregate.{Aggregate}
 
-none_in_range : (p : ℕ → Bool) (a n : ℕ) → list_any p (range_with_len a n) ≡ false → (i j : ℕ) → i < n → j ≡ a + i → p j ≡ false
-none_in_range p a zero e i j below is = absurd (omega arith)
-none_in_range p a (suc n) e zero j below is = let h : j ≡ a = omega arith in rw h (or_parts (p a) (list_any p (range_with_len (a + 1) n)) e).0
-none_in_range p a (suc n) e (suc i) j below is = none_in_range p (a + 1) n (or_parts (p a) (list_any p (range_with_len (a + 1) n)) e).1 i j (omega arith) (omega arith)
+-- none of some values leaves the range
+pub not_beyond_at : (cells : List Cell) (i : ℕ) → list_any is_beyond cells ≡ false → is_beyond (at_or_null cells i) ≡ false
+not_beyond_at [] i e = refl
+not_beyond_at (c ∷ cs) zero e = (or_parts (is_beyond c) (list_any is_beyond cs) e).0
+not_beyond_at (c ∷ cs) (suc i) e = not_beyond_at cs i (or_parts (is_beyond c) (list_any is_beyond cs) e).1
 
-past : (xs : List (Aggregate BoundColumn)) (i : ℕ) → length xs ≤ i → slice_get xs i ≡ None
-past [] i h = refl
-past (x ∷ xs) zero h = absurd (omega arith)
-past (x ∷ xs) (suc i) h = past xs i (omega arith)
+-- the value of an aggregate at a place, and behind them all
+pub total-here : (ts : List Total) (i : ℕ) (t : Total) → true ≡ nat_lt i (length ts) → t ≡ get_or ts i t → at_or_null (map total_cell ts) i ≡ total_cell t
+total-here ts i t below is =
+    ap (λ o. unwrap_or o null) (slice_get-map total_cell ts i ∙ ap (option_map total_cell) (slice_get-get_or ts i t (ltb-true i (length ts) (sym below)))) ∙ ap total_cell (sym is)
 
-data Side (i n : ℕ) : Type 0 where
-  inside : i < n → Side i n
-  beyond : n ≤ i → Side i n
+pub total-past : (ts : List Total) (i : ℕ) → false ≡ nat_lt i (length ts) → null ≡ at_or_null (map total_cell ts) i
+total-past ts i past =
+    let m = length-map ts total_cell in
+    let h = ltb-false i (length ts) (sym past) in
+    sym (ap (λ o. unwrap_or o null) (slice_get_past (map total_cell ts) i (omega (arith, m, h))))
 
-side : (i n : ℕ) → Side i n
-side i zero = beyond (omega arith)
-side zero (suc n) = inside (omega arith)
-side (suc i) (suc n) = more i n (side i n)
-  where
-    more : (i n : ℕ) → Side i n → Side (suc i) (suc n)
-    more i n (inside h) = inside (omega arith)
-    more i n (beyond h) = beyond (omega arith)
-
-not_beyond_by : (q : QueryParts) (ts : List Accumulator) (i : ℕ) → Side i (length q.aggregates) → list_any (λ j. is_beyond (total_at q ts j)) (range_with_len 0 (length q.aggregates)) ≡ false → is_beyond (total_at q ts i) ≡ false
-not_beyond_by q ts i (inside h) e = none_in_range (λ j. is_beyond (total_at q ts j)) 0 (length q.aggregates) e i i h (omega arith)
-not_beyond_by q ts i (beyond h) e = ap (λ a. is_beyond (total_if a (slice_get ts i))) (past q.aggregates i h)
-
--- no aggregate of an entry leaves the range
-pub not_beyond_at : (q : QueryParts) (e : Entry) (i : ℕ) → entry_beyond q e ≡ false → is_beyond (total_at q e.1 i) ≡ false
-not_beyond_at q e i h = not_beyond_by q e.1 i (side i (length q.aggregates)) h
+-- one of some values leaves the range, or those behind it decide
+pub beyond-here : (ts : List Total) (i : ℕ) (d : Total) → i < length ts → list_any is_beyond (map total_cell (drop i ts)) ≡ (is_beyond (total_cell (get_or ts i d)) || list_any is_beyond (map total_cell (drop (i + 1) ts)))
+beyond-here ts i d below = ap (λ xs. list_any is_beyond (map total_cell xs)) (drop_more ts i d below)
 
 -- the entry at a place, and those behind it
 entry_at : (es : List Entry) (at next : ℕ) → next ≡ at + 1 → at < length es → (e : Entry) × (slice_get es at ≡ Some e) × (drop at es ≡ e ∷ drop next es)
@@ -51,26 +44,26 @@ entry_at (e ∷ es) zero (suc next) is h = let z : next ≡ 0 = omega arith in (
 entry_at (e ∷ es) (suc at) zero is h = absurd (omega arith)
 entry_at (e ∷ es) (suc at) (suc next) is h = let r = entry_at es at next (omega arith) (omega arith) in (r.0, r.1, r.2)
 
-beyond_here : (q : QueryParts) (e : Entry) (rest whole : Bool) (f : AnswerFault) → (entry_beyond q e || rest) ≡ whole → IsBeyondFault (entry_beyond q e) f → IsBeyondFault whole f
+beyond_here : (q : QueryParts) (e : Entry) (rest whole : Bool) (f : AnswerFault) → (entry_beyond e || rest) ≡ whole → IsBeyondFault (entry_beyond e) f → IsBeyondFault whole f
 beyond_here q e rest whole (fault.RowOverflow n) is h = h
 beyond_here q e rest whole fault.SumOutOfRange is h = sym is ∙ ap (λ b. b || rest) h
 beyond_here q e rest whole fault.Memory is h = h
 beyond_here q e rest whole fault.Write is h = h
 
-pub stops : (q : QueryParts) (es : List Entry) (at : ℕ) (f : AnswerFault) → at < length es → list_any (entry_beyond q) (drop at es) ≡ list_any (entry_beyond q) es → JudgesEntry q (slice_get es at) (Err f) → IsBeyondFault (list_any (entry_beyond q) es) f
+pub stops : (q : QueryParts) (es : List Entry) (at : ℕ) (f : AnswerFault) → at < length es → list_any entry_beyond (drop at es) ≡ list_any entry_beyond es → JudgesEntry q (slice_get es at) (Err f) → IsBeyondFault (list_any entry_beyond es) f
 stops q es at f below so_far h =
     let r = entry_at es at (at + 1) refl below in
-    beyond_here q r.0 (list_any (entry_beyond q) (drop (at + 1) es)) _ f (sym (ap (list_any (entry_beyond q)) r.2) ∙ so_far) (subst (λ o. JudgesEntry q o (Err f)) r.1 h)
+    beyond_here q r.0 (list_any entry_beyond (drop (at + 1) es)) _ f (sym (ap (list_any entry_beyond) r.2) ∙ so_far) (subst (λ o. JudgesEntry q o (Err f)) r.1 h)
 
 abbrev Rows : QueryParts → List Entry → List Row → ℕ → Type 0
-Rows q es rows at = (list_any (entry_beyond q) (drop at es) ≡ list_any (entry_beyond q) es) × (rows ++ map (entry_row q) (drop at es) ≡ map (entry_row q) es)
+Rows q es rows at = (list_any entry_beyond (drop at es) ≡ list_any entry_beyond es) × (rows ++ map (entry_row q) (drop at es) ≡ map (entry_row q) es)
 
-pub goes : (q : QueryParts) (es : List Entry) (at : ℕ) (row : Row) (rows more : List Row) → at < length es → (list_any (entry_beyond q) (drop at es) ≡ list_any (entry_beyond q) es) × (rows ++ map (entry_row q) (drop at es) ≡ map (entry_row q) es)
+pub goes : (q : QueryParts) (es : List Entry) (at : ℕ) (row : Row) (rows more : List Row) → at < length es → (list_any entry_beyond (drop at es) ≡ list_any entry_beyond es) × (rows ++ map (entry_row q) (drop at es) ≡ map (entry_row q) es)
     → JudgesEntry q (slice_get es at) (Ok row) → more ≡ rows ++ row ∷ []
-    → (list_any (entry_beyond q) (drop (at + 1) es) ≡ list_any (entry_beyond q) es) × (more ++ map (entry_row q) (drop (at + 1) es) ≡ map (entry_row q) es)
+    → (list_any entry_beyond (drop (at + 1) es) ≡ list_any entry_beyond es) × (more ++ map (entry_row q) (drop (at + 1) es) ≡ map (entry_row q) es)
 goes q es at row rows more below so_far h is =
     let r = entry_at es at (at + 1) refl below in
     let (fine, same) = subst (λ o. JudgesEntry q o (Ok row)) r.1 h in (
-      sym (ap (λ b. b || list_any (entry_beyond q) (drop (at + 1) es)) fine) ∙ sym (ap (list_any (entry_beyond q)) r.2) ∙ so_far.0,
+      sym (ap (λ b. b || list_any entry_beyond (drop (at + 1) es)) fine) ∙ sym (ap (list_any entry_beyond) r.2) ∙ so_far.0,
       ap (λ rs. rs ++ map (entry_row q) (drop (at + 1) es)) is ∙ append_assoc rows (row ∷ []) (map (entry_row q) (drop (at + 1) es)) ∙ ap (λ x. rows ++ x ∷ map (entry_row q) (drop (at + 1) es)) same ∙ sym (ap (λ xs. rows ++ map (entry_row q) xs) r.2) ∙ so_far.1,
     )

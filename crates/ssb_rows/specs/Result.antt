@@ -1,22 +1,20 @@
 -- What a query answers of the rows that WHERE keeps: a row for each group, or the overflow.
 -- Source: SQL-92, 6.5 <set function specification>, 7.7 <group by clause>, 7.9 <query specification>; that an overflow of a row goes before one of a
 -- sum, and that only the exact sum has a range, are this project's own.
-use Rattle.std.specs.Prelude.{◌≡◌, ℕ, ◌==◌, pos, Bool, true, false, not, if◌then◌else◌, List, [], ◌∷◌, map, length, Option, None, Some, Result, Ok, Err, slice_get, unwrap_or, ⊤, All}
-use Rattle.std.specs.List.{filter, list_any, range_with_len}
+use Rattle.std.specs.Prelude.{◌≡◌, ℕ, Bool, true, false, not, List, [], ◌∷◌, map, length, Option, None, Some, Result, Ok, Err, slice_get, unwrap_or, ⊤, All}
+use Rattle.std.specs.List.{filter, list_any}
 use Rattle.ssb_cells.specs.Cell.{Cell, null, number, text}
 use Rattle.ssb_query.specs.declared.column.BoundColumn.{BoundColumn}
-use Rattle.ssb_trees.specs.declared.aggregate.Aggregate.TheVariants as aggregate
-use Rattle.ssb_trees.specs.declared.aggregate.SetFunction.TheVariants as function
 use Rattle.ssb_query.specs.declared.query.QueryParts.{QueryParts}
 use Rattle.ssb_query.specs.declared.query.Origin.{Origin}
 use Rattle.ssb_query.specs.declared.query.Origin.TheVariants as origin
+use Rattle.ssb_groups.specs.Aggregates.{totals}
 use Rattle.ssb_groups.specs.Rows.{Key, key_eq, SeenRow}
-use Rattle.ssb_groups.specs.Stands.{overflows, least, value_count, exact_sum, arguments_at, group}
-use Rattle.ssb_groups.specs.Value.{Outcome, in_range}
+use Rattle.ssb_groups.specs.Stands.{overflows, least, group}
+use Rattle.ssb_groups.specs.Value.{in_range}
 use Rattle.ssb_rows.specs.Order.{Row, IsOrdered}
 use Rattle.ssb_rows.specs.declared.fault.AnswerFault.{AnswerFault}
 use Rattle.ssb_rows.specs.declared.fault.AnswerFault.TheVariants as fault
-use Rattle.ssb_trees.specs.declared.aggregate.Aggregate.{Aggregate}
 
 -- ---- groups
 
@@ -36,28 +34,14 @@ keys (x ∷ xs) R = present R
 
 -- ---- aggregates
 
--- the value of an aggregate over its argument's values: SUM is null over no value, else the exact sum; COUNT counts values
-abbrev pub agg : Aggregate BoundColumn → List Outcome → Cell
-agg aggregate.Rows xs = number (pos (value_count xs))
-agg (aggregate.Of function.Sum e) xs = if value_count xs == 0 then null else number (exact_sum xs)
-agg (aggregate.Of function.Count e) xs = number (pos (value_count xs))
-
-abbrev pub agg_if : Option (Aggregate BoundColumn) → List Outcome → Cell
-agg_if None xs = null
-agg_if (Some a) xs = agg a xs
-
--- the i-th aggregate of a group
-abbrev pub agg_at : QueryParts → List SeenRow → ℕ → Cell
-agg_at q G i = agg_if (slice_get q.aggregates i) (arguments_at i G)
-
--- a value is beyond the range of an `int`; a COUNT of fewer than 2^63 rows is not
+-- a value is beyond the range of an `int`; a COUNT of fewer than 2^63 rows is not, nor is the least or greatest of values in it
 abbrev pub is_beyond : Cell → Bool
 is_beyond null = false
 is_beyond (number n) = not (in_range n)
 is_beyond (text t) = false
 
 abbrev pub has_beyond : QueryParts → List SeenRow → Bool
-has_beyond q G = list_any (λ i. is_beyond (agg_at q G i)) (range_with_len 0 (length q.aggregates))
+has_beyond q G = list_any is_beyond (totals q.aggregates G)
 
 -- some sum of a group leaves the range
 abbrev pub leaves_range : QueryParts → List SeenRow → Bool
@@ -65,9 +49,14 @@ leaves_range q R = list_any (λ k. has_beyond q (group k R)) (keys q.groups R)
 
 -- ---- rows
 
+-- the value at a place, from 0
+abbrev pub at_or_null : List Cell → ℕ → Cell
+at_or_null cells i = unwrap_or (slice_get cells i) null
+
+-- a value of a group's row: one of its key, or one of its aggregates
 abbrev pub item_cell : QueryParts → List SeenRow → Key → Origin → Cell
-item_cell q G k (origin.Group i) = unwrap_or (slice_get k i) null
-item_cell q G k (origin.Aggregate i) = agg_at q G i
+item_cell q G k (origin.Group i) = at_or_null k i
+item_cell q G k (origin.Aggregate i) = at_or_null (totals q.aggregates G) i
 
 -- the row of a group
 abbrev pub row_of : QueryParts → List SeenRow → Key → Row

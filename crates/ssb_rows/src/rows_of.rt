@@ -1,54 +1,44 @@
 // From groups to the rows of an answer.
 
-ghost use Rattle.std.specs.Prelude.{◌≡◌, ◌<◌, IfOk, IfErr, List, true, false, length, map, slice_get, unwrap_or};
-ghost use Rattle.std.specs.List.{list_any, range_with_len};
+ghost use Rattle.std.specs.Prelude.{◌≡◌, ◌<◌, ◌∷◌, [], IfOk, IfErr, List, true, false, length, map, slice_get};
+ghost use Rattle.std.specs.List.{list_any};
 ghost use Rattle.ssb_cells.specs.Cell as Cell;
 ghost use Rattle.ssb_cells.specs.Values.{cell_of, owned_cell};
 ghost use Rattle.ssb_groups.specs.Rows.{SeenRow};
 ghost use Rattle.ssb_groups.specs.Stands.{Stands};
+ghost use Rattle.ssb_groups.specs.Totals.{total_cell};
 ghost use Rattle.ssb_groups.specs.Value.{in_range};
 ghost use Rattle.ssb_rows.specs.Entries as spec;
-ghost use Rattle.ssb_rows.specs.Result.{Answers, AreKeyed, is_beyond};
+ghost use Rattle.ssb_rows.specs.Result.{Answers, AreKeyed, at_or_null, is_beyond};
 
 use crate::answer::{Answer, AnswerRow};
 use crate::fault::AnswerFault;
 use crate::order::sort_rows;
 use ssb_cells::{OwnedValue, Value};
-use ssb_groups::{Accumulator, Groups, Totals};
-use ssb_query::{BoundColumn, Origin, Query, QueryParts};
-use ssb_trees::{Aggregate, SetFunction};
+use ssb_groups::{Group, Groups, Total, over_no_row};
+use ssb_query::{Origin, Query, QueryParts};
 use std::alloc::{AllocError, Global};
 
-fn is_in_range(number: i128) -> bool
-    ensures { result ≡ in_range number }
-{
-    i64::try_from(number).is_ok()
-}
-
 // Whether the value of an aggregate leaves 64 bits.
-fn is_beyond(aggregate: &Aggregate<BoundColumn>, total: Accumulator) -> bool
-    ensures { result ≡ is_beyond (spec.total_cell aggregate.now total) }
+fn is_beyond(total: &Total<'_>) -> bool
+    ensures { result ≡ is_beyond (total_cell total.now) }
 {
-    match aggregate {
-        Aggregate::Of(SetFunction::Sum, _) => total.values > 0 && !is_in_range(total.total),
-        _ => !is_in_range(i128::from(total.values)),
-    }
-}
-
-fn is_beyond_at(parts: &QueryParts, totals: &[Accumulator], at: usize) -> bool
-    ensures { result ≡ is_beyond (spec.total_at parts.now totals.now at) }
-{
-    match (parts.aggregates.as_slice().get(at), totals.get(at)) {
-        (Some(aggregate), Some(total)) => is_beyond(aggregate, *total),
-        _ => false,
+    match total {
+        Total::Number(number) => i64::try_from(*number).is_err(),
+        Total::Null | Total::Text(_) => false,
     }
 }
 
 // Whether some aggregate of a group leaves 64 bits.
-fn has_beyond(parts: &QueryParts, totals: &[Accumulator]) -> bool
-    ensures { result ≡ list_any (λ i. is_beyond (spec.total_at parts.now totals.now i)) (range_with_len 0 (length parts.now.aggregates)) }
+fn has_beyond(totals: &[Total<'_>]) -> bool
+    ensures { result ≡ list_any is_beyond (map total_cell totals.now) }
 {
-    (0..parts.aggregates.len()).any(|at| is_beyond_at(parts, totals, at))
+    for total in totals {
+        if is_beyond(total) {
+            return true;
+        }
+    }
+    false
 }
 
 fn number_value(number: i128) -> OwnedValue
@@ -61,34 +51,29 @@ fn number_value(number: i128) -> OwnedValue
 }
 
 // The value of an aggregate that does not leave 64 bits.
-fn total_value(aggregate: &Aggregate<BoundColumn>, total: Accumulator) -> OwnedValue
-    requires { is_beyond (spec.total_cell aggregate.now total) ≡ false }
-    ensures { owned_cell result ≡ spec.total_cell aggregate.now total }
+fn total_value(alloc: Global, total: &Total<'_>) -> Result<OwnedValue, AllocError>
+    requires { is_beyond (total_cell total.now) ≡ false }
+    ensures { IfOk result (λ v. owned_cell v ≡ total_cell total.now) }
 {
-    match aggregate {
-        Aggregate::Of(SetFunction::Sum, _) => {
-            if total.values == 0 {
-                OwnedValue::Null
-            } else {
-                number_value(total.total)
-            }
-        }
-        _ => number_value(i128::from(total.values)),
+    match total {
+        Total::Null => Ok(OwnedValue::Null),
+        Total::Number(number) => Ok(number_value(*number)),
+        Total::Text(text) => OwnedValue::of(alloc, Value::Text(*text)),
     }
 }
 
-fn total_value_at(parts: &QueryParts, totals: &[Accumulator], at: usize) -> OwnedValue
-    requires { is_beyond (spec.total_at parts.now totals.now at) ≡ false }
-    ensures { owned_cell result ≡ spec.total_at parts.now totals.now at }
+fn total_value_at(alloc: Global, totals: &[Total<'_>], at: usize) -> Result<OwnedValue, AllocError>
+    requires { list_any is_beyond (map total_cell totals.now) ≡ false }
+    ensures { IfOk result (λ v. owned_cell v ≡ at_or_null (map total_cell totals.now) at) }
 {
-    match (parts.aggregates.as_slice().get(at), totals.get(at)) {
-        (Some(aggregate), Some(total)) => total_value(aggregate, *total),
-        _ => OwnedValue::Null,
+    match totals.get(at) {
+        Some(total) => total_value(alloc, total),
+        None => Ok(OwnedValue::Null),
     }
 }
 
 fn key_value_at(alloc: Global, key: &[Value<'_>], at: usize) -> Result<OwnedValue, AllocError>
-    ensures { IfOk result (λ v. owned_cell v ≡ unwrap_or (slice_get (map cell_of key.now) at) Cell.null) }
+    ensures { IfOk result (λ v. owned_cell v ≡ at_or_null (map cell_of key.now) at) }
 {
     match key.get(at) {
         Some(value) => OwnedValue::of(alloc, *value),
@@ -96,50 +81,42 @@ fn key_value_at(alloc: Global, key: &[Value<'_>], at: usize) -> Result<OwnedValu
     }
 }
 
-// A group: the values of its key, and its totals.
-#[derive(Clone, Copy)]
-struct Entry<'a> {
-    key: &'a [Value<'a>],
-    totals: &'a [Accumulator],
-}
-
 // A value of a group's row.
-fn item_value(
-    alloc: Global,
-    parts: &QueryParts,
-    entry: Entry<'_>,
-    origin: Origin,
-) -> Result<OwnedValue, AllocError>
-    requires { spec.entry_beyond parts.now (spec.seen entry) ≡ false }
-    ensures { IfOk result (λ v. owned_cell v ≡ spec.entry_cell parts.now (spec.seen entry.entry) origin) }
+fn item_value(alloc: Global, group: &Group<'_>, origin: Origin) -> Result<OwnedValue, AllocError>
+    requires { spec.entry_beyond (spec.seen group.now) ≡ false }
+    ensures { IfOk result (λ v. owned_cell v ≡ spec.entry_cell (spec.seen group.now) origin) }
 {
     match origin {
-        Origin::Group(at) => key_value_at(alloc, entry.key, at),
-        Origin::Aggregate(at) => Ok(total_value_at(parts, entry.totals, at)),
+        Origin::Group(at) => key_value_at(alloc, group.key.as_slice(), at),
+        Origin::Aggregate(at) => total_value_at(alloc, group.totals.as_slice(), at),
     }
 }
 
 // The row of a group.
-fn entry_row(alloc: Global, parts: &QueryParts, entry: Entry<'_>) -> Result<AnswerRow, AllocError>
-    requires { spec.entry_beyond parts.now (spec.seen entry) ≡ false }
-    ensures { IfOk result (λ row. row ≡ spec.entry_row parts.now (spec.seen entry.entry)) }
+fn entry_row(alloc: Global, parts: &QueryParts, group: &Group<'_>) -> Result<AnswerRow, AllocError>
+    requires { spec.entry_beyond (spec.seen group.now) ≡ false }
+    ensures { IfOk result (λ row. row ≡ spec.entry_row parts.now (spec.seen group.now)) }
 {
     let mut fields = Vec::with_capacity(alloc, parts.items.len())?;
     for item in parts.items.as_slice() {
-        fields.push(item_value(alloc, parts, entry, item.origin)?)?;
+        fields.push(item_value(alloc, group, item.origin)?)?;
     }
     Ok(AnswerRow::new(fields))
 }
 
 // The row of a group, if no aggregate leaves 64 bits.
-fn judged_row(alloc: Global, parts: &QueryParts, entry: Entry<'_>) -> Result<AnswerRow, AnswerFault>
-    ensures ok { IfOk result (λ row. (spec.entry_beyond parts.now (spec.seen entry.entry) ≡ false) × (row ≡ spec.entry_row parts.now (spec.seen entry.entry))) }
-    ensures err { IfErr result (spec.IsBeyondFault (spec.entry_beyond parts.now (spec.seen entry.entry))) }
+fn judged_row(
+    alloc: Global,
+    parts: &QueryParts,
+    group: &Group<'_>,
+) -> Result<AnswerRow, AnswerFault>
+    ensures ok { IfOk result (λ row. (spec.entry_beyond (spec.seen group.now) ≡ false) × (row ≡ spec.entry_row parts.now (spec.seen group.now))) }
+    ensures err { IfErr result (spec.IsBeyondFault (spec.entry_beyond (spec.seen group.now))) }
 {
-    if has_beyond(parts, entry.totals) {
+    if has_beyond(group.totals.as_slice()) {
         return Err(AnswerFault::SumOutOfRange);
     }
-    match entry_row(alloc, parts, entry) {
+    match entry_row(alloc, parts, group) {
         Ok(row) => Ok(row),
         Err(_) => Err(AnswerFault::Memory),
     }
@@ -154,14 +131,10 @@ fn group_row(
     requires { at < length groups.now.entries }
     ensures { spec.JudgesEntry parts.now (slice_get groups.now.entries at) result }
 {
-    let Ok((key, totals)) = groups.group(alloc, at) else {
+    let Ok(group) = groups.group(alloc, at) else {
         return Err(AnswerFault::Memory);
     };
-    let entry = Entry {
-        key: &key,
-        totals: totals.as_slice(),
-    };
-    judged_row(alloc, parts, entry)
+    judged_row(alloc, parts, &group)
 }
 
 // The rows of all groups, in no order.
@@ -171,7 +144,7 @@ fn group_rows(
     groups: &Groups,
 ) -> Result<Vec<AnswerRow>, AnswerFault>
     ensures ok { IfOk result (λ rows. spec.AreRowsOf parts.now groups.now.entries rows.items) }
-    ensures err { IfErr result (spec.IsFaultOf parts.now groups.now.entries) }
+    ensures err { IfErr result (spec.IsFaultOf groups.now.entries) }
 {
     let mut rows = Vec::new(alloc);
     for at in 0..groups.group_count() {
@@ -187,28 +160,25 @@ fn group_rows(
     Ok(rows)
 }
 
-fn zeros(alloc: Global, width: usize) -> Result<Vec<Accumulator>, AllocError>
-    ensures { IfOk result (λ totals. totals.items ≡ spec.zeros width) }
+// The whole as one group over no row.
+fn whole<'a>(alloc: Global, parts: &QueryParts) -> Result<Group<'a>, AllocError>
+    ensures { IfOk result (λ g. spec.seen g ≡ spec.whole_entry parts.now) }
 {
-    vec![in alloc; Accumulator {
-        values: 0,
-        total: 0,
-    }; width]
+    Ok(Group {
+        key: Vec::new(alloc),
+        totals: over_no_row(alloc, parts.aggregates.as_slice())?,
+    })
 }
 
 // The one row of a query without GROUP BY over no row.
-fn whole_row(alloc: Global, parts: &QueryParts, width: usize) -> Result<Vec<AnswerRow>, AnswerFault>
-    ensures ok { IfOk result (λ rows. spec.AreRowsOf parts.now (spec.whole_entry width) rows.items) }
-    ensures err { IfErr result (spec.IsFaultOf parts.now (spec.whole_entry width)) }
+fn whole_row(alloc: Global, parts: &QueryParts) -> Result<Vec<AnswerRow>, AnswerFault>
+    ensures ok { IfOk result (λ rows. spec.AreRowsOf parts.now (spec.whole_entry parts.now ∷ []) rows.items) }
+    ensures err { IfErr result (spec.IsFaultOf (spec.whole_entry parts.now ∷ [])) }
 {
-    let Ok(totals) = zeros(alloc, width) else {
+    let Ok(group) = whole(alloc, parts) else {
         return Err(AnswerFault::Memory);
     };
-    let entry = Entry {
-        key: &[],
-        totals: totals.as_slice(),
-    };
-    let row = match judged_row(alloc, parts, entry) {
+    let row = match judged_row(alloc, parts, &group) {
         Ok(row) => row,
         Err(fault) => return Err(fault),
     };
@@ -225,17 +195,17 @@ fn all_rows(
     parts: &QueryParts,
     groups: &Groups,
 ) -> Result<Vec<AnswerRow>, AnswerFault>
-    ensures ok { IfOk result (λ rows. spec.AreRowsOf parts.now (spec.all_entries parts.now.groups groups.now.width groups.now.entries) rows.items) }
-    ensures err { IfErr result (spec.IsFaultOf parts.now (spec.all_entries parts.now.groups groups.now.width groups.now.entries)) }
+    ensures ok { IfOk result (λ rows. spec.AreRowsOf parts.now (spec.all_entries parts.now groups.now.entries) rows.items) }
+    ensures err { IfErr result (spec.IsFaultOf (spec.all_entries parts.now groups.now.entries)) }
 {
     if parts.groups.is_empty() && groups.group_count() == 0 {
-        return whole_row(alloc, parts, groups.width());
+        return whole_row(alloc, parts);
     }
     group_rows(alloc, parts, groups)
 }
 
 fn answer_of(alloc: Global, parts: &QueryParts, groups: &Groups) -> Result<Answer, AnswerFault>
-    requires { groups.now.width ≡ length parts.now.aggregates }
+    requires { groups.now.job.query ≡ parts.now }
     ensures { (R : List SeenRow) → Stands groups.now R → AreKeyed parts.now R → Answers parts.now R result }
 {
     if let Some(fact) = groups.overflow() {
@@ -261,7 +231,5 @@ pub fn rows(alloc: Global, groups: Groups, query: &Query) -> Result<Answer, Answ
     requires { groups.job.query ≡ query.now }
     ensures { (R : List SeenRow) → Stands groups R → AreKeyed query.now R → Answers query.now R result }
 {
-    // A reminder to the prover that groups have as many aggregates as their job's query.
-    let _width = groups.width();
     answer_of(alloc, query.parts(), &groups)
 }

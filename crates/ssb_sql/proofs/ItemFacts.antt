@@ -1,5 +1,5 @@
 -- Items of the select list and keys of ORDER BY are read exactly.
-use Rattle.std.proofs.Common.{◌≡◌, ℕ, zero, suc, true, false, List, ◌∷◌, Option, Some, None, sym, ap, subst, ◌∙◌, arith, inl, inr}
+use Rattle.std.proofs.Common.{◌≡◌, ℕ, zero, suc, true, false, List, ◌∷◌, Option, Some, None, refl, sym, ap, subst, ◌∙◌, arith, inl, inr}
 use Rattle.ssb_sql.specs.declared.token.Token.{Token}
 use Rattle.ssb_sql.specs.declared.token.Token.TheVariants.{Fixed, Name, Number}
 use Rattle.ssb_terms.specs.declared.keyword.Keyword.{Keyword}
@@ -40,6 +40,8 @@ use Rattle.ssb_trees.specs.declared.aggregate.Aggregate.{Aggregate}
 function_named : (w : Keyword) (f : SetFunction) → function_of w ≡ Some f → w ≡ function_word f
 function_named words.Sum f e = ap function_word (some_is functions.Sum f e)
 function_named words.Count f e = ap function_word (some_is functions.Count f e)
+function_named words.Min f e = ap function_word (some_is functions.Min f e)
+function_named words.Max f e = ap function_word (some_is functions.Max f e)
 function_named _ f e = absurd cc
 
 function_is : (ts : List Token) (f : SetFunction × List Token) → function_at ts ≡ Some f → ts ≡ Fixed (s.Word (function_word f.0)) ∷ f.1
@@ -49,6 +51,12 @@ function_is (Fixed (s.Word w) ∷ ts) f e =
     ap (λ z. Fixed (s.Word z) ∷ ts) (function_named w g.0 g.1) ∙ ap (λ z. Fixed (s.Word (function_word z.0)) ∷ z.1) (some_is (g.0, ts) f g.2)
 function_is _ f e = absurd cc
 
+-- only COUNT takes a `*`
+star_is : (f : SetFunction) (ts rest : List Token) → star_at f ts ≡ Some rest → (f ≡ functions.Count) × (after (s.Mark marks.Times) ts ≡ Some rest)
+unfolding star_at
+star_is functions.Count ts rest e = (refl, e)
+star_is _ ts rest e = absurd cc
+
 -- what follows a function and its `(`
 of_sound : (d : ℕ) (f : SetFunction) (ts : List Token) (x : Aggregate ColumnName × List Token) → (closed_at (expr_at d) ts >>= λ y. Some (a.Of f y.0, y.1)) ≡ Some x → IsAggregate (Fixed (s.Word (function_word f)) ∷ Fixed (s.Mark marks.Open) ∷ ts) x.1 x.0
 of_sound d f ts x e =
@@ -56,16 +64,16 @@ of_sound d f ts x e =
     spells IsAggregate (Fixed (s.Word (function_word f)) ∷ Fixed (s.Mark marks.Open) ∷ ts) g.0.1 (a.Of f g.0.0) x (of (sound_closed (expr_at d) IsExpr (sound_expr d) ts g.0 g.1)) g.2
 
 argument_sound : (d : ℕ) (f : SetFunction) (ts : List Token) (x : Aggregate ColumnName × List Token) → argument_at d f ts ≡ Some x → IsAggregate (Fixed (s.Word (function_word f)) ∷ Fixed (s.Mark marks.Open) ∷ ts) x.1 x.0
-unfolding argument_at star_at
-argument_sound d functions.Sum ts x e = of_sound d functions.Sum ts x e
-argument_sound d functions.Count ts x e =
-    let counted = Fixed (s.Word words.Count) ∷ Fixed (s.Mark marks.Open) ∷ ts in
-    elim (choose_some (after (s.Mark marks.Times) ts) _ _ (Some x) e) as (λ _. IsAggregate counted x.1 x.0) [
+unfolding argument_at
+argument_sound d f ts x e =
+    let whole = Fixed (s.Word (function_word f)) ∷ Fixed (s.Mark marks.Open) ∷ ts in
+    elim (choose_some (star_at f ts) _ _ (Some x) e) as (λ _. IsAggregate whole x.1 x.0) [
       | inl g ↦
-          let f = bind_some (after (s.Mark marks.Close) g.0) _ x g.2 in
-          let m = two_are (s.Mark marks.Times) (s.Mark marks.Close) ts g.0 f.0 g.1 f.1 in
-          spells IsAggregate counted f.0 a.Rows x (subst (λ z. IsAggregate (Fixed (s.Word words.Count) ∷ Fixed (s.Mark marks.Open) ∷ z) f.0 a.Rows) (sym m) rows) f.2
-      | inr b ↦ of_sound d functions.Count ts x b.1
+          let q = bind_some (after (s.Mark marks.Close) g.0) _ x g.2 in
+          let star = star_is f ts g.0 g.1 in
+          let m : whole ≡ Fixed (s.Word words.Count) ∷ Fixed (s.Mark marks.Open) ∷ Fixed (s.Mark marks.Times) ∷ Fixed (s.Mark marks.Close) ∷ q.0 = rw (star.0, two_are (s.Mark marks.Times) (s.Mark marks.Close) ts g.0 q.0 star.1 q.1) refl in
+          spells IsAggregate whole q.0 a.Rows x (subst (λ z. IsAggregate z q.0 a.Rows) (sym m) rows) q.2
+      | inr b ↦ of_sound d f ts x b.1
     ]
 
 aggregate_sound : (d : ℕ) (ts : List Token) (f : SetFunction × List Token) (x : Aggregate ColumnName × List Token) → function_at ts ≡ Some f → aggregate_at d f.0 f.1 ≡ Some x → IsAggregate ts x.1 x.0

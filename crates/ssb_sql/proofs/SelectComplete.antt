@@ -56,11 +56,18 @@ function_read : (f : SetFunction) (ts : List Token) → function_at (Fixed (s.Wo
 unfolding function_at
 function_read functions.Sum ts = refl
 function_read functions.Count ts = refl
+function_read functions.Min ts = refl
+function_read functions.Max ts = refl
+
+-- no function takes a `*` that is not there
+no_star : (f : SetFunction) (ts : List Token) → Stops (s.Mark marks.Times) ts → star_at f ts ≡ None
+unfolding star_at
+no_star functions.Count ts h = h
+no_star _ ts h = refl
 
 argument_read : (d : ℕ) (f : SetFunction) (ts to : List Token) (x : Expr ColumnName) → Stops (s.Mark marks.Times) ts → expr_at d ts ≡ Some (x, Fixed (s.Mark marks.Close) ∷ to) → argument_at d f ts ≡ Some (a.Of f x, to)
-unfolding argument_at star_at
-argument_read d functions.Sum ts to x h e = rw (closed_read (expr_at d) ts to x e) refl
-argument_read d functions.Count ts to x h e = rw (h, closed_read (expr_at d) ts to x e) refl
+unfolding argument_at
+argument_read d f ts to x h e = rw (no_star f ts h, closed_read (expr_at d) ts to x e) refl
 
 rows_read : (d : ℕ) (to : List Token) → argument_at d functions.Count (Fixed (s.Mark marks.Times) ∷ Fixed (s.Mark marks.Close) ∷ to) ≡ Some (a.Rows, to)
 unfolding argument_at star_at

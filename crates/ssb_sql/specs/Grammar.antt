@@ -24,12 +24,14 @@ use Rattle.ssb_trees.specs.Conditions.{Filter}
 use Rattle.ssb_trees.specs.declared.aggregate.Aggregate.{Aggregate}
 use Rattle.ssb_trees.specs.declared.expr.Expr.{Expr}
 
--- SUM | COUNT
+-- SUM | COUNT | MIN | MAX
 abbrev pub function_word : SetFunction → Keyword
 function_word functions.Sum = words.Sum
 function_word functions.Count = words.Count
+function_word functions.Min = words.Min
+function_word functions.Max = words.Max
 
--- aggregate = COUNT "(" "*" ")" | (SUM | COUNT) "(" expr ")"
+-- aggregate = COUNT "(" "*" ")" | (SUM | COUNT | MIN | MAX) "(" expr ")"
 pub data IsAggregate : List Token → List Token → Aggregate ColumnName → Type 0 where
   rows : {to : List Token} → IsAggregate (word words.Count ∷ mark marks.Open ∷ mark marks.Times ∷ mark marks.Close ∷ to) to a.Rows
   of : {from to : List Token} {f : SetFunction} {x : Expr ColumnName} → IsExpr from (mark marks.Close ∷ to) x → IsAggregate (word (function_word f) ∷ mark marks.Open ∷ from) to (a.Of f x)

@@ -29,6 +29,8 @@ use Rattle.ssb_trees.specs.declared.aggregate.Aggregate.{Aggregate}
 abbrev pub function_of : Keyword → Option SetFunction
 function_of words.Sum = Some functions.Sum
 function_of words.Count = Some functions.Count
+function_of words.Min = Some functions.Min
+function_of words.Max = Some functions.Max
 function_of _ = None
 
 -- a set function, and what follows
@@ -39,7 +41,7 @@ function_at _ = None
 -- what follows a `*`, which may stand alone behind COUNT and its `(`
 unfoldable pub star_at : SetFunction → List Token → Option (List Token)
 star_at functions.Count ts = after (s.Mark marks.Times) ts
-star_at functions.Sum ts = None
+star_at _ ts = None
 
 -- what follows a function and its `(`
 unfoldable pub argument_at : ℕ → SetFunction → Parser (Aggregate ColumnName)

@@ -25,6 +25,8 @@ fn function_of(word: Keyword) -> Option<SetFunction>
     match word {
         Keyword::Sum => Some(SetFunction::Sum),
         Keyword::Count => Some(SetFunction::Count),
+        Keyword::Min => Some(SetFunction::Min),
+        Keyword::Max => Some(SetFunction::Max),
         _ => None,
     }
 }
@@ -46,7 +48,7 @@ fn star(function: SetFunction, tokens: &[Token]) -> Option<&[Token]>
 {
     match function {
         SetFunction::Count => after(tokens, Sign::Mark(Mark::Times)),
-        SetFunction::Sum => None,
+        SetFunction::Sum | SetFunction::Min | SetFunction::Max => None,
     }
 }
 

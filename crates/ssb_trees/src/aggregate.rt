@@ -9,6 +9,10 @@ pub enum SetFunction {
     Sum,
     /// How many there are.
     Count,
+    /// The least of them.
+    Min,
+    /// The greatest of them.
+    Max,
 }
 
 /// What is computed over rows.

@@ -1,8 +1,6 @@
-use Rattle.std.proofs.Common.{◌≡◌, ◌≤◌, ◌++◌, List, length}
+use Rattle.std.proofs.Common.{◌≡◌, ◌≤◌, ◌++◌, length}
 use Rattle.indexmap.specs.IndexMap.{IsUnique, spare}
-use Rattle.ssb_cells.specs.Cell.{Cell}
-use Rattle.ssb_groups.specs.Joining.{JoinsEach}
-use Rattle.ssb_groups.specs.Keys.{AreKeys, entries_of}
+use Rattle.ssb_groups.specs.Entries.{AreEntries, JoinsTable}
 use Rattle.ssb_groups.specs.contracts.key.GroupKeyPartialEq.TheImpl as keys
 use Rattle.ssb_groups.proofs.table.take_all_in.Given as goal
 
@@ -10,5 +8,5 @@ use Rattle.ssb_groups.proofs.table.take_all_in.Given as goal
 abbrev pub invariant-loop-key : goal.invariant-loop-key
 invariant-loop-key l =
     (IsUnique keys.eq-value.it l.table)
-    × ((columns : List (List Cell)) → AreKeys columns l.fn.other.entries → AreKeys columns l.fn.table.entries → JoinsEach (entries_of columns l.yielded) (entries_of columns l.fn.table.entries) (entries_of columns l.table.entries) × AreKeys columns l.table.entries)
+    × (JoinsTable l.columns l.yielded l.fn.table.entries l.table.entries × AreEntries l.columns l.table.entries)
     × (length l.key-iterator ≤ spare l.table) × (l.yielded ++ l.key-iterator ≡ l.fn.other.entries)

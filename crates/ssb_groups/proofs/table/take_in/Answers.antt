@@ -1,39 +1,48 @@
 use Rattle.std.proofs.Common.{◌≡◌, Some, None, refl, sym, ap, subst, ◌∙◌}
 use Rattle.std.specs.Map.{lookup}
+use Rattle.std.specs.Prelude.{option_map}
 use Rattle.indexmap.specs.IndexMap.{insert_entry}
-use Rattle.ssb_groups.specs.Joining.{FitEach, joined_each}
+use Rattle.ssb_groups.specs.Entries.{AreEntries, entries_of, totals_in}
+use Rattle.ssb_groups.specs.Joining.{joinings_of}
 use Rattle.ssb_groups.specs.Rows.{key_eq}
-use Rattle.ssb_groups.specs.Keys.{AreKeys, cells_in, entries_of}
+use Rattle.ssb_groups.specs.Keys.{cells_in, key_columns}
 use Rattle.ssb_groups.proofs.KeyFacts.{keys_equal}
-use Rattle.ssb_groups.proofs.TableFacts.{lookup-entries_of, lookup-same, set_value-same, set_value-keys, insert-same, insert-keys, put_present, put_absent, table_eq}
+use Rattle.ssb_groups.proofs.TableFacts.{found, lookup-entries_of, lookup-same, set_value-same, set_value-entries, insert-same, insert-entries, put_present, put_absent, table_eq}
 use Rattle.ssb_groups.proofs.table.take_in.Goals as goal
 
+pub join-requires-clause-into : goal.join-requires-clause-into
+join-requires-clause-into c = found c.args.columns.now (keys_equal c.args.key) c.args.table.now.entries c.in-Some.totals.now c.requires.entries (sym c.in-Some.ensures.value)
+
 pub returns-in-Some-clause-joined : goal.returns-in-Some-clause-joined
-returns-in-Some-clause-joined c = λ columns is are fits q.
+returns-in-Some-clause-joined c = λ fits q.
+    let j = c.args.columns.now in
     let g = c.args.key in
-    let k = cells_in columns g in
+    let k = cells_in (key_columns j) g in
     let es = c.args.table.now.entries in
     let a = c.in-Some.totals.now in
-    let at : lookup (table_eq columns g) es ≡ Some a = sym (lookup-same columns g es is are) ∙ sym c.in-Some.ensures.value in
-    let w = c.join.new.self in
-    let more : c.as_slice.result.now ≡ c.args.more = c.as_slice.ensures in
-    let fit = subst (FitEach a) (sym more) (fits a (lookup-entries_of columns (key_eq k) es ∙ at)) in
-    ap (λ m. lookup (key_eq q) (entries_of columns m)) ((c.get_mut.follows.holds w).0 ∙ set_value-same columns g es w is are)
-    ∙ put_present columns es k a c.args.more w at (c.join.ensures fit ∙ ap (joined_each a) more) q
+    let at : lookup (table_eq j g) es ≡ Some a = sym (lookup-same j g es c.requires.key c.requires.entries) ∙ sym c.in-Some.ensures.value in
+    let w = c.join.new.into in
+    let fit = fits (totals_in j a) (lookup-entries_of j (key_eq k) es ∙ ap (option_map (totals_in j)) at) in
+    ap (λ m. lookup (key_eq q) (entries_of j m)) ((c.get_mut.follows.holds w).0 ∙ set_value-same j g es w c.requires.key c.requires.entries)
+    ∙ put_present j (joinings_of j) es k a w (totals_in j c.args.more) at (c.join.ensures.joined fit) q
 
-pub returns-in-Some-clause-keys : goal.returns-in-Some-clause-keys
-returns-in-Some-clause-keys c = λ columns is are. subst (AreKeys columns) (sym (c.get_mut.follows.holds c.join.new.self).0) (set_value-keys columns (keys_equal c.args.key) c.args.table.now.entries c.join.new.self are)
+pub returns-in-Some-clause-entries : goal.returns-in-Some-clause-entries
+returns-in-Some-clause-entries c =
+    let j = c.args.columns.now in
+    subst (AreEntries j) (sym (c.get_mut.follows.holds c.join.new.into).0) (set_value-entries j (keys_equal c.args.key) c.args.table.now.entries c.join.new.into c.join.ensures.kept c.requires.entries)
 
 pub returns-in-Ok-clause-joined : goal.returns-in-Ok-clause-joined
-returns-in-Ok-clause-joined c = λ columns is are fits q.
-    let k = cells_in columns c.args.key in
+returns-in-Ok-clause-joined c = λ fits q.
+    let j = c.args.columns.now in
+    let k = cells_in (key_columns j) c.args.key in
     let es = c.args.table.now.entries in
-    let none : lookup (table_eq columns c.args.key) es ≡ None = sym (lookup-same columns c.args.key es is are) ∙ sym c.in-None.ensures.value in
-    ap (λ m. lookup (key_eq q) (entries_of columns m))
-    (c.in-Ok.ensures.entries ∙ ap (λ m. insert_entry keys_equal m.entries c.args.key c.args.more) c.get_mut.follows.holds-at-none ∙ insert-same columns c.args.key es c.args.more is are)
-    ∙ put_absent columns es c.args.key k c.args.more refl none q
+    let none : lookup (table_eq j c.args.key) es ≡ None = sym (lookup-same j c.args.key es c.requires.key c.requires.entries) ∙ sym c.in-None.ensures.value in
+    ap (λ m. lookup (key_eq q) (entries_of j m))
+    (c.in-Ok.ensures.entries ∙ ap (λ m. insert_entry keys_equal m.entries c.args.key c.args.more) c.get_mut.follows.holds-at-none ∙ insert-same j c.args.key es c.args.more c.requires.key c.requires.entries)
+    ∙ put_absent j (joinings_of j) es c.args.key k c.args.more refl none q
 
-pub returns-in-Ok-clause-keys : goal.returns-in-Ok-clause-keys
-returns-in-Ok-clause-keys c = λ columns is are.
-    subst (AreKeys columns) (sym (c.in-Ok.ensures.entries ∙ ap (λ m. insert_entry keys_equal m.entries c.args.key c.args.more) c.get_mut.follows.holds-at-none))
-    (insert-keys columns c.args.key c.args.table.now.entries c.args.more is are)
+pub returns-in-Ok-clause-entries : goal.returns-in-Ok-clause-entries
+returns-in-Ok-clause-entries c =
+    let j = c.args.columns.now in
+    subst (AreEntries j) (sym (c.in-Ok.ensures.entries ∙ ap (λ m. insert_entry keys_equal m.entries c.args.key c.args.more) c.get_mut.follows.holds-at-none))
+    (insert-entries j c.args.key c.args.table.now.entries c.args.more c.requires.key c.requires.more c.requires.entries)

@@ -1,27 +1,48 @@
-use Rattle.std.proofs.Common.{◌≡◌, ◌<◌, ◌+◌, ℕ, suc, length, get_or, sym, ap, subst, ◌∙◌, arith}
-use Rattle.std.specs.Prelude.{pos}
-use Rattle.std.proofs.Math.ListN.{set}
-use Rattle.ssb_groups.specs.declared.accumulator.Accumulator.{Accumulator}
-use Rattle.ssb_groups.specs.Joining.{Fits, joined, joined_front}
-use Rattle.ssb_groups.proofs.JoinedFront.{get_or-joined_front, set-joined_front, joined_front_all, fit_at}
+use Rattle.std.proofs.Common.{◌≡◌, ◌+◌, ◌∙◌, ℕ, suc, length, map, sym, ap, arith}
+use Rattle.ssb_groups.specs.Joining.{joined_front, values_by}
+use Rattle.ssb_groups.specs.Keys.{kept_total, spelt}
+use Rattle.ssb_groups.specs.declared.joining.Joining.TheVariants as joining
+use Rattle.ssb_groups.proofs.JoiningFacts.{below, front-all, joining-at, total-get, total-set, totals-fit, totals-more}
 use Rattle.ssb_groups.proofs.totals.join_each.Goals as goal
 
-pub loop-i-preserved : goal.loop-i-preserved
-loop-i-preserved c = λ fits.
-    let i = c.loop-i.i in
-    let xs = c.args.into.now in
-    let ys = c.args.more.now in
-    let d : Accumulator = record { values = 0; total = pos 0 } in
-    let below : i < length xs = c.loop-i-test.true in
-    let within : i < length ys = omega (arith, c.requires) in
-    let same : c.loop-i.into ≡ joined_front i xs ys = c.loop-i.invariant fits in
-    let x : get_or c.loop-i.into i d ≡ get_or xs i d = ap (λ t. get_or t i d) same ∙ get_or-joined_front i xs ys d in
-    let w : c.join.result ≡ joined (get_or xs i d) (get_or ys i d) =
-    c.join.ensures (subst (λ z. Fits z (get_or ys i d)) (sym x) (fit_at i xs ys d d fits below within)) ∙ ap (λ z. joined z (get_or ys i d)) x in
-    let more : suc i ≡ i + 1 = omega arith in
-    ap (λ t. set t i c.join.result) same ∙ ap (set (joined_front i xs ys) i) w ∙ set-joined_front i xs ys d d below within ∙ ap (λ (n : ℕ). joined_front n xs ys) more
+pub slice_copy_out-join : goal.slice_copy_out-join
+slice_copy_out-join c = below (values_by c.args.tables.now) c.args.joinings.now c.loop-at.into c.loop-at.at c.loop-at.invariant.0 c.loop-at-test.true
 
-pub returns : goal.returns
-returns c = λ fits.
-    let end : c.loop-i.i ≡ length c.args.into.now = omega arith in
-    c.loop-i.invariant fits ∙ ap (λ (n : ℕ). joined_front n c.args.into.now c.args.more.now) end ∙ joined_front_all c.args.into.now c.args.more.now c.requires
+pub bounds-more-at : goal.bounds-more-at
+bounds-more-at c = below (values_by c.args.tables.now) c.args.joinings.now c.args.more.now c.loop-at.at c.requires.more c.loop-at-test.true
+
+pub bounds-into-at : goal.bounds-into-at
+bounds-into-at c = below (values_by c.args.tables.now) c.args.joinings.now c.loop-at.into c.loop-at.at c.loop-at.invariant.0 c.loop-at-test.true
+
+pub join-requires-clause-joining : goal.join-requires-clause-joining
+join-requires-clause-joining c = joining-at c.args.tables.now c.args.joinings.now c.loop-at.at joining.Adds c.requires.joinings c.loop-at-test.true
+
+pub join-requires-clause-left : goal.join-requires-clause-left
+join-requires-clause-left c = total-get (values_by c.args.tables.now) c.args.joinings.now c.loop-at.into c.loop-at.at c.loop-at.invariant.0 c.loop-at-test.true
+
+pub join-requires-clause-right : goal.join-requires-clause-right
+join-requires-clause-right c = total-get (values_by c.args.tables.now) c.args.joinings.now c.args.more.now c.loop-at.at c.requires.more c.loop-at-test.true
+
+pub loop-at-preserved : goal.loop-at-preserved
+loop-at-preserved c =
+    let f = values_by c.args.tables.now in
+    let ws = c.args.joinings.now in
+    let i = c.loop-at.at in
+    let into = c.loop-at.into in
+    let more = c.args.more.now in
+    let xs = spelt (map f ws) (map kept_total c.args.into.now) in
+    let kept = c.loop-at.invariant.0 in
+    let e : suc i ≡ i + 1 = omega arith in (
+      total-set f ws into i c.join.result kept c.join.ensures.kept,
+      λ fit.
+          let is = c.loop-at.invariant.1 fit in
+          totals-more f i ws into more xs c.join.result fit is kept c.requires.more c.loop-at-test.true (c.join.ensures.joined (totals-fit f i ws into more xs fit is kept c.requires.more c.loop-at-test.true))
+          ∙ ap (λ (n : ℕ). joined_front n ws xs (spelt (map f ws) (map kept_total more))) e,
+    )
+
+pub returns-clause-joined : goal.returns-clause-joined
+returns-clause-joined c = λ fit.
+    let f = values_by c.args.tables.now in
+    let ws = c.args.joinings.now in
+    let end : c.loop-at.at ≡ length ws = omega arith in
+    c.loop-at.invariant.1 fit ∙ ap (λ (n : ℕ). joined_front n ws (spelt (map f ws) (map kept_total c.args.into.now)) (spelt (map f ws) (map kept_total c.args.more.now))) end ∙ front-all ws _ _ fit

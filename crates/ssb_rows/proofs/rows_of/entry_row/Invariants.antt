@@ -5,4 +5,4 @@ use Rattle.ssb_rows.proofs.rows_of.entry_row.Given as goal
 
 abbrev pub invariant-loop-item : goal.invariant-loop-item
 invariant-loop-item l =
-    map owned_cell l.fields.items ++ map (λ item. entry_cell l.parts (seen l.entry) item.origin) (drop l.item-index l.item-items) ≡ map (λ item. entry_cell l.parts (seen l.entry) item.origin) l.parts.items
+    map owned_cell l.fields.items ++ map (λ item. entry_cell (seen l.group) item.origin) (drop l.item-index l.item-items) ≡ map (λ item. entry_cell (seen l.group) item.origin) l.parts.items

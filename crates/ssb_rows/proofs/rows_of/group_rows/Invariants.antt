@@ -6,5 +6,5 @@ use Rattle.ssb_rows.proofs.rows_of.group_rows.Given as goal
 -- the rest decides what the whole decides
 abbrev pub invariant-loop-at : goal.invariant-loop-at
 invariant-loop-at l =
-    (list_any (entry_beyond l.parts) (drop l.at l.groups.entries) ≡ list_any (entry_beyond l.parts) l.groups.entries)
+    (list_any entry_beyond (drop l.at l.groups.entries) ≡ list_any entry_beyond l.groups.entries)
     × (l.rows.items ++ map (entry_row l.parts) (drop l.at l.groups.entries) ≡ map (entry_row l.parts) l.groups.entries)

@@ -1,39 +1,46 @@
-use Rattle.std.proofs.Common.{◌≡◌, [], ◌∷◌, length, map, sym, ap, ◌∙◌, subst, rules}
-use Rattle.std.proofs.lemmas.List.{length-map}
+use Rattle.std.proofs.Common.{◌≡◌, [], ◌∷◌, map, sym, ap, ◌∙◌, subst, refl}
 use Rattle.ssb_job.specs.Kept.{JobShape, column_value, from_tables}
-use Rattle.ssb_groups.specs.Gathering.{IsGathered}
+use Rattle.ssb_groups.specs.Aggregates.{totals}
+use Rattle.ssb_groups.specs.Entries.{AreTotals, totals_in}
+use Rattle.ssb_groups.specs.Gathering.{IsGathered, alone}
 use Rattle.ssb_groups.specs.Keys.{AreKept, cells_in, key_columns, key_of, spelt}
 use Rattle.ssb_groups.proofs.ColumnFacts.{key-kept, key-spelt}
 use Rattle.ssb_groups.specs.Rows.{SeenRow}
-use Rattle.ssb_groups.specs.Seen.{argument, seen}
-use Rattle.ssb_groups.specs.Stands.{Stands, GroupMap, totals}
-use Rattle.ssb_groups.proofs.AddFacts.{totals_alone}
+use Rattle.ssb_groups.specs.Seen.{seen}
+use Rattle.ssb_groups.specs.Stands.{Stands, GroupMap}
+use Rattle.ssb_groups.proofs.AddFacts.{totals-alone}
 use Rattle.ssb_groups.proofs.groups.Groups.add.Goals as goal
 
 pub returns-then-branch-clause-stands : goal.returns-then-branch-clause-stands
 returns-then-branch-clause-stands c = λ A before.
     let r : SeenRow = seen c.args.job.now c.args.row.now in
-    let g : IsGathered c.in_ok-gather.field-0 r.arguments c.gather.new.more.items = search rules in
+    let g : IsGathered c.args.job.now c.args.row.now c.in_ok-gather.field-0 c.gather.new.more = c.in_ok-gather.ensures in
     let p : Stands c.self.inside.store A = subst (λ x. Stands x A) (sym c.self.view_is) before in
     c.add_over.ensures.stands A r (record { over = sym g.over ∙ c.if-branch.true; fact = sym c.fact_of.ensures; ranged = g.ranged }) p
 
 pub add_plain-requires-clause-key : goal.add_plain-requires-clause-key
 add_plain-requires-clause-key c =
     let j : JobShape = c.self.inside.store.job in
-    let filled : c.fill.new.key.cells.items ≡ key_of j c.args.row.now = c.in_ok-fill.ensures ∙ ap (λ x. key_of x c.args.row.now) c.self.invariant.0 in
+    let filled : c.fill.new.key.cells.items ≡ key_of j c.args.row.now = c.in_ok-fill.ensures ∙ ap (λ x. key_of x c.args.row.now) c.self.invariant in
     record { kept = subst (AreKept (key_columns j)) (sym filled) (key-kept j c.args.row.now) }
+
+pub add_plain-requires-clause-more : goal.add_plain-requires-clause-more
+add_plain-requires-clause-more c =
+    let one : c.self.inside.store.job ≡ c.args.job.now = ap (λ (x : GroupMap). x.job) c.self.view_is ∙ c.requires.one_job in
+    subst (λ (x : JobShape). AreTotals x c.gather.new.more) (sym one) c.in_ok-gather.ensures.kept
 
 pub returns-clause-stands : goal.returns-clause-stands
 returns-clause-stands c = λ A before.
     let j : JobShape = c.self.inside.store.job in
+    let k : JobShape = c.args.job.now in
     let rows = c.args.row.now in
-    let r : SeenRow = seen c.args.job.now rows in
-    let g : IsGathered c.in_ok-gather.field-0 r.arguments c.gather.new.more.items = search rules in
+    let r : SeenRow = seen k rows in
+    let g : IsGathered k rows c.in_ok-gather.field-0 c.gather.new.more = c.in_ok-gather.ensures in
     let p : Stands c.self.inside.store A = subst (λ x. Stands x A) (sym c.self.view_is) before in
-    let one : j ≡ c.args.job.now = ap (λ (x : GroupMap). x.job) c.self.view_is ∙ c.requires.one_job in
-    let many : length r.arguments ≡ length c.args.job.now.query.aggregates = length-map c.args.job.now.query.aggregates (argument (column_value (from_tables c.args.job.now) rows)) in
-    let wide : c.self.inside.store.width ≡ length r.arguments = c.self.invariant.1 ∙ ap (λ (x : JobShape). length x.query.aggregates) one ∙ sym many in
-    let more : c.as_slice-2.result.now ≡ totals c.self.inside.store.width (r ∷ []) = c.as_slice-2.ensures.value ∙ g.alone ∙ sym (totals_alone c.self.inside.store.width r wide) in
-    let filled : c.fill.new.key.cells.items ≡ key_of j rows = c.in_ok-fill.ensures ∙ ap (λ x. key_of x rows) c.self.invariant.0 in
+    let one : j ≡ k = ap (λ (x : GroupMap). x.job) c.self.view_is ∙ c.requires.one_job in
+    let sum : totals_in k c.gather.new.more ≡ totals k.query.aggregates (r ∷ []) = g.alone ∙ sym (totals-alone (column_value (from_tables k) rows) r k.query.aggregates refl) in
+    let more : totals_in j c.gather.new.more ≡ totals j.query.aggregates (r ∷ []) =
+    ap (λ (x : JobShape). totals_in x c.gather.new.more) one ∙ sum ∙ ap (λ (x : JobShape). totals x.query.aggregates (r ∷ [])) (sym one) in
+    let filled : c.fill.new.key.cells.items ≡ key_of j rows = c.in_ok-fill.ensures ∙ ap (λ x. key_of x rows) c.self.invariant in
     let key : cells_in (key_columns j) c.fill.new.key ≡ r.key = ap (spelt (key_columns j)) filled ∙ key-spelt j rows ∙ ap (λ (x : JobShape). map (column_value (from_tables x) rows) x.query.groups) one in
     c.in_ok-add_plain.ensures.stands A r (record { plain = sym g.over ∙ c.if-branch.false; key = key; more = more; ranged = g.ranged }) p

@@ -52,7 +52,7 @@ invariant_of-self c =
     let size : c.args.partial.ticket.size ≡ c.args.self.now.size = search rules in
     let p = c.self.inside in
     let m = c.in-Ok.ensures in
-    kept-more (arc_value p.job) p.size p.section p.sections p.first p.next p.back p.marks.items p.groups c.args.partial (c.morsel-morsel.result - p.first) (due p c.self.invariant c.args.partial c.morsel-morsel.result c.morsel-morsel.ensures.morsel (rw (← c.self.view_is) at known) c.index.result.now c.index.ensures c.if-index.false (rw (← c.self.view_is) at c.requires.one_job) (rw (← c.self.view_is) at size) c.morsel-morsel.ensures.of) c.merge_into.new.groups m.job m.width m.counted m.stands
+    kept-more (arc_value p.job) p.size p.section p.sections p.first p.next p.back p.marks.items p.groups c.args.partial (c.morsel-morsel.result - p.first) (due p c.self.invariant c.args.partial c.morsel-morsel.result c.morsel-morsel.ensures.morsel (rw (← c.self.view_is) at known) c.index.result.now c.index.ensures c.if-index.false (rw (← c.self.view_is) at c.requires.one_job) (rw (← c.self.view_is) at size) c.morsel-morsel.ensures.of) c.merge_into.new.groups m.job m.counted m.stands
 
 pub returns-in-Ok : goal.returns-in-Ok
 returns-in-Ok c =

@@ -18,7 +18,7 @@ invariant_of-result c =
     let bound : c.morsel_cut-end.result < 2 ^ 32 = search rules in
     let rows : fact_rows j < 2 ^ 32 = search rules in
     let g = c.in_ok-groups.ensures in
-    opens j c.args.morsel_size c.args.section c.args.sections c.morsel_cut-first.result c.morsel_cut-end.result c.in_ok-marks.marks.items c.in_ok-groups.groups (omega (arith, section)) begins ends many free bound rows g.stands (search rules) (search rules) g.counted
+    opens j c.args.morsel_size c.args.section c.args.sections c.morsel_cut-first.result c.morsel_cut-end.result c.in_ok-marks.marks.items c.in_ok-groups.groups (omega (arith, section)) begins ends many free bound rows g.stands (search rules) g.counted
 
 pub returns-clause-opening : goal.returns-clause-opening
 returns-clause-opening c =

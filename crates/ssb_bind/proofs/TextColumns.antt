@@ -1,0 +1,38 @@
+-- A text is a column: a sign or an operation gives a number, or has no type.
+use Rattle.std.proofs.Common.{◌≡◌, ℕ, List, Bool, true, false, Option, Some, sym, subst, ap, ◌∙◌}
+use Rattle.ssb_terms.specs.declared.rule.ColType.{ColType}
+use Rattle.ssb_terms.specs.declared.rule.ColType.TheVariants as kinds
+use Rattle.ssb_trees.specs.declared.expr.Expr.{Expr}
+use Rattle.ssb_trees.specs.declared.expr.Expr.TheOpen.{Expr-F}
+use Rattle.ssb_trees.specs.declared.expr.Expr.TheFolds.{fold-roll-Expr, map-Expr}
+use Rattle.ssb_trees.specs.declared.expr.Expr.TheVariants.{rolls-Column}
+use Rattle.ssb_trees.specs.declared.expr.Expr.TheViews.{out-Expr, roll-Expr, roll-out-Expr}
+use Rattle.ssb_trees.specs.declared.expr.Step.{Step}
+use Rattle.ssb_query.specs.declared.column.BoundColumn.{BoundColumn}
+use Rattle.ssb_query.specs.declared.query.TableRules.{TableRules}
+use Rattle.ssb_bind.specs.Types.{number_if, type_of, type_layer, type_of_step, step_layer, IsTextColumn}
+
+no_text : (b : Bool) → number_if b ≡ Some kinds.Text → ⊥
+no_text true h = absurd cc
+no_text false h = absurd cc
+
+module _ (tables : List TableRules) (from : List ℕ) where
+  abbrev Layer : Type 0
+  Layer = Expr-F BoundColumn (Expr BoundColumn) (Step BoundColumn)
+
+  abbrev IsText : Expr BoundColumn → Type 0
+  IsText e = type_of tables from e ≡ Some kinds.Text
+
+  of_layer : (x : Layer) → type_of tables from (roll-Expr BoundColumn x) ≡ type_layer tables from (map-Expr BoundColumn (Expr BoundColumn) (Step BoundColumn) (Option ColType) (Option ColType) (type_of tables from) (type_of_step tables from) x)
+  of_layer = fold-roll-Expr BoundColumn (Option ColType) (Option ColType) (type_layer tables from) step_layer
+
+  by_layer : (x : Layer) → IsText (roll-Expr BoundColumn x) → IsTextColumn tables from (roll-Expr BoundColumn x)
+  by_layer (Expr-F.Column x) h = (x, rolls-Column x, sym (of_layer (Expr-F.Column x)) ∙ h)
+  by_layer (Expr-F.Number n) h = let g = sym (of_layer (Expr-F.Number n)) ∙ h in absurd cc
+  by_layer (Expr-F.Positive part) h = absurd (no_text _ (sym (of_layer (Expr-F.Positive part)) ∙ h))
+  by_layer (Expr-F.Negative part) h = absurd (no_text _ (sym (of_layer (Expr-F.Negative part)) ∙ h))
+  by_layer (Expr-F.Chain first steps) h = absurd (no_text _ (sym (of_layer (Expr-F.Chain first steps)) ∙ h))
+  by_layer (Expr-F.Times factors) h = absurd (no_text _ (sym (of_layer (Expr-F.Times factors)) ∙ h))
+
+  pub text_is_column : (e : Expr BoundColumn) → IsText e → IsTextColumn tables from e
+  text_is_column e h = subst (IsTextColumn tables from) (roll-out-Expr BoundColumn e) (by_layer (out-Expr BoundColumn e) (ap (type_of tables from) (roll-out-Expr BoundColumn e) ∙ h))

@@ -1,0 +1,39 @@
+use Rattle.std.proofs.Common.{◌∙◌, ◌+◌, ◌++◌, [], ◌∷◌, drop, map, slice_get, refl, sym, ap, subst, arith, append_assoc}
+use Rattle.std.proofs.lemmas.List.{map-append}
+use Rattle.ssb_cells.specs.Values.{cell_of}
+use Rattle.ssb_job.specs.Kept.{JobShape}
+use Rattle.ssb_groups.specs.Keys.{AreKept, key_columns, spelt}
+use Rattle.ssb_groups.proofs.ColumnFacts.{is-at, kept-at, spelt-at}
+use Rattle.ssb_groups.proofs.columns.Columns.spell_key.Goals as goal
+
+pub bounds-cells-at : goal.bounds-cells-at
+bounds-cells-at c =
+    (is-at c.self.inside.job.value c.as_slice-tables.result.now c.as_slice-places.result.now c.as_slice-cells.result.now c.args.key.now.cells.items c.loop-at.at (c.as_slice-tables.ensures.value ∙ ap (λ v. v.items) c.deref.ensures ∙ c.self.invariant.0)
+    (c.as_slice-places.ensures.value ∙ c.self.invariant.1) c.as_slice-cells.ensures.value (subst (λ x. AreKept (key_columns x) c.args.key.now.cells.items) (sym c.self.view_is) c.requires.kept) (omega arith)).below
+
+pub spelt_value-requires-clause-place : goal.spelt_value-requires-clause-place
+spelt_value-requires-clause-place c =
+    (is-at c.self.inside.job.value c.as_slice-tables.result.now c.as_slice-places.result.now c.as_slice-cells.result.now c.args.key.now.cells.items c.loop-at.at (c.as_slice-tables.ensures.value ∙ ap (λ v. v.items) c.deref.ensures ∙ c.self.invariant.0)
+    (c.as_slice-places.ensures.value ∙ c.self.invariant.1) c.as_slice-cells.ensures.value (subst (λ x. AreKept (key_columns x) c.args.key.now.cells.items) (sym c.self.view_is) c.requires.kept) (omega arith)).place
+
+pub spelt_value-requires-clause-kept : goal.spelt_value-requires-clause-kept
+spelt_value-requires-clause-kept c =
+    let j : JobShape = c.self.inside.job.value in
+    let key = c.args.key.now.cells.items in
+    let is : AreKept (key_columns j) key = subst (λ x. AreKept (key_columns x) key) (sym c.self.view_is) c.requires.kept in
+    let h = is-at c.self.inside.job.value c.as_slice-tables.result.now c.as_slice-places.result.now c.as_slice-cells.result.now c.args.key.now.cells.items c.loop-at.at (c.as_slice-tables.ensures.value ∙ ap (λ v. v.items) c.deref.ensures ∙ c.self.invariant.0)
+    (c.as_slice-places.ensures.value ∙ c.self.invariant.1) c.as_slice-cells.ensures.value (subst (λ x. AreKept (key_columns x) c.args.key.now.cells.items) (sym c.self.view_is) c.requires.kept) (omega arith) in
+    kept-at (key_columns j) key c.loop-at.at _ _ is h.column h.cell
+
+pub loop-at-preserved : goal.loop-at-preserved
+loop-at-preserved c =
+    let h = is-at c.self.inside.job.value c.as_slice-tables.result.now c.as_slice-places.result.now c.as_slice-cells.result.now c.args.key.now.cells.items c.loop-at.at (c.as_slice-tables.ensures.value ∙ ap (λ v. v.items) c.deref.ensures ∙ c.self.invariant.0)
+    (c.as_slice-places.ensures.value ∙ c.self.invariant.1) c.as_slice-cells.ensures.value (subst (λ x. AreKept (key_columns x) c.args.key.now.cells.items) (sym c.self.view_is) c.requires.kept) (omega arith) in
+    let i = c.loop-at.at in
+    let columns = key_columns c.args.self.now in
+    let key = c.args.key.now.cells.items in
+    let here = ap (λ x. slice_get (key_columns x) i) (sym c.self.view_is) ∙ h.column in
+    let made = map cell_of c.loop-at.values.items in
+    let rest = spelt (drop (i + 1) columns) (drop (i + 1) key) in
+    ap (λ vs. map cell_of vs ++ rest) c.in_ok-push.ensures.items ∙ ap (λ ms. ms ++ rest) (map-append cell_of c.loop-at.values.items (c.spelt_value.result ∷ []))
+    ∙ append_assoc made (cell_of c.spelt_value.result ∷ []) rest ∙ ap (λ v. made ++ v ∷ rest) c.spelt_value.ensures ∙ ap (λ vs. made ++ vs) (sym (spelt-at columns key i (i + 1) _ _ refl here h.cell)) ∙ c.loop-at.invariant

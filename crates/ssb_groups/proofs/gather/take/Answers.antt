@@ -1,0 +1,45 @@
+use Rattle.std.proofs.Common.{◌≡◌, ◌∙◌, List, [], ◌∷◌, Bool, true, false, refl, Option, None, Some, is_some, not, sym, ap, subst}
+use Rattle.ssb_trees.specs.declared.aggregate.Aggregate.{Aggregate}
+use Rattle.ssb_cells.specs.Cell.{Cell}
+use Rattle.ssb_query.specs.declared.column.BoundColumn.{BoundColumn}
+use Rattle.ssb_trees.specs.declared.aggregate.Aggregate.TheVariants as aggregate
+use Rattle.ssb_job.specs.Kept.{JobShape, column_value, from_tables}
+use Rattle.ssb_groups.specs.Aggregates.{agg}
+use Rattle.ssb_groups.specs.Gathering.{IsTaken, texts_by}
+use Rattle.ssb_groups.specs.Joining.{joining_of, place_alone, values_by}
+use Rattle.ssb_groups.specs.Keys.{IsKept, kept_total, spelt_cell}
+use Rattle.ssb_groups.specs.Outcomes.{kept_outcome}
+use Rattle.ssb_groups.specs.Places.{values_at}
+use Rattle.ssb_groups.specs.Stands.{is_over}
+use Rattle.ssb_groups.specs.Value.{column_of, known, value}
+use Rattle.ssb_groups.specs.declared.kept.Kept.{Kept}
+use Rattle.ssb_groups.proofs.TakenFacts.{kept-or, same-alone, texts-are}
+use Rattle.ssb_groups.proofs.gather.take.Goals as goal
+
+none-over : (values : List Cell) (o : Option Kept) (b : Bool) → is_some o ≡ not b → b ≡ is_over (kept_outcome values o)
+none-over values None true e = refl
+none-over values None false e = cc
+none-over values (Some c) true e = cc
+none-over values (Some c) false e = refl
+
+pub returns-in-Of : goal.returns-in-Of
+returns-in-Of c =
+    let j : JobShape = c.args.job.now in
+    let cell : BoundColumn → Cell = column_value (from_tables j) c.args.row.now in
+    let f = c.in-Of.function in
+    let e = c.in-Of.expr in
+    let values = values_at j.tables (place_alone j (column_of e)) in
+    let o = c.value-value.result in
+    let alone : spelt_cell (texts_by f values) (kept_total c.alone.result) ≡ agg (aggregate.Of f e) (known (spelt_cell values c.unwrap_or.result) ∷ []) = c.alone.ensures.spelt values e in
+    let is : IsTaken j c.args.row.now (aggregate.Of f e) (record { over = c.is_none.result; total = c.alone.result }) =
+    record {
+      over = none-over values o c.is_none.result c.is_none.ensures ∙ ap is_over c.value-value.ensures.value;
+      alone =
+          ap (λ v. spelt_cell v (kept_total c.alone.result)) (texts-are j f e) ∙ alone ∙ ap (λ k. agg (aggregate.Of f e) (known (spelt_cell values k) ∷ [])) c.unwrap_or.ensures ∙ same-alone f e values o
+          ∙ ap (λ x. agg (aggregate.Of f e) (x ∷ [])) c.value-value.ensures.value;
+      kept =
+          subst (λ v. IsKept v (kept_total c.alone.result)) (sym (texts-are j f e))
+          (c.alone.ensures.kept values (subst (IsKept values) (sym c.unwrap_or.ensures) (kept-or values o c.value-value.ensures.kept)));
+      ranged = c.value-value.ensures.ranged;
+    } in
+    subst (λ (a : Aggregate BoundColumn). IsTaken j c.args.row.now a (record { over = c.is_none.result; total = c.alone.result })) (sym c.in-Of.is) is

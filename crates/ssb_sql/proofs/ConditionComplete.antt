@@ -9,14 +9,13 @@ use Rattle.ssb_terms.specs.declared.keyword.Keyword.{Keyword}
 use Rattle.ssb_terms.specs.declared.keyword.Keyword.TheVariants as words
 use Rattle.ssb_sql.specs.declared.token.Mark.TheVariants as marks
 use Rattle.ssb_sql.specs.declared.token.Sign.TheVariants as s
-use Rattle.ssb_sql.specs.declared.named.ColumnName.{ColumnName}
 use Rattle.ssb_terms.specs.declared.literal.Literal.{Literal}
 use Rattle.ssb_trees.specs.declared.operand.Operand.TheVariants as o
 use Rattle.ssb_trees.specs.declared.condition.Condition.TheVariants as c
-use Rattle.ssb_sql.specs.Forms.{IsList, IsLiteral, IsOperand}
+use Rattle.ssb_sql.specs.Forms.{Spelling, IsList, IsLiteral, IsOperand}
 use Rattle.ssb_sql.specs.Forms.IsLiteral.{number, positive, negative, text}
 use Rattle.ssb_sql.specs.Forms.IsOperand.{column, literal}
-use Rattle.ssb_sql.specs.Conditions.{mark_of, IsCond, IsOrs, IsConj, IsAnds, IsNeg, IsTest, or_chain, and_chain}
+use Rattle.ssb_sql.specs.Conditions.{mark_of, IsBare, IsCond, IsOrs, IsConj, IsAnds, IsNeg, IsTest, or_chain, and_chain}
 use Rattle.ssb_sql.specs.Conditions.IsBare.{compare, between, not_between, among, not_among, null, not_null}
 use Rattle.ssb_sql.specs.Conditions.IsCond.{cond}
 use Rattle.ssb_sql.specs.Conditions.IsOrs.{no_or, or}
@@ -29,12 +28,11 @@ use Rattle.ssb_sql.specs.Steps.{Parser, after, is_fixed, is_sign, chain_at, more
 use Rattle.ssb_sql.specs.ReadParts.{literal_at, operand_at}
 use Rattle.ssb_sql.specs.ReadConditions.{op_at, limits_at, members_at, among_at, between_of, in_of, range_at, nulled_at, null_at, compared_at, tail_at, bare_at, test_at, neg_at, conj_at, cond_at}
 use Rattle.ssb_sql.proofs.StepFacts.{Stops, stops, differs, sees}
-use Rattle.ssb_sql.proofs.Shapes.{Complete, GoesOn, turn_done, sign_goes, more_goes, closed_read, parens_read, open_read, list_read}
-use Rattle.ssb_sql.proofs.PartFacts.{tame_literal, literal_read, operand_read}
+use Rattle.ssb_sql.proofs.Shapes.{Tame, Complete, GoesOn, turn_done, sign_goes, more_goes, closed_read, parens_read, open_read, list_read}
+use Rattle.ssb_sql.proofs.PartFacts.{Begins, tame_literal, tame_operand, literal_read, operand_read}
 use Rattle.ssb_sql.proofs.Depth.{all_within}
-use Rattle.ssb_sql.proofs.ExpressionComplete.{column_begins}
-use Rattle.ssb_sql.proofs.TestSound.{IsTested}
-use Rattle.ssb_sql.proofs.ConditionSound.{conj_within, neg_within, conj_shorter, neg_shorter}
+use Rattle.ssb_sql.proofs.TestSound.{mark_within}
+use Rattle.ssb_sql.proofs.ConditionSound.{tame_conj, tame_neg}
 use Rattle.ssb_trees.specs.Conditions.{Filter}
 use Rattle.ssb_trees.specs.declared.operand.Operand.{Operand}
 
@@ -59,22 +57,29 @@ literal_begins (positive {to = to} {n = n} h) sign p m = stops (s.Mark marks.Plu
 literal_begins (negative {to = to} {n = n} h) sign p m = stops (s.Mark marks.Minus) sign (Number n ∷ to) m
 literal_begins text sign p m = refl
 
-operand_begins : {from to : List Token} {x : Operand ColumnName} → IsOperand from to x → (sign : Sign) → is_sign (s.Mark marks.Plus) sign ≡ false → is_sign (s.Mark marks.Minus) sign ≡ false → Stops sign from
-operand_begins (column a) sign p m = column_begins a sign
-operand_begins (literal a) sign p m = literal_begins a sign p m
+module _ {C : Type 0} (R : Spelling C) (sign : Sign) (starts : (from to : List Token) (x : C) → R from to x → Stops sign from) (plus : is_sign (s.Mark marks.Plus) sign ≡ false) (minus : is_sign (s.Mark marks.Minus) sign ≡ false) where
+  operand_begins : {from to : List Token} {x : Operand C} → IsOperand R from to x → Stops sign from
+  operand_begins (column a) = starts _ _ _ a
+  operand_begins (literal a) = literal_begins a sign plus minus
 
-bare_begins : {from to : List Token} {x : Filter ColumnName} → IsTested from to x → (sign : Sign) → is_sign (s.Mark marks.Plus) sign ≡ false → is_sign (s.Mark marks.Minus) sign ≡ false → Stops sign from
-bare_begins (compare a b) sign p m = operand_begins a sign p m
-bare_begins (between a b g) sign p m = operand_begins a sign p m
-bare_begins (not_between a b g) sign p m = operand_begins a sign p m
-bare_begins (among a b) sign p m = operand_begins a sign p m
-bare_begins (not_among a b) sign p m = operand_begins a sign p m
-bare_begins (null a) sign p m = column_begins a sign
-bare_begins (not_null a) sign p m = column_begins a sign
+  bare_begins : {from to : List Token} {x : Filter C} → IsBare R from to x → Stops sign from
+  bare_begins (compare a b) = operand_begins a
+  bare_begins (between a b g) = operand_begins a
+  bare_begins (not_between a b g) = operand_begins a
+  bare_begins (among a b) = operand_begins a
+  bare_begins (not_among a b) = operand_begins a
+  bare_begins (null a) = starts _ _ _ a
+  bare_begins (not_null a) = starts _ _ _ a
 
-test_begins : {from to : List Token} {x : Filter ColumnName} → IsTest IsTested from to x → Stops (s.Word words.Not) from
-test_begins (parens {from = from} a) = stops (s.Mark marks.Open) (s.Word words.Not) from (differs (s.Mark marks.Open) (s.Word words.Not) refl)
-test_begins (bare a) = bare_begins a (s.Word words.Not) (differs (s.Mark marks.Plus) (s.Word words.Not) refl) (differs (s.Mark marks.Minus) (s.Word words.Not) refl)
+bare_no_not : {C : Type 0} (R : Spelling C) → Begins R → {from to : List Token} {x : Filter C} → IsBare R from to x → Stops (s.Word words.Not) from
+bare_no_not R z a = bare_begins R (s.Word words.Not) (λ from to x h. z.no_not h) (differs (s.Mark marks.Plus) (s.Word words.Not) refl) (differs (s.Mark marks.Minus) (s.Word words.Not) refl) a
+
+bare_no_open : {C : Type 0} (R : Spelling C) → Begins R → {from to : List Token} {x : Filter C} → IsBare R from to x → Stops (s.Mark marks.Open) from
+bare_no_open R z a = bare_begins R (s.Mark marks.Open) (λ from to x h. z.no_open h) (differs (s.Mark marks.Plus) (s.Mark marks.Open) refl) (differs (s.Mark marks.Minus) (s.Mark marks.Open) refl) a
+
+test_begins : {C : Type 0} (R : Spelling C) → Begins R → {from to : List Token} {x : Filter C} → IsTest R from to x → Stops (s.Word words.Not) from
+test_begins R z (parens {from = from} a) = stops (s.Mark marks.Open) (s.Word words.Not) from (differs (s.Mark marks.Open) (s.Word words.Not) refl)
+test_begins R z (bare a) = bare_no_not R z a
 
 -- the parts of a test
 no_dot : (sign : Sign) (ts : List Token) → is_sign sign (s.Mark marks.Dot) ≡ false → Stops (s.Mark marks.Dot) (Fixed sign ∷ ts)
@@ -103,14 +108,6 @@ mark_is_no : (y : Op) → (is_sign (s.Mark (mark_of y)) (s.Mark marks.Dot) ≡ f
 unfolding is_sign
 mark_is_no y = (mark_differs y (s.Mark marks.Dot) refl refl refl refl refl refl, mark_differs y (s.Word words.Not) refl refl refl refl refl refl, mark_differs y (s.Word words.Is) refl refl refl refl refl refl)
 
-bare_goes : (ts mid : List Token) (y : Operand ColumnName) (r : Option (Filter ColumnName × List Token)) → operand_at ts ≡ Some (y, mid) → tail_at y mid ≡ r → bare_at ts ≡ r
-unfolding bare_at
-bare_goes ts mid y r e f = rw e f
-
-limits_goes : {low high to : List Token} {y z : Operand ColumnName} → IsOperand low (Fixed (s.Word words.And) ∷ high) y → IsOperand high to z → Stops (s.Mark marks.Dot) to → limits_at low ≡ Some ((y, z), to)
-unfolding limits_at
-limits_goes {high = high} a b n = rw (operand_read a (no_dot (s.Word words.And) high (differs (s.Word words.And) (s.Mark marks.Dot) refl)), sees (s.Word words.And) high, operand_read b n) refl
-
 any_end : GoesOn (λ to. Unit {0})
 any_end = record { comma = λ ts. tt }
 
@@ -124,131 +121,152 @@ members_goes {mid = mid} {to = to} {ys = ys} h =
     rw (sees (s.Mark marks.Open) mid) (closed_read (list_at literal_at) mid to ys
     (list_read literal_at IsLiteral tame_literal d (λ to. Unit {0}) any_end (complete_literal d) h (all_within mid d (omega arith)) tt (stops (s.Mark marks.Close) (s.Mark marks.Comma) to (differs (s.Mark marks.Close) (s.Mark marks.Comma) refl))))
 
-between_goes : (negated : Bool) (x : Operand ColumnName) (low to : List Token) (l : Operand ColumnName × Operand ColumnName) → limits_at low ≡ Some (l, to) → range_at negated x (Fixed (s.Word words.Between) ∷ low) ≡ Some (between_of negated x l, to)
-unfolding range_at
-between_goes negated x low to l e = rw (sees (s.Word words.Between) low, e) refl
-
-in_goes : (negated : Bool) (x : Operand ColumnName) (rest to : List Token) (ys : List Literal) → members_at rest ≡ Some (ys, to) → range_at negated x (Fixed (s.Word words.In) ∷ rest) ≡ Some (in_of negated x ys, to)
-unfolding range_at among_at
-in_goes negated x rest to ys e = rw (stops (s.Word words.In) (s.Word words.Between) rest (differs (s.Word words.In) (s.Word words.Between) refl), sees (s.Word words.In) rest, e) refl
-
--- NOT before BETWEEN or IN
-negated_goes : (x : Operand ColumnName) (rest : List Token) (r : Option (Filter ColumnName × List Token)) → range_at true x rest ≡ r → tail_at x (Fixed (s.Word words.Not) ∷ rest) ≡ r
-unfolding tail_at
-negated_goes x rest r e = rw (sees (s.Word words.Not) rest) e
-
 -- a word is no operator
 word_stops : (word : Keyword) (ts : List Token) → op_at (Fixed (s.Word word) ∷ ts) ≡ None
 unfolding op_at
 word_stops word ts = refl
 
--- BETWEEN or IN with no NOT
-range_goes : (found : Sign) (x : Operand ColumnName) (ts : List Token) (r : Option (Filter ColumnName × List Token)) → is_sign found (s.Word words.Not) ≡ false → is_sign found (s.Word words.Is) ≡ false → op_at (Fixed found ∷ ts) ≡ None
-    → range_at false x (Fixed found ∷ ts) ≡ r → tail_at x (Fixed found ∷ ts) ≡ r
-unfolding tail_at compared_at
-range_goes found x ts r n i h e = rw (stops found (s.Word words.Not) ts n, stops found (s.Word words.Is) ts i, h) e
+module _ {C : Type 0} (p : Parser C) where
+  bare_goes : (ts mid : List Token) (y : Operand C) (r : Option (Filter C × List Token)) → operand_at p ts ≡ Some (y, mid) → tail_at p y mid ≡ r → bare_at p ts ≡ r
+  unfolding bare_at
+  bare_goes ts mid y r e f = rw e f
 
-compared_goes : (y : Op) (x z : Operand ColumnName) (ts to : List Token) → operand_at ts ≡ Some (z, to) → tail_at x (Fixed (s.Mark (mark_of y)) ∷ ts) ≡ Some (c.Compare y x z, to)
-unfolding tail_at compared_at
-compared_goes y x z ts to e =
-    let no = mark_is_no y in
-    rw (stops (s.Mark (mark_of y)) (s.Word words.Not) ts no.1, stops (s.Mark (mark_of y)) (s.Word words.Is) ts no.2, op_read y ts, e) refl
+  between_goes : (negated : Bool) (x : Operand C) (low to : List Token) (l : Operand C × Operand C) → limits_at p low ≡ Some (l, to) → range_at p negated x (Fixed (s.Word words.Between) ∷ low) ≡ Some (between_of negated x l, to)
+  unfolding range_at
+  between_goes negated x low to l e = rw (sees (s.Word words.Between) low, e) refl
 
-null_goes : (x : ColumnName) (to : List Token) → tail_at (o.Column x) (Fixed (s.Word words.Is) ∷ Fixed (s.Word words.Null) ∷ to) ≡ Some (c.IsNull (o.Column x), to)
-unfolding tail_at null_at nulled_at
-null_goes x to =
-    rw (stops (s.Word words.Is) (s.Word words.Not) (Fixed (s.Word words.Null) ∷ to) (differs (s.Word words.Is) (s.Word words.Not) refl), sees (s.Word words.Is) (Fixed (s.Word words.Null) ∷ to), stops (s.Word words.Null) (s.Word words.Not) to (differs (s.Word words.Null) (s.Word words.Not) refl), sees (s.Word words.Null) to) refl
+  in_goes : (negated : Bool) (x : Operand C) (rest to : List Token) (ys : List Literal) → members_at rest ≡ Some (ys, to) → range_at p negated x (Fixed (s.Word words.In) ∷ rest) ≡ Some (in_of negated x ys, to)
+  unfolding range_at among_at
+  in_goes negated x rest to ys e = rw (stops (s.Word words.In) (s.Word words.Between) rest (differs (s.Word words.In) (s.Word words.Between) refl), sees (s.Word words.In) rest, e) refl
 
-not_null_goes : (x : ColumnName) (to : List Token) → tail_at (o.Column x) (Fixed (s.Word words.Is) ∷ Fixed (s.Word words.Not) ∷ Fixed (s.Word words.Null) ∷ to) ≡ Some (c.IsNotNull (o.Column x), to)
-unfolding tail_at null_at nulled_at
-not_null_goes x to =
-    rw (stops (s.Word words.Is) (s.Word words.Not) (Fixed (s.Word words.Not) ∷ Fixed (s.Word words.Null) ∷ to) (differs (s.Word words.Is) (s.Word words.Not) refl), sees (s.Word words.Is) (Fixed (s.Word words.Not) ∷ Fixed (s.Word words.Null) ∷ to), sees (s.Word words.Not) (Fixed (s.Word words.Null) ∷ to), sees (s.Word words.Null) to) refl
+  -- NOT before BETWEEN or IN
+  negated_goes : (x : Operand C) (rest : List Token) (r : Option (Filter C × List Token)) → range_at p true x rest ≡ r → tail_at p x (Fixed (s.Word words.Not) ∷ rest) ≡ r
+  unfolding tail_at
+  negated_goes x rest r e = rw (sees (s.Word words.Not) rest) e
 
-pub bare_read : {from to : List Token} {x : Filter ColumnName} → IsTested from to x → Stops (s.Mark marks.Dot) to → bare_at from ≡ Some (x, to)
-bare_read (compare {from = from} {mid = mid} {to = to} {op = y} {x = x} {y = z} a b) n =
-    let no = mark_is_no y in
-    bare_goes from (Fixed (s.Mark (mark_of y)) ∷ mid) x (Some (c.Compare y x z, to)) (operand_read a (no_dot (s.Mark (mark_of y)) mid no.0)) (compared_goes y x z mid to (operand_read b n))
-bare_read (between {from = from} {low = low} {to = to} {x = x} {y = y} {z = z} a b g) n =
-    bare_goes from (Fixed (s.Word words.Between) ∷ low) x (Some (c.Between x y z, to)) (operand_read a (no_dot (s.Word words.Between) low (differs (s.Word words.Between) (s.Mark marks.Dot) refl)))
-    (range_goes (s.Word words.Between) x low (Some (c.Between x y z, to)) (differs (s.Word words.Between) (s.Word words.Not) refl) (differs (s.Word words.Between) (s.Word words.Is) refl) (word_stops words.Between low) (between_goes false x low to (y, z) (limits_goes b g n)))
-bare_read (not_between {from = from} {low = low} {to = to} {x = x} {y = y} {z = z} a b g) n =
-    bare_goes from (Fixed (s.Word words.Not) ∷ Fixed (s.Word words.Between) ∷ low) x (Some (c.NotBetween x y z, to)) (operand_read a (no_dot (s.Word words.Not) (Fixed (s.Word words.Between) ∷ low) (differs (s.Word words.Not) (s.Mark marks.Dot) refl)))
-    (negated_goes x (Fixed (s.Word words.Between) ∷ low) (Some (c.NotBetween x y z, to)) (between_goes true x low to (y, z) (limits_goes b g n)))
-bare_read (among {from = from} {mid = mid} {to = to} {x = x} {ys = ys} a b) n =
-    bare_goes from (Fixed (s.Word words.In) ∷ Fixed (s.Mark marks.Open) ∷ mid) x (Some (c.In x ys, to)) (operand_read a (no_dot (s.Word words.In) (Fixed (s.Mark marks.Open) ∷ mid) (differs (s.Word words.In) (s.Mark marks.Dot) refl)))
-    (range_goes (s.Word words.In) x (Fixed (s.Mark marks.Open) ∷ mid) (Some (c.In x ys, to)) (differs (s.Word words.In) (s.Word words.Not) refl) (differs (s.Word words.In) (s.Word words.Is) refl) (word_stops words.In (Fixed (s.Mark marks.Open) ∷ mid)) (in_goes false x (Fixed (s.Mark marks.Open) ∷ mid) to ys (members_goes b)))
-bare_read (not_among {from = from} {mid = mid} {to = to} {x = x} {ys = ys} a b) n =
-    bare_goes from (Fixed (s.Word words.Not) ∷ Fixed (s.Word words.In) ∷ Fixed (s.Mark marks.Open) ∷ mid) x (Some (c.NotIn x ys, to)) (operand_read a (no_dot (s.Word words.Not) (Fixed (s.Word words.In) ∷ Fixed (s.Mark marks.Open) ∷ mid) (differs (s.Word words.Not) (s.Mark marks.Dot) refl)))
-    (negated_goes x (Fixed (s.Word words.In) ∷ Fixed (s.Mark marks.Open) ∷ mid) (Some (c.NotIn x ys, to)) (in_goes true x (Fixed (s.Mark marks.Open) ∷ mid) to ys (members_goes b)))
-bare_read (null {from = from} {to = to} {x = x} a) n =
-    bare_goes from (Fixed (s.Word words.Is) ∷ Fixed (s.Word words.Null) ∷ to) (o.Column x) (Some (c.IsNull (o.Column x), to)) (operand_read (column a) (no_dot (s.Word words.Is) (Fixed (s.Word words.Null) ∷ to) (differs (s.Word words.Is) (s.Mark marks.Dot) refl))) (null_goes x to)
-bare_read (not_null {from = from} {to = to} {x = x} a) n =
-    bare_goes from (Fixed (s.Word words.Is) ∷ Fixed (s.Word words.Not) ∷ Fixed (s.Word words.Null) ∷ to) (o.Column x) (Some (c.IsNotNull (o.Column x), to)) (operand_read (column a) (no_dot (s.Word words.Is) (Fixed (s.Word words.Not) ∷ Fixed (s.Word words.Null) ∷ to) (differs (s.Word words.Is) (s.Mark marks.Dot) refl))) (not_null_goes x to)
+  -- BETWEEN or IN with no NOT
+  range_goes : (found : Sign) (x : Operand C) (ts : List Token) (r : Option (Filter C × List Token)) → is_sign found (s.Word words.Not) ≡ false → is_sign found (s.Word words.Is) ≡ false → op_at (Fixed found ∷ ts) ≡ None
+      → range_at p false x (Fixed found ∷ ts) ≡ r → tail_at p x (Fixed found ∷ ts) ≡ r
+  unfolding tail_at compared_at
+  range_goes found x ts r n i h e = rw (stops found (s.Word words.Not) ts n, stops found (s.Word words.Is) ts i, h) e
+
+  compared_goes : (y : Op) (x z : Operand C) (ts to : List Token) → operand_at p ts ≡ Some (z, to) → tail_at p x (Fixed (s.Mark (mark_of y)) ∷ ts) ≡ Some (c.Compare y x z, to)
+  unfolding tail_at compared_at
+  compared_goes y x z ts to e =
+      let no = mark_is_no y in
+      rw (stops (s.Mark (mark_of y)) (s.Word words.Not) ts no.1, stops (s.Mark (mark_of y)) (s.Word words.Is) ts no.2, op_read y ts, e) refl
+
+  null_goes : (x : C) (to : List Token) → tail_at p (o.Column x) (Fixed (s.Word words.Is) ∷ Fixed (s.Word words.Null) ∷ to) ≡ Some (c.IsNull (o.Column x), to)
+  unfolding tail_at null_at nulled_at
+  null_goes x to =
+      rw (stops (s.Word words.Is) (s.Word words.Not) (Fixed (s.Word words.Null) ∷ to) (differs (s.Word words.Is) (s.Word words.Not) refl), sees (s.Word words.Is) (Fixed (s.Word words.Null) ∷ to), stops (s.Word words.Null) (s.Word words.Not) to (differs (s.Word words.Null) (s.Word words.Not) refl), sees (s.Word words.Null) to) refl
+
+  not_null_goes : (x : C) (to : List Token) → tail_at p (o.Column x) (Fixed (s.Word words.Is) ∷ Fixed (s.Word words.Not) ∷ Fixed (s.Word words.Null) ∷ to) ≡ Some (c.IsNotNull (o.Column x), to)
+  unfolding tail_at null_at nulled_at
+  not_null_goes x to =
+      rw (stops (s.Word words.Is) (s.Word words.Not) (Fixed (s.Word words.Not) ∷ Fixed (s.Word words.Null) ∷ to) (differs (s.Word words.Is) (s.Word words.Not) refl), sees (s.Word words.Is) (Fixed (s.Word words.Not) ∷ Fixed (s.Word words.Null) ∷ to), sees (s.Word words.Not) (Fixed (s.Word words.Null) ∷ to), sees (s.Word words.Null) to) refl
+
+-- p reads what R spells
+module _ {C : Type 0} (R : Spelling C) (t : Tame R) (z : Begins R) (p : Parser C) (d : ℕ) (complete : Complete p R d (Stops (s.Mark marks.Dot))) where
+  operands : Tame (IsOperand R)
+  operands = tame_operand R t
+
+  -- an operand, and the sign behind it
+  one_read : {from mid : List Token} {x : Operand C} (sign : Sign) → is_sign sign (s.Mark marks.Dot) ≡ false → IsOperand R from (Fixed sign ∷ mid) x → HasRoom d from → operand_at p from ≡ Some (x, Fixed sign ∷ mid)
+  one_read {mid = mid} sign undotted a w = operand_read R t z p d complete a w (no_dot sign mid undotted)
+
+  limits_goes : {low high to : List Token} {x y : Operand C} → IsOperand R low (Fixed (s.Word words.And) ∷ high) x → IsOperand R high to y → HasRoom d low → Stops (s.Mark marks.Dot) to → limits_at p low ≡ Some ((x, y), to)
+  unfolding limits_at
+  limits_goes {high = high} a b w n = rw (one_read (s.Word words.And) (differs (s.Word words.And) (s.Mark marks.Dot) refl) a w, sees (s.Word words.And) high, operand_read R t z p d complete b (operands.within a d w) n) refl
+
+  bare_read : {from to : List Token} {x : Filter C} → IsBare R from to x → HasRoom d from → Stops (s.Mark marks.Dot) to → bare_at p from ≡ Some (x, to)
+  bare_read (compare {from = from} {mid = mid} {to = to} {op = o} {x = x} {y = y} a b) w n =
+      let no = mark_is_no o in
+      bare_goes p from (Fixed (s.Mark (mark_of o)) ∷ mid) x (Some (c.Compare o x y, to)) (one_read (s.Mark (mark_of o)) no.0 a w) (compared_goes p o x y mid to (operand_read R t z p d complete b (mark_within o mid d (operands.within a d w)) n))
+  bare_read (between {from = from} {low = low} {to = to} {x = x} {y = y} {z = k} a b g) w n =
+      bare_goes p from (Fixed (s.Word words.Between) ∷ low) x (Some (c.Between x y k, to)) (one_read (s.Word words.Between) (differs (s.Word words.Between) (s.Mark marks.Dot) refl) a w)
+      (range_goes p (s.Word words.Between) x low (Some (c.Between x y k, to)) (differs (s.Word words.Between) (s.Word words.Not) refl) (differs (s.Word words.Between) (s.Word words.Is) refl) (word_stops words.Between low) (between_goes p false x low to (y, k) (limits_goes b g (operands.within a d w) n)))
+  bare_read (not_between {from = from} {low = low} {to = to} {x = x} {y = y} {z = k} a b g) w n =
+      bare_goes p from (Fixed (s.Word words.Not) ∷ Fixed (s.Word words.Between) ∷ low) x (Some (c.NotBetween x y k, to)) (one_read (s.Word words.Not) (differs (s.Word words.Not) (s.Mark marks.Dot) refl) a w)
+      (negated_goes p x (Fixed (s.Word words.Between) ∷ low) (Some (c.NotBetween x y k, to)) (between_goes p true x low to (y, k) (limits_goes b g (operands.within a d w) n)))
+  bare_read (among {from = from} {mid = mid} {to = to} {x = x} {ys = ys} a b) w n =
+      bare_goes p from (Fixed (s.Word words.In) ∷ Fixed (s.Mark marks.Open) ∷ mid) x (Some (c.In x ys, to)) (one_read (s.Word words.In) (differs (s.Word words.In) (s.Mark marks.Dot) refl) a w)
+      (range_goes p (s.Word words.In) x (Fixed (s.Mark marks.Open) ∷ mid) (Some (c.In x ys, to)) (differs (s.Word words.In) (s.Word words.Not) refl) (differs (s.Word words.In) (s.Word words.Is) refl) (word_stops words.In (Fixed (s.Mark marks.Open) ∷ mid)) (in_goes p false x (Fixed (s.Mark marks.Open) ∷ mid) to ys (members_goes b)))
+  bare_read (not_among {from = from} {mid = mid} {to = to} {x = x} {ys = ys} a b) w n =
+      bare_goes p from (Fixed (s.Word words.Not) ∷ Fixed (s.Word words.In) ∷ Fixed (s.Mark marks.Open) ∷ mid) x (Some (c.NotIn x ys, to)) (one_read (s.Word words.Not) (differs (s.Word words.Not) (s.Mark marks.Dot) refl) a w)
+      (negated_goes p x (Fixed (s.Word words.In) ∷ Fixed (s.Mark marks.Open) ∷ mid) (Some (c.NotIn x ys, to)) (in_goes p true x (Fixed (s.Mark marks.Open) ∷ mid) to ys (members_goes b)))
+  bare_read (null {from = from} {to = to} {x = x} a) w n =
+      bare_goes p from (Fixed (s.Word words.Is) ∷ Fixed (s.Word words.Null) ∷ to) (o.Column x) (Some (c.IsNull (o.Column x), to)) (one_read (s.Word words.Is) (differs (s.Word words.Is) (s.Mark marks.Dot) refl) (column a) w) (null_goes p x to)
+  bare_read (not_null {from = from} {to = to} {x = x} a) w n =
+      bare_goes p from (Fixed (s.Word words.Is) ∷ Fixed (s.Word words.Not) ∷ Fixed (s.Word words.Null) ∷ to) (o.Column x) (Some (c.IsNotNull (o.Column x), to)) (one_read (s.Word words.Is) (differs (s.Word words.Is) (s.Mark marks.Dot) refl) (column a) w) (not_null_goes p x to)
 
 -- one reader from another
-plain_goes : (p : Parser (Filter ColumnName)) (ts to : List Token) (x : Filter ColumnName) → Stops (s.Word words.Not) ts → test_at p ts ≡ Some (x, to) → neg_at p ts ≡ Some (x, to)
+plain_goes : {C : Type 0} (p : Parser C) (inner : Parser (Filter C)) (ts to : List Token) (x : Filter C) → Stops (s.Word words.Not) ts → test_at p inner ts ≡ Some (x, to) → neg_at p inner ts ≡ Some (x, to)
 unfolding neg_at
-plain_goes p ts to x h e = rw h e
+plain_goes p inner ts to x h e = rw h e
 
-not_goes : (p : Parser (Filter ColumnName)) (ts to : List Token) (x : Filter ColumnName) → test_at p ts ≡ Some (x, to) → neg_at p (Fixed (s.Word words.Not) ∷ ts) ≡ Some (c.Not x, to)
+not_goes : {C : Type 0} (p : Parser C) (inner : Parser (Filter C)) (ts to : List Token) (x : Filter C) → test_at p inner ts ≡ Some (x, to) → neg_at p inner (Fixed (s.Word words.Not) ∷ ts) ≡ Some (c.Not x, to)
 unfolding neg_at
-not_goes p ts to x e = rw (sees (s.Word words.Not) ts, e) refl
+not_goes p inner ts to x e = rw (sees (s.Word words.Not) ts, e) refl
 
-conj_goes : (p : Parser (Filter ColumnName)) (ts mid to : List Token) (x : Filter ColumnName) (xs : List (Filter ColumnName)) → neg_at p ts ≡ Some (x, mid) → more_at (after (s.Word words.And)) (neg_at p) (x ∷ []) mid ≡ Some (x ∷ xs, to) → conj_at p ts ≡ Some (and_chain (x ∷ xs), to)
+conj_goes : {C : Type 0} (p : Parser C) (inner : Parser (Filter C)) (ts mid to : List Token) (x : Filter C) (xs : List (Filter C)) → neg_at p inner ts ≡ Some (x, mid) → more_at (after (s.Word words.And)) (neg_at p inner) (x ∷ []) mid ≡ Some (x ∷ xs, to) → conj_at p inner ts ≡ Some (and_chain (x ∷ xs), to)
 unfolding conj_at chained_at
-conj_goes p ts mid to x xs e f = rw (e, f) refl
+conj_goes p inner ts mid to x xs e f = rw (e, f) refl
 
-disj_goes : (d : ℕ) (ts mid to : List Token) (x : Filter ColumnName) (xs : List (Filter ColumnName)) → conj_at (cond_at d) ts ≡ Some (x, mid) → more_at (after (s.Word words.Or)) (conj_at (cond_at d)) (x ∷ []) mid ≡ Some (x ∷ xs, to) → cond_at (suc d) ts ≡ Some (or_chain (x ∷ xs), to)
+disj_goes : {C : Type 0} (p : ℕ → Parser C) (d : ℕ) (ts mid to : List Token) (x : Filter C) (xs : List (Filter C)) → conj_at (p d) (cond_at p d) ts ≡ Some (x, mid) → more_at (after (s.Word words.Or)) (conj_at (p d) (cond_at p d)) (x ∷ []) mid ≡ Some (x ∷ xs, to) → cond_at p (suc d) ts ≡ Some (or_chain (x ∷ xs), to)
 unfolding cond_at chained_at
-disj_goes d ts mid to x xs e f = rw (e, f) refl
+disj_goes p d ts mid to x xs e f = rw (e, f) refl
 
-ors_end : {from to : List Token} {xs : List (Filter ColumnName)} → IsOrs IsTested from to xs → (sign : Sign) → is_sign (s.Word words.Or) sign ≡ false → Stops sign to → Stops sign from
-ors_end no_or sign p h = h
-ors_end (or {from = from} a b) sign p h = stops (s.Word words.Or) sign from p
+module _ {C : Type 0} (R : Spelling C) where
+  ors_end : {from to : List Token} {xs : List (Filter C)} → IsOrs R from to xs → (sign : Sign) → is_sign (s.Word words.Or) sign ≡ false → Stops sign to → Stops sign from
+  ors_end no_or sign p h = h
+  ors_end (or {from = from} a b) sign p h = stops (s.Word words.Or) sign from p
 
-ands_end : {from to : List Token} {xs : List (Filter ColumnName)} → IsAnds IsTested from to xs → (sign : Sign) → is_sign (s.Word words.And) sign ≡ false → Stops sign to → Stops sign from
-ands_end no_and sign p h = h
-ands_end (and {from = from} a b) sign p h = stops (s.Word words.And) sign from p
+  ands_end : {from to : List Token} {xs : List (Filter C)} → IsAnds R from to xs → (sign : Sign) → is_sign (s.Word words.And) sign ≡ false → Stops sign to → Stops sign from
+  ands_end no_and sign p h = h
+  ands_end (and {from = from} a b) sign p h = stops (s.Word words.And) sign from p
 
-ors_dot : {from to : List Token} {xs : List (Filter ColumnName)} → IsOrs IsTested from to xs → EndsCond to → Stops (s.Mark marks.Dot) from
-ors_dot b z = ors_end b (s.Mark marks.Dot) (differs (s.Word words.Or) (s.Mark marks.Dot) refl) z.dot
+  ors_dot : {from to : List Token} {xs : List (Filter C)} → IsOrs R from to xs → EndsCond to → Stops (s.Mark marks.Dot) from
+  ors_dot b z = ors_end b (s.Mark marks.Dot) (differs (s.Word words.Or) (s.Mark marks.Dot) refl) z.dot
 
-ors_and : {from to : List Token} {xs : List (Filter ColumnName)} → IsOrs IsTested from to xs → EndsCond to → Stops (s.Word words.And) from
-ors_and b z = ors_end b (s.Word words.And) (differs (s.Word words.Or) (s.Word words.And) refl) z.and
+  ors_and : {from to : List Token} {xs : List (Filter C)} → IsOrs R from to xs → EndsCond to → Stops (s.Word words.And) from
+  ors_and b z = ors_end b (s.Word words.And) (differs (s.Word words.Or) (s.Word words.And) refl) z.and
 
-ands_dot : {from to : List Token} {xs : List (Filter ColumnName)} → IsAnds IsTested from to xs → Stops (s.Mark marks.Dot) to → Stops (s.Mark marks.Dot) from
-ands_dot b n = ands_end b (s.Mark marks.Dot) (differs (s.Word words.And) (s.Mark marks.Dot) refl) n
+  ands_dot : {from to : List Token} {xs : List (Filter C)} → IsAnds R from to xs → Stops (s.Mark marks.Dot) to → Stops (s.Mark marks.Dot) from
+  ands_dot b n = ands_end b (s.Mark marks.Dot) (differs (s.Word words.And) (s.Mark marks.Dot) refl) n
 
-mutual
-  pub cond_read : {from to : List Token} {x : Filter ColumnName} → IsCond IsTested from to x → (d : ℕ) → HasRoom d from → EndsCond to → cond_at (suc d) from ≡ Some (x, to)
-  cond_read (cond {from = from} {mid = mid} {to = to} {x = x} {xs = xs} a b) d h z =
-      disj_goes d from mid to x xs (conj_read a d h (ors_dot b z) (ors_and b z))
-      (more_goes (after (s.Word words.Or)) (conj_at (cond_at d)) (x ∷ []) xs mid to (ors_read b d (length mid) (conj_within a d h) (omega arith) z))
+-- p reads what R spells, at each depth
+module _ {C : Type 0} (R : Spelling C) (t : Tame R) (z : Begins R) (p : ℕ → Parser C) (complete : (d : ℕ) → Complete (p d) R d (Stops (s.Mark marks.Dot))) where
+  mutual
+    pub cond_read : {from to : List Token} {x : Filter C} → IsCond R from to x → (d : ℕ) → HasRoom d from → EndsCond to → cond_at p (suc d) from ≡ Some (x, to)
+    cond_read (cond {from = from} {mid = mid} {to = to} {x = x} {xs = xs} a b) d h e =
+        disj_goes p d from mid to x xs (conj_read a d h (ors_dot R b e) (ors_and R b e))
+        (more_goes (after (s.Word words.Or)) (conj_at (p d) (cond_at p d)) (x ∷ []) xs mid to (ors_read b d (length mid) ((tame_conj R t).within a d h) (omega arith) e))
 
-  pub ors_read : {from to : List Token} {xs : List (Filter ColumnName)} → IsOrs IsTested from to xs → (d k : ℕ) → HasRoom d from → length from ≤ k → EndsCond to → chain_at (after (s.Word words.Or)) (conj_at (cond_at d)) k from ≡ Some (xs, to)
-  ors_read (no_or {to = to}) d k h l z = turn_done (after (s.Word words.Or)) (conj_at (cond_at d)) k to z.or
-  ors_read (or a b) d zero h l z = absurd (omega arith)
-  ors_read (or {from = from} {mid = mid} {to = to} {x = x} {xs = xs} a b) d (suc k) h l z =
-      let lt = conj_shorter a in
-      sign_goes (s.Word words.Or) (conj_at (cond_at d)) k from mid to x xs (conj_read a d h (ors_dot b z) (ors_and b z)) (ors_read b d k (conj_within a d h) (omega arith) z)
+    ors_read : {from to : List Token} {xs : List (Filter C)} → IsOrs R from to xs → (d k : ℕ) → HasRoom d from → length from ≤ k → EndsCond to → chain_at (after (s.Word words.Or)) (conj_at (p d) (cond_at p d)) k from ≡ Some (xs, to)
+    ors_read (no_or {to = to}) d k h l e = turn_done (after (s.Word words.Or)) (conj_at (p d) (cond_at p d)) k to e.or
+    ors_read (or a b) d zero h l e = absurd (omega arith)
+    ors_read (or {from = from} {mid = mid} {to = to} {x = x} {xs = xs} a b) d (suc k) h l e =
+        let lt = (tame_conj R t).shorter a in
+        sign_goes (s.Word words.Or) (conj_at (p d) (cond_at p d)) k from mid to x xs (conj_read a d h (ors_dot R b e) (ors_and R b e)) (ors_read b d k ((tame_conj R t).within a d h) (omega arith) e)
 
-  pub conj_read : {from to : List Token} {x : Filter ColumnName} → IsConj IsTested from to x → (d : ℕ) → HasRoom d from → Stops (s.Mark marks.Dot) to → Stops (s.Word words.And) to → conj_at (cond_at d) from ≡ Some (x, to)
-  conj_read (conj {from = from} {mid = mid} {to = to} {x = x} {xs = xs} a b) d h n m =
-      conj_goes (cond_at d) from mid to x xs (neg_read a d h (ands_dot b n))
-      (more_goes (after (s.Word words.And)) (neg_at (cond_at d)) (x ∷ []) xs mid to (ands_read b d (length mid) (neg_within a d h) (omega arith) n m))
+    conj_read : {from to : List Token} {x : Filter C} → IsConj R from to x → (d : ℕ) → HasRoom d from → Stops (s.Mark marks.Dot) to → Stops (s.Word words.And) to → conj_at (p d) (cond_at p d) from ≡ Some (x, to)
+    conj_read (conj {from = from} {mid = mid} {to = to} {x = x} {xs = xs} a b) d h n m =
+        conj_goes (p d) (cond_at p d) from mid to x xs (neg_read a d h (ands_dot R b n))
+        (more_goes (after (s.Word words.And)) (neg_at (p d) (cond_at p d)) (x ∷ []) xs mid to (ands_read b d (length mid) ((tame_neg R t).within a d h) (omega arith) n m))
 
-  pub ands_read : {from to : List Token} {xs : List (Filter ColumnName)} → IsAnds IsTested from to xs → (d k : ℕ) → HasRoom d from → length from ≤ k → Stops (s.Mark marks.Dot) to → Stops (s.Word words.And) to → chain_at (after (s.Word words.And)) (neg_at (cond_at d)) k from ≡ Some (xs, to)
-  ands_read (no_and {to = to}) d k h l n m = turn_done (after (s.Word words.And)) (neg_at (cond_at d)) k to m
-  ands_read (and a b) d zero h l n m = absurd (omega arith)
-  ands_read (and {from = from} {mid = mid} {to = to} {x = x} {xs = xs} a b) d (suc k) h l n m =
-      let lt = neg_shorter a in
-      sign_goes (s.Word words.And) (neg_at (cond_at d)) k from mid to x xs (neg_read a d h (ands_dot b n)) (ands_read b d k (neg_within a d h) (omega arith) n m)
+    ands_read : {from to : List Token} {xs : List (Filter C)} → IsAnds R from to xs → (d k : ℕ) → HasRoom d from → length from ≤ k → Stops (s.Mark marks.Dot) to → Stops (s.Word words.And) to → chain_at (after (s.Word words.And)) (neg_at (p d) (cond_at p d)) k from ≡ Some (xs, to)
+    ands_read (no_and {to = to}) d k h l n m = turn_done (after (s.Word words.And)) (neg_at (p d) (cond_at p d)) k to m
+    ands_read (and a b) d zero h l n m = absurd (omega arith)
+    ands_read (and {from = from} {mid = mid} {to = to} {x = x} {xs = xs} a b) d (suc k) h l n m =
+        let lt = (tame_neg R t).shorter a in
+        sign_goes (s.Word words.And) (neg_at (p d) (cond_at p d)) k from mid to x xs (neg_read a d h (ands_dot R b n)) (ands_read b d k ((tame_neg R t).within a d h) (omega arith) n m)
 
-  pub neg_read : {from to : List Token} {x : Filter ColumnName} → IsNeg IsTested from to x → (d : ℕ) → HasRoom d from → Stops (s.Mark marks.Dot) to → neg_at (cond_at d) from ≡ Some (x, to)
-  neg_read (plain {from = from} {to = to} {x = x} a) d h n = plain_goes (cond_at d) from to x (test_begins a) (test_read a d h n)
-  neg_read (not {from = from} {to = to} {x = x} a) d h n = not_goes (cond_at d) from to x (test_read a d h n)
+    neg_read : {from to : List Token} {x : Filter C} → IsNeg R from to x → (d : ℕ) → HasRoom d from → Stops (s.Mark marks.Dot) to → neg_at (p d) (cond_at p d) from ≡ Some (x, to)
+    neg_read (plain {from = from} {to = to} {x = x} a) d h n = plain_goes (p d) (cond_at p d) from to x (test_begins R z a) (test_read a d h n)
+    neg_read (not {from = from} {to = to} {x = x} a) d h n = not_goes (p d) (cond_at p d) from to x (test_read a d h n)
 
-  pub test_read : {from to : List Token} {x : Filter ColumnName} → IsTest IsTested from to x → (d : ℕ) → HasRoom d from → Stops (s.Mark marks.Dot) to → test_at (cond_at d) from ≡ Some (x, to)
-  test_read (parens a) zero h n = absurd h
-  test_read (parens {from = from} {to = to} {x = x} a) (suc d) h n = parens_read (cond_at (suc d)) bare_at from to x (cond_read a d h (close_ends to))
-  test_read (bare {from = from} {to = to} {x = x} a) d h n = open_read (cond_at d) bare_at from (Some (x, to)) (bare_begins a (s.Mark marks.Open) (differs (s.Mark marks.Plus) (s.Mark marks.Open) refl) (differs (s.Mark marks.Minus) (s.Mark marks.Open) refl)) (bare_read a n)
+    test_read : {from to : List Token} {x : Filter C} → IsTest R from to x → (d : ℕ) → HasRoom d from → Stops (s.Mark marks.Dot) to → test_at (p d) (cond_at p d) from ≡ Some (x, to)
+    test_read (parens a) zero h n = absurd h
+    test_read (parens {from = from} {to = to} {x = x} a) (suc d) h n = parens_read (cond_at p (suc d)) (bare_at (p (suc d))) from to x (cond_read a d h (close_ends to))
+    test_read (bare {from = from} {to = to} {x = x} a) d h n = open_read (cond_at p d) (bare_at (p d)) from (Some (x, to)) (bare_no_open R z a) (bare_read R t z (p d) d (complete d) a h n)

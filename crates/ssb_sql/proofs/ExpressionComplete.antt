@@ -23,7 +23,7 @@ use Rattle.ssb_sql.specs.Steps.{Parser, after, is_fixed, is_sign, chain_at, more
 use Rattle.ssb_sql.specs.ReadExpressions.{bare_primary_at, primary_at, adding_at, signed, factor_at, term_at, step_at, expr_at}
 use Rattle.ssb_sql.proofs.StepFacts.{Stops, stops, differs, sees}
 use Rattle.ssb_sql.proofs.Shapes.{turn_done, turn_goes, sign_goes, more_goes, parens_read, open_read}
-use Rattle.ssb_sql.proofs.PartFacts.{column_read}
+use Rattle.ssb_sql.proofs.PartFacts.{column_begins, column_read}
 use Rattle.ssb_sql.proofs.ExpressionSound.{adding_mark, term_shorter, factor_shorter, term_within, factor_within}
 use Rattle.ssb_trees.specs.declared.expr.Step.{Step}
 use Rattle.ssb_trees.specs.declared.expr.Expr.{Expr}
@@ -44,11 +44,6 @@ close_ends to = record {
 }
 
 -- how things begin
-pub column_begins : {from to : List Token} {x : ColumnName} → IsColumn from to x → (sign : Sign) → Stops sign from
-unfolding after is_fixed
-column_begins alone sign = refl
-column_begins dotted sign = refl
-
 number_begins : (n : ℕ) (to : List Token) (sign : Sign) → Stops sign (Number n ∷ to)
 unfolding after is_fixed
 number_begins n to sign = refl

@@ -1,24 +1,27 @@
 -- Columns, literals and operands are read exactly.
-use Rattle.std.proofs.Common.{◌≡◌, ℕ, ◌≤◌, true, false, List, ◌∷◌, Some, None, refl, sym, ap, subst, ◌∙◌, arith, inl, inr, pos, ℤ}
+use Rattle.std.proofs.Common.{◌≡◌, ℕ, ◌≤◌, ◌<◌, true, false, List, length, ◌∷◌, Some, None, refl, sym, ap, subst, ◌∙◌, arith, inl, inr, pos, ℤ}
 use Rattle.std.specs.Prelude.{nat_le, neg_ℤ}
 use Rattle.std.proofs.lemmas.Bool.{leb-true, le-leb}
 use Rattle.ssb_sql.specs.declared.token.Token.{Token}
 use Rattle.ssb_sql.specs.declared.token.Token.TheVariants.{Fixed, Name, Number, Text}
 use Rattle.ssb_sql.specs.declared.token.Mark.TheVariants as marks
+use Rattle.ssb_sql.specs.declared.token.Sign.{Sign}
 use Rattle.ssb_sql.specs.declared.token.Sign.TheVariants as s
+use Rattle.ssb_terms.specs.declared.keyword.Keyword.TheVariants as words
 use Rattle.ssb_sql.specs.declared.named.ColumnName.{ColumnName}
 use Rattle.ssb_terms.specs.declared.literal.Literal.{Literal}
 use Rattle.ssb_terms.specs.declared.literal.Literal.TheVariants as l
 use Rattle.ssb_trees.specs.declared.operand.Operand.TheVariants as o
-use Rattle.ssb_sql.specs.Forms.{IsNamed, IsColumn, IsLiteral, IsOperand}
+use Rattle.ssb_sql.specs.Forms.{Spelling, IsNamed, IsColumn, IsLiteral, IsOperand}
 use Rattle.ssb_sql.specs.Forms.IsNamed.{name}
 use Rattle.ssb_sql.specs.Forms.IsColumn.{alone, dotted}
 use Rattle.ssb_sql.specs.Forms.IsLiteral.{number, positive, negative, text}
 use Rattle.ssb_sql.specs.Forms.IsOperand.{column, literal}
-use Rattle.ssb_sql.specs.Steps.{after, is_fixed, name_at, number_at, is_name_next, Shrinks}
+use Rattle.ssb_sql.specs.Room.{HasRoom}
+use Rattle.ssb_sql.specs.Steps.{after, is_fixed, Parser, name_at, number_at, is_literal_next, nonempty_at, Shrinks}
 use Rattle.ssb_sql.specs.ReadParts.{column_of, column_at, small_at, below_at, plain_literal_at, literal_at, operand_at}
 use Rattle.ssb_sql.proofs.StepFacts.{some_is, bind_some, choose_some, if_some, after_is, Stops, stops, differs, sees}
-use Rattle.ssb_sql.proofs.Shapes.{Sound, Tame, Went, tame, spells, starts, shrinks}
+use Rattle.ssb_sql.proofs.Shapes.{Sound, Shorter, Tame, Complete, Went, went, tame, spells, starts, shrinks, nonempty_read}
 use Rattle.ssb_trees.specs.declared.operand.Operand.{Operand}
 
 pub name_is : (ts : List Token) (x : List ℕ × List Token) → name_at ts ≡ Some x → ts ≡ Name x.0 ∷ x.1
@@ -104,20 +107,20 @@ literal_sound ts x e =
 pub sound_literal : Sound literal_at IsLiteral
 sound_literal = record { by = literal_sound }
 
-operand_sound : (ts : List Token) (x : Operand ColumnName × List Token) → operand_at ts ≡ Some x → IsOperand ts x.1 x.0
+operand_sound : {C : Type 0} (R : Spelling C) (p : Parser C) → Sound (nonempty_at p) R → (ts : List Token) (x : Operand C × List Token) → operand_at p ts ≡ Some x → IsOperand R ts x.1 x.0
 unfolding operand_at
-operand_sound ts x e =
-    elim (if_some (is_name_next ts) _ _ (Some x) e) as (λ _. IsOperand ts x.1 x.0) [
+operand_sound R p h ts x e =
+    elim (if_some (is_literal_next ts) _ _ (Some x) e) as (λ _. IsOperand R ts x.1 x.0) [
       | inl g ↦
-          let f = bind_some (column_at ts) _ x g.1 in
-          spells IsOperand ts f.0.1 (o.Column f.0.0) x (column (column_sound ts f.0 f.1)) f.2
-      | inr g ↦
           let f = bind_some (literal_at ts) _ x g.1 in
-          spells IsOperand ts f.0.1 (o.Literal f.0.0) x (literal (literal_sound ts f.0 f.1)) f.2
+          spells (IsOperand R) ts f.0.1 (o.Literal f.0.0) x (literal (literal_sound ts f.0 f.1)) f.2
+      | inr g ↦
+          let f = bind_some (nonempty_at p ts) _ x g.1 in
+          spells (IsOperand R) ts f.0.1 (o.Column f.0.0) x (column (h.by ts f.0 f.1)) f.2
     ]
 
-pub sound_operand : Sound operand_at IsOperand
-sound_operand = record { by = operand_sound }
+pub sound_operand : {C : Type 0} (R : Spelling C) (p : Parser C) → Sound (nonempty_at p) R → Sound (operand_at p) (IsOperand R)
+sound_operand R p h = record { by = operand_sound R p h }
 
 pub tame_name : Tame IsNamed
 tame_name = tame IsNamed (λ from to x h. name_went h)
@@ -141,12 +144,19 @@ literal_went text = record { shorter = omega arith; within = λ d h. h }
 pub tame_literal : Tame IsLiteral
 tame_literal = tame IsLiteral (λ from to x h. literal_went h)
 
-operand_went : {from to : List Token} {x : Operand ColumnName} → IsOperand from to x → Went from to
-operand_went (column a) = column_went a
-operand_went (literal a) = literal_went a
+pub operand_shorter : {C : Type 0} (R : Spelling C) → Shorter R → Shorter (IsOperand R)
+operand_shorter {C = C} R r = record { by = λ h. shorter_of h }
+  where
+    shorter_of : {from to : List Token} {x : Operand C} → IsOperand R from to x → length to < length from
+    shorter_of (column a) = r.by a
+    shorter_of (literal a) = tame_literal.shorter a
 
-pub tame_operand : Tame IsOperand
-tame_operand = tame IsOperand (λ from to x h. operand_went h)
+operand_went : {C : Type 0} (R : Spelling C) → Tame R → {from to : List Token} {x : Operand C} → IsOperand R from to x → Went from to
+operand_went R t (column a) = went R t a
+operand_went R t (literal a) = literal_went a
+
+pub tame_operand : {C : Type 0} (R : Spelling C) → Tame R → Tame (IsOperand R)
+tame_operand R t = tame (IsOperand R) (λ from to x h. operand_went R t h)
 
 pub name_shrinks : Shrinks (after (s.Mark marks.Comma)) name_at
 name_shrinks = shrinks (s.Mark marks.Comma) name_at IsNamed sound_name tame_name
@@ -189,19 +199,35 @@ literal_read (positive {to = to} {n = n} h) = rw (sees (s.Mark marks.Plus) (Numb
 literal_read (negative {to = to} {n = n} h) = rw (stops (s.Mark marks.Minus) (s.Mark marks.Plus) (Number n ∷ to) (differs (s.Mark marks.Minus) (s.Mark marks.Plus) refl), sees (s.Mark marks.Minus) (Number n ∷ to), below_read n to h) refl
 literal_read text = refl
 
-column_next : {from to : List Token} {x : ColumnName} → IsColumn from to x → is_name_next from ≡ true
-unfolding is_name_next
-column_next alone = refl
-column_next dotted = refl
-
-literal_next : {from to : List Token} {x : Literal} → IsLiteral from to x → is_name_next from ≡ false
-unfolding is_name_next
+literal_next : {from to : List Token} {x : Literal} → IsLiteral from to x → is_literal_next from ≡ true
+unfolding is_literal_next
 literal_next (number h) = refl
 literal_next (positive h) = refl
 literal_next (negative h) = refl
 literal_next text = refl
 
-pub operand_read : {from to : List Token} {x : Operand ColumnName} → IsOperand from to x → Stops (s.Mark marks.Dot) to → operand_at from ≡ Some (x, to)
+-- what R spells begins like no literal, and with neither a NOT nor a parenthesis
+pub record Begins {C : Type 0} (R : Spelling C) : Type 0 where
+  pub no_literal : {from to : List Token} {x : C} → R from to x → is_literal_next from ≡ false
+  pub no_not : {from to : List Token} {x : C} → R from to x → Stops (s.Word words.Not) from
+  pub no_open : {from to : List Token} {x : C} → R from to x → Stops (s.Mark marks.Open) from
+
+pub column_begins : {from to : List Token} {x : ColumnName} → IsColumn from to x → (sign : Sign) → Stops sign from
+unfolding after is_fixed
+column_begins alone sign = refl
+column_begins dotted sign = refl
+
+pub column_no_literal : {from to : List Token} {x : ColumnName} → IsColumn from to x → is_literal_next from ≡ false
+unfolding is_literal_next
+column_no_literal alone = refl
+column_no_literal dotted = refl
+
+pub begins_column : Begins IsColumn
+begins_column = record { no_literal = λ h. column_no_literal h; no_not = λ h. column_begins h (s.Word words.Not); no_open = λ h. column_begins h (s.Mark marks.Open) }
+
+-- an operand is read where p reads what R spells
+pub operand_read : {C : Type 0} (R : Spelling C) → Tame R → Begins R → (p : Parser C) (d : ℕ) → Complete p R d (Stops (s.Mark marks.Dot))
+    → {from to : List Token} {x : Operand C} → IsOperand R from to x → HasRoom d from → Stops (s.Mark marks.Dot) to → operand_at p from ≡ Some (x, to)
 unfolding operand_at
-operand_read (column a) h = rw (column_next a, column_read a h) refl
-operand_read (literal a) h = rw (literal_next a, literal_read a) refl
+operand_read R t starts p d h (column {from = from} {to = to} {x = x} a) w n = rw (starts.no_literal a, nonempty_read p from (x, to) (h.by a w n) (t.shorter a)) refl
+operand_read R t starts p d h (literal a) w n = rw (literal_next a, literal_read a) refl

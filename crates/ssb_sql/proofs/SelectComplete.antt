@@ -37,7 +37,7 @@ use Rattle.ssb_sql.specs.ReadExpressions.{expr_at}
 use Rattle.ssb_sql.specs.ReadSelects.{function_at, star_at, argument_at, aggregate_at, output_at, alias_at, item_at, where_at, by_at, key_at, order_at, ends, select_of, ordered_at, grouped_at, filtered_at, joined_at, query_at}
 use Rattle.ssb_sql.proofs.StepFacts.{some_is, Stops, stops, differs, sees}
 use Rattle.ssb_sql.proofs.Shapes.{Complete, GoesOn, closed_read, list_read, tame_list}
-use Rattle.ssb_sql.proofs.PartFacts.{tame_name, tame_column, named_read, name_read, column_read}
+use Rattle.ssb_sql.proofs.PartFacts.{begins_column, tame_name, tame_column, named_read, name_read, column_read}
 use Rattle.ssb_sql.proofs.Depth.{all_within}
 use Rattle.ssb_sql.proofs.ExpressionComplete.{expr_begins, expr_read, close_ends}
 use Rattle.ssb_sql.proofs.ConditionComplete.{EndsCond, cond_read}
@@ -119,13 +119,17 @@ names_read from to xs h n =
     let d = length from in
     list_read name_at IsNamed tame_name d (λ to. Unit {0}) any_end (record { by = λ a w f. named_read a }) h (all_within from d (omega arith)) tt n
 
+-- columns are read at any depth
+complete_column : (d : ℕ) → Complete column_at IsColumn d (Stops (s.Mark marks.Dot))
+complete_column d = record { by = λ a w n. column_read a n }
+
 column_goes_on : GoesOn (Stops (s.Mark marks.Dot))
 column_goes_on = record { comma = λ ts. stops (s.Mark marks.Comma) (s.Mark marks.Dot) ts (differs (s.Mark marks.Comma) (s.Mark marks.Dot) refl) }
 
 columns_read : (from to : List Token) (xs : List ColumnName) → IsList IsColumn from to xs → Stops (s.Mark marks.Dot) to → Stops (s.Mark marks.Comma) to → list_at column_at from ≡ Some (xs, to)
 columns_read from to xs h m n =
     let d = length from in
-    list_read column_at IsColumn tame_column d (Stops (s.Mark marks.Dot)) column_goes_on (record { by = λ a w f. column_read a f }) h (all_within from d (omega arith)) m n
+    list_read column_at IsColumn tame_column d (Stops (s.Mark marks.Dot)) column_goes_on (complete_column d) h (all_within from d (omega arith)) m n
 
 key_read : {from to : List Token} {x : Key} → IsKey from to x → key_at from ≡ Some (x, to)
 unfolding key_at
@@ -176,7 +180,7 @@ where_stops (where_cond {from = from} a) sign p h = stops (s.Word words.Where) s
 where_read : {from to : List Token} {x : Option (Filter ColumnName)} → IsWhere from to x → (d : ℕ) → HasRoom d from → Stops (s.Word words.Where) to → EndsCond to → where_at (suc d) from ≡ Some (x, to)
 unfolding where_at
 where_read no_where d h n z = rw n refl
-where_read (where_cond {from = from} a) d h n z = rw (sees (s.Word words.Where) from, cond_read a d h z) refl
+where_read (where_cond {from = from} a) d h n z = rw (sees (s.Word words.Where) from, cond_read IsColumn tame_column begins_column (λ deep. column_at) complete_column a d h z) refl
 
 by_none : {A : Type 0} (word : Keyword) (p : Parser A) (ts : List Token) → Stops (s.Word word) ts → by_at word p ts ≡ Some ([], ts)
 unfolding by_at

@@ -22,7 +22,7 @@ use Rattle.ssb_sql.specs.ReadParts.{column_at}
 use Rattle.ssb_sql.specs.ReadConditions.{cond_at}
 use Rattle.ssb_sql.specs.ReadSelects.{item_at, where_at, by_at, order_at, is_nil, ends, select_of, ordered_at, grouped_at, filtered_at, joined_at, query_at}
 use Rattle.ssb_sql.proofs.StepFacts.{some_is, bind_some, choose_some, guard_some, after_is, two_are}
-use Rattle.ssb_sql.proofs.Shapes.{Sound, spells, starts, begins, followed, sound_list}
+use Rattle.ssb_sql.proofs.Shapes.{Sound, sound_nonempty, spells, starts, begins, followed, sound_list}
 use Rattle.ssb_sql.proofs.PartFacts.{sound_name, sound_column}
 use Rattle.ssb_sql.proofs.ConditionSound.{sound_cond}
 use Rattle.ssb_sql.proofs.ItemFacts.{sound_item, sound_order}
@@ -33,8 +33,8 @@ unfolding where_at
 where_sound d ts x e =
     elim (choose_some (after (s.Word words.Where) ts) _ _ (Some x) e) as (λ _. IsWhere ts x.1 x.0) [
       | inl g ↦
-          let f = bind_some (cond_at d g.0) _ x g.2 in
-          spells IsWhere ts f.0.1 (Some f.0.0) x (begins IsWhere (s.Word words.Where) ts g.0 f.0.1 (Some f.0.0) g.1 (where_cond ((sound_cond d).by g.0 f.0 f.1))) f.2
+          let f = bind_some (cond_at (λ deep. column_at) d g.0) _ x g.2 in
+          spells IsWhere ts f.0.1 (Some f.0.0) x (begins IsWhere (s.Word words.Where) ts g.0 f.0.1 (Some f.0.0) g.1 (where_cond ((sound_cond IsColumn (λ deep. column_at) (λ deep. sound_nonempty column_at IsColumn sound_column) d).by g.0 f.0 f.1))) f.2
       | inr g ↦ spells IsWhere ts ts None x no_where g.1
     ]
 

@@ -1,5 +1,5 @@
 -- What readers and relations share: sound, shorter, and chains.
-use Rattle.std.proofs.Common.{◌≡◌, ℕ, zero, suc, ◌<◌, ◌≤◌, List, [], ◌∷◌, ◌++◌, length, Option, Some, None, refl, sym, ap, subst, ◌∙◌, arith, inl, inr}
+use Rattle.std.proofs.Common.{◌≡◌, ℕ, zero, suc, ◌<◌, ◌≤◌, List, [], ◌∷◌, ◌++◌, length, Option, Some, None, cond, nat_lt, refl, sym, ap, subst, ◌∙◌, arith, inl, inr, ltb-true, lt-ltb}
 use Rattle.ssb_sql.specs.declared.token.Token.{Token}
 use Rattle.ssb_sql.specs.declared.token.Token.TheVariants.{Fixed}
 use Rattle.ssb_sql.specs.declared.token.Sign.{Sign}
@@ -10,17 +10,24 @@ use Rattle.ssb_sql.specs.Forms.IsMore.{no_more, comma}
 use Rattle.ssb_sql.specs.Forms.IsList.{list}
 use Rattle.ssb_sql.specs.Room.{HasRoom}
 use Rattle.ssb_sql.specs.Reading.{◌>>=◌}
-use Rattle.ssb_sql.specs.Steps.{Parser, after, turn_at, chain_at, with_front, more_at, chained_at, list_at, closed_at, enclosed_at, Shrinks}
-use Rattle.ssb_sql.proofs.StepFacts.{some_is, bind_some, choose_some, after_is, after_shorter, Stops, sees}
+use Rattle.ssb_sql.specs.Steps.{Parser, after, turn_at, chain_at, with_front, more_at, chained_at, list_at, closed_at, enclosed_at, nonempty_at, Shrinks}
+use Rattle.ssb_sql.proofs.StepFacts.{some_is, bind_some, choose_some, guard_some, cases_of, after_is, after_shorter, Stops, sees}
 
 -- what p reads is in R
 pub record Sound {A : Type 0} (p : Parser A) (R : Spelling A) : Type 0 where
   pub by : (ts : List Token) (x : A × List Token) → p ts ≡ Some x → R ts x.1 x.0
 
+-- what R spells is not empty
+pub record Shorter {A : Type 0} (R : Spelling A) : Type 0 where
+  pub by : {from to : List Token} {x : A} → R from to x → length to < length from
+
 -- what R spells is not empty, and leaves the open parentheses as they were
 pub record Tame {A : Type 0} (R : Spelling A) : Type 0 where
   pub shorter : {from to : List Token} {x : A} → R from to x → length to < length from
   pub within : {from to : List Token} {x : A} → R from to x → (d : ℕ) → HasRoom d from → HasRoom d to
+
+pub tame_shorter : {A : Type 0} (R : Spelling A) → Tame R → Shorter R
+tame_shorter R t = record { by = λ h. t.shorter h }
 
 -- some tokens went by, and the open parentheses are as they were
 pub record Went (from to : List Token) : Type 0 where
@@ -36,6 +43,32 @@ tame R f = record { shorter = λ h. (f _ _ _ h).shorter; within = λ h d w. (f _
 -- p reads what R spells, where F holds of what follows
 pub record Complete {A : Type 0} (p : Parser A) (R : Spelling A) (d : ℕ) (F : List Token → Type 0) : Type 0 where
   pub by : {from to : List Token} {x : A} → R from to x → HasRoom d from → F to → p from ≡ Some (x, to)
+
+-- what p reads, where that is one token at least
+pub nonempty_some : {A : Type 0} (p : Parser A) (ts : List Token) (x : A × List Token) → nonempty_at p ts ≡ Some x → (p ts ≡ Some x) × (length x.1 < length ts)
+unfolding nonempty_at
+nonempty_some {A = A} p ts x e =
+    let f = bind_some (p ts) (λ y. cond (nat_lt (length y.1) (length ts)) (Some y) None) x e in
+    let g = guard_some (nat_lt (length f.0.1) (length ts)) f.0 x f.2 in
+    (f.1 ∙ ap (λ y. Some y) g.1, subst (λ (y : A × List Token). length y.1 < length ts) g.1 (ltb-true (length f.0.1) (length ts) g.0))
+
+pub nonempty_read : {A : Type 0} (p : Parser A) (ts : List Token) (x : A × List Token) → p ts ≡ Some x → length x.1 < length ts → nonempty_at p ts ≡ Some x
+unfolding nonempty_at
+nonempty_read p ts x e lt = rw (e, lt-ltb (length x.1) (length ts) lt) refl
+
+nonempty_none : {A : Type 0} (p : Parser A) (ts : List Token) → p ts ≡ None → nonempty_at p ts ≡ None
+unfolding nonempty_at
+nonempty_none p ts e = rw e refl
+
+pub sound_nonempty : {A : Type 0} (p : Parser A) (R : Spelling A) → Sound p R → Sound (nonempty_at p) R
+sound_nonempty p R h = record { by = λ ts x e. h.by ts x (nonempty_some p ts x e).0 }
+
+pub nonempty_is : {A : Type 0} (p : Parser A) (R : Spelling A) → Sound p R → Tame R → (ts : List Token) → nonempty_at p ts ≡ p ts
+nonempty_is p R h t ts =
+    elim (cases_of (p ts)) as (λ _. nonempty_at p ts ≡ p ts) [
+      | inl e ↦ nonempty_none p ts e ∙ sym e
+      | inr f ↦ nonempty_read p ts f.0 f.1 (t.shorter (h.by ts f.0 f.1)) ∙ sym f.1
+    ]
 
 -- a spelling of one thing is a spelling of the same thing
 pub spells : {A : Type 0} (R : Spelling A) (ts to : List Token) (y : A) (x : A × List Token) → R ts to y → Some (y, to) ≡ Some x → R ts x.1 x.0
@@ -54,11 +87,14 @@ nil_stops : (sign : Sign) → after sign [] ≡ None
 unfolding after
 nil_stops sign = refl
 
-pub shrinks : {A : Type 0} (sign : Sign) (p : Parser A) (R : Spelling A) → Sound p R → Tame R → Shrinks (after sign) p
-shrinks sign p R h t = record {
+pub shrinks_by : {A : Type 0} (sign : Sign) (p : Parser A) (R : Spelling A) → Sound p R → Shorter R → Shrinks (after sign) p
+shrinks_by sign p R h r = record {
   nil = nil_stops sign;
-  by = λ ts l x a e. let lt = after_shorter sign ts l a in let m = t.shorter (h.by l x e) in omega arith;
+  by = λ ts l x a e. let lt = after_shorter sign ts l a in let m = r.by (h.by l x e) in omega arith;
 }
+
+pub shrinks : {A : Type 0} (sign : Sign) (p : Parser A) (R : Spelling A) → Sound p R → Tame R → Shrinks (after sign) p
+shrinks sign p R h t = shrinks_by sign p R h (tame_shorter R t)
 
 -- what stands before a `)`, and what stands in parentheses
 pub sound_closed : {A : Type 0} (p : Parser A) (R : Spelling A) → Sound p R → (ts : List Token) (x : A × List Token) → closed_at p ts ≡ Some x → R ts (Fixed (s.Mark marks.Close) ∷ x.1) x.0

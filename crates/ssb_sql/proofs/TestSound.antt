@@ -8,27 +8,22 @@ use Rattle.ssb_terms.specs.declared.keyword.Keyword.TheVariants as words
 use Rattle.ssb_sql.specs.declared.token.Mark.{Mark}
 use Rattle.ssb_sql.specs.declared.token.Mark.TheVariants as marks
 use Rattle.ssb_sql.specs.declared.token.Sign.TheVariants as s
-use Rattle.ssb_sql.specs.declared.named.ColumnName.{ColumnName}
 use Rattle.ssb_terms.specs.declared.literal.Literal.{Literal}
 use Rattle.ssb_trees.specs.declared.operand.Operand.TheVariants as o
 use Rattle.ssb_trees.specs.declared.condition.Condition.TheVariants as c
-use Rattle.ssb_sql.specs.Forms.{IsList, IsColumn, IsLiteral, IsOperand}
+use Rattle.ssb_sql.specs.Forms.{Spelling, IsList, IsLiteral, IsOperand}
 use Rattle.ssb_sql.specs.Forms.IsOperand.{column, literal}
 use Rattle.ssb_sql.specs.Conditions.{mark_of, IsBare}
 use Rattle.ssb_sql.specs.Conditions.IsBare.{compare, between, not_between, among, not_among, null, not_null}
 use Rattle.ssb_sql.specs.Room.{HasRoom}
-use Rattle.ssb_sql.specs.Steps.{after, list_at, parens_at}
+use Rattle.ssb_sql.specs.Steps.{Parser, after, list_at, nonempty_at, parens_at}
 use Rattle.ssb_sql.specs.ReadParts.{literal_at, operand_at}
 use Rattle.ssb_sql.specs.ReadConditions.{op_of, op_at, limits_at, among_at, range_at, nulled_at, null_at, compared_at, tail_at, bare_at}
 use Rattle.ssb_sql.proofs.StepFacts.{some_is, none_some, bind_some, choose_some, after_is, two_are}
-use Rattle.ssb_sql.proofs.Shapes.{Sound, Tame, spells, followed, sound_closed, sound_list, tame_list}
-use Rattle.ssb_sql.proofs.PartFacts.{sound_operand, tame_operand, sound_literal, tame_literal, tame_column}
+use Rattle.ssb_sql.proofs.Shapes.{Sound, Shorter, Tame, tame_shorter, spells, followed, sound_closed, sound_list, tame_list}
+use Rattle.ssb_sql.proofs.PartFacts.{sound_operand, operand_shorter, tame_operand, sound_literal, tame_literal}
 use Rattle.ssb_trees.specs.Conditions.{Filter}
 use Rattle.ssb_trees.specs.declared.operand.Operand.{Operand}
-
--- a test over operands
-abbrev pub IsTested : List Token → List Token → Filter ColumnName → Type 0
-IsTested = IsBare IsOperand
 
 op_mark : (m : Mark) (y : Op) → op_of m ≡ Some y → m ≡ mark_of y
 op_mark marks.Equal y e = ap mark_of (some_is op.Eq y e)
@@ -46,17 +41,6 @@ op_is (Fixed (s.Mark m) ∷ ts) l e =
     ap (λ z. Fixed (s.Mark z) ∷ ts) (op_mark m f.0 f.1) ∙ ap (λ z. Fixed (s.Mark (mark_of z.0)) ∷ z.1) (some_is (f.0, ts) l f.2)
 op_is _ l e = absurd cc
 
--- the limits, and the AND between them
-limits_is : (ts : List Token) (x : (Operand ColumnName × Operand ColumnName) × List Token) → limits_at ts ≡ Some x → (mid : List Token) × IsOperand ts (Fixed (s.Word words.And) ∷ mid) x.0.0 × IsOperand mid x.1 x.0.1
-unfolding limits_at
-limits_is ts x e =
-    let f = bind_some (operand_at ts) _ x e in
-    let g = bind_some (after (s.Word words.And) f.0.1) _ x f.2 in
-    let q = bind_some (operand_at g.0) _ x g.2 in
-    let same = some_is ((f.0.0, q.0.0), q.0.1) x q.2 in
-    subst (λ z. (mid : List Token) × IsOperand ts (Fixed (s.Word words.And) ∷ mid) z.0.0 × IsOperand mid z.1 z.0.1) same
-    (g.0, followed IsOperand (s.Word words.And) ts f.0.1 g.0 f.0.0 g.1 (sound_operand.by ts f.0 f.1), sound_operand.by g.0 q.0 q.1)
-
 -- the literals behind IN
 among_is : (ts : List Token) (x : List Literal × List Token) → among_at ts ≡ Some x → (mid : List Token) × (ts ≡ Fixed (s.Word words.In) ∷ Fixed (s.Mark marks.Open) ∷ mid) × IsList IsLiteral mid (Fixed (s.Mark marks.Close) ∷ x.1) x.0
 unfolding among_at parens_at
@@ -65,114 +49,137 @@ among_is ts x e =
     let f = bind_some (after (s.Mark marks.Open) g.0) _ x g.2 in
     (f.0, two_are (s.Word words.In) (s.Mark marks.Open) ts g.0 f.0 g.1 f.1, sound_closed (list_at literal_at) (IsList IsLiteral) (sound_list literal_at IsLiteral sound_literal) f.0 x f.2)
 
--- the operand's own end, moved on
-ends_at : (ts mid us : List Token) (x : Operand ColumnName) → mid ≡ us → IsOperand ts mid x → IsOperand ts us x
-ends_at ts mid us x e h = subst (λ z. IsOperand ts z x) e h
+-- what p reads, where that is one token at least, is in R
+module _ {C : Type 0} (R : Spelling C) (p : Parser C) (reads : Sound (nonempty_at p) R) where
+  operands : Sound (operand_at p) (IsOperand R)
+  operands = sound_operand R p reads
 
-range_sound : (ts mid : List Token) (y : Operand ColumnName) (x : Filter ColumnName × List Token) → IsOperand ts mid y → range_at false y mid ≡ Some x → IsTested ts x.1 x.0
-unfolding range_at
-range_sound ts mid y x h e =
-    elim (choose_some (after (s.Word words.Between) mid) _ _ (Some x) e) as (λ _. IsTested ts x.1 x.0) [
-      | inl g ↦
-          let f = bind_some (limits_at g.0) _ x g.2 in
-          let q = limits_is g.0 f.0 f.1 in
-          spells IsTested ts f.0.1 (c.Between y f.0.0.0 f.0.0.1) x (between (ends_at ts mid (Fixed (s.Word words.Between) ∷ g.0) y (after_is (s.Word words.Between) mid g.0 g.1) h) q.1 q.2) f.2
-      | inr b ↦
-          let f = bind_some (among_at mid) _ x b.1 in
-          let q = among_is mid f.0 f.1 in
-          spells IsTested ts f.0.1 (c.In y f.0.0) x (among (ends_at ts mid (Fixed (s.Word words.In) ∷ Fixed (s.Mark marks.Open) ∷ q.0) y q.1 h) q.2) f.2
-    ]
+  -- the limits, and the AND between them
+  limits_is : (ts : List Token) (x : (Operand C × Operand C) × List Token) → limits_at p ts ≡ Some x → (mid : List Token) × IsOperand R ts (Fixed (s.Word words.And) ∷ mid) x.0.0 × IsOperand R mid x.1 x.0.1
+  unfolding limits_at
+  limits_is ts x e =
+      let f = bind_some (operand_at p ts) _ x e in
+      let g = bind_some (after (s.Word words.And) f.0.1) _ x f.2 in
+      let q = bind_some (operand_at p g.0) _ x g.2 in
+      let same = some_is ((f.0.0, q.0.0), q.0.1) x q.2 in
+      subst (λ z. (mid : List Token) × IsOperand R ts (Fixed (s.Word words.And) ∷ mid) z.0.0 × IsOperand R mid z.1 z.0.1) same
+      (g.0, followed (IsOperand R) (s.Word words.And) ts f.0.1 g.0 f.0.0 g.1 (operands.by ts f.0 f.1), operands.by g.0 q.0 q.1)
 
-not_range_sound : (ts mid rest : List Token) (y : Operand ColumnName) (x : Filter ColumnName × List Token) → mid ≡ Fixed (s.Word words.Not) ∷ rest → IsOperand ts mid y → range_at true y rest ≡ Some x → IsTested ts x.1 x.0
-unfolding range_at
-not_range_sound ts mid rest y x n h e =
-    elim (choose_some (after (s.Word words.Between) rest) _ _ (Some x) e) as (λ _. IsTested ts x.1 x.0) [
-      | inl g ↦
-          let f = bind_some (limits_at g.0) _ x g.2 in
-          let q = limits_is g.0 f.0 f.1 in
-          spells IsTested ts f.0.1 (c.NotBetween y f.0.0.0 f.0.0.1) x (not_between (ends_at ts mid (Fixed (s.Word words.Not) ∷ Fixed (s.Word words.Between) ∷ g.0) y (n ∙ ap (λ z. Fixed (s.Word words.Not) ∷ z) (after_is (s.Word words.Between) rest g.0 g.1)) h) q.1 q.2) f.2
-      | inr b ↦
-          let f = bind_some (among_at rest) _ x b.1 in
-          let q = among_is rest f.0 f.1 in
-          spells IsTested ts f.0.1 (c.NotIn y f.0.0) x (not_among (ends_at ts mid (Fixed (s.Word words.Not) ∷ Fixed (s.Word words.In) ∷ Fixed (s.Mark marks.Open) ∷ q.0) y (n ∙ ap (λ z. Fixed (s.Word words.Not) ∷ z) q.1) h) q.2) f.2
-    ]
+  -- the operand's own end, moved on
+  ends_at : (ts mid us : List Token) (x : Operand C) → mid ≡ us → IsOperand R ts mid x → IsOperand R ts us x
+  ends_at ts mid us x e h = subst (λ z. IsOperand R ts z x) e h
 
--- a column as an operand is a column
-column_back : {from to : List Token} {y : Operand ColumnName} → IsOperand from to y → (z : ColumnName) → y ≡ o.Column z → IsColumn from to z
-column_back (column {from = from} {to = to} {x = x} a) z e = let same : x ≡ z = cc in subst (λ w. IsColumn from to w) same a
-column_back (literal a) z e = absurd cc
+  range_sound : (ts mid : List Token) (y : Operand C) (x : Filter C × List Token) → IsOperand R ts mid y → range_at p false y mid ≡ Some x → IsBare R ts x.1 x.0
+  unfolding range_at
+  range_sound ts mid y x h e =
+      elim (choose_some (after (s.Word words.Between) mid) _ _ (Some x) e) as (λ _. IsBare R ts x.1 x.0) [
+        | inl g ↦
+            let f = bind_some (limits_at p g.0) _ x g.2 in
+            let q = limits_is g.0 f.0 f.1 in
+            spells (IsBare R) ts f.0.1 (c.Between y f.0.0.0 f.0.0.1) x (between (ends_at ts mid (Fixed (s.Word words.Between) ∷ g.0) y (after_is (s.Word words.Between) mid g.0 g.1) h) q.1 q.2) f.2
+        | inr b ↦
+            let f = bind_some (among_at mid) _ x b.1 in
+            let q = among_is mid f.0 f.1 in
+            spells (IsBare R) ts f.0.1 (c.In y f.0.0) x (among (ends_at ts mid (Fixed (s.Word words.In) ∷ Fixed (s.Mark marks.Open) ∷ q.0) y q.1 h) q.2) f.2
+      ]
 
--- a literal is no column
-no_null : (negated : Bool) (l : Literal) (ts : List Token) (x : Filter ColumnName × List Token) → nulled_at negated (o.Literal l) ts ≡ Some x → ⊥
-unfolding nulled_at
-no_null true l ts x e = let f = bind_some (after (s.Word words.Null) ts) (λ to. None) x e in absurd (none_some x f.2)
-no_null false l ts x e = let f = bind_some (after (s.Word words.Null) ts) (λ to. None) x e in absurd (none_some x f.2)
+  not_range_sound : (ts mid rest : List Token) (y : Operand C) (x : Filter C × List Token) → mid ≡ Fixed (s.Word words.Not) ∷ rest → IsOperand R ts mid y → range_at p true y rest ≡ Some x → IsBare R ts x.1 x.0
+  unfolding range_at
+  not_range_sound ts mid rest y x n h e =
+      elim (choose_some (after (s.Word words.Between) rest) _ _ (Some x) e) as (λ _. IsBare R ts x.1 x.0) [
+        | inl g ↦
+            let f = bind_some (limits_at p g.0) _ x g.2 in
+            let q = limits_is g.0 f.0 f.1 in
+            spells (IsBare R) ts f.0.1 (c.NotBetween y f.0.0.0 f.0.0.1) x (not_between (ends_at ts mid (Fixed (s.Word words.Not) ∷ Fixed (s.Word words.Between) ∷ g.0) y (n ∙ ap (λ z. Fixed (s.Word words.Not) ∷ z) (after_is (s.Word words.Between) rest g.0 g.1)) h) q.1 q.2) f.2
+        | inr b ↦
+            let f = bind_some (among_at rest) _ x b.1 in
+            let q = among_is rest f.0 f.1 in
+            spells (IsBare R) ts f.0.1 (c.NotIn y f.0.0) x (not_among (ends_at ts mid (Fixed (s.Word words.Not) ∷ Fixed (s.Word words.In) ∷ Fixed (s.Mark marks.Open) ∷ q.0) y (n ∙ ap (λ z. Fixed (s.Word words.Not) ∷ z) q.1) h) q.2) f.2
+      ]
 
-null_sound : (ts mid rest : List Token) (y : Operand ColumnName) (x : Filter ColumnName × List Token) → mid ≡ Fixed (s.Word words.Is) ∷ rest → IsOperand ts mid y → null_at y rest ≡ Some x → IsTested ts x.1 x.0
-unfolding null_at nulled_at
-null_sound ts mid rest (o.Literal l) x n h e =
-    elim (choose_some (after (s.Word words.Not) rest) _ _ (Some x) e) as (λ _. IsTested ts x.1 x.0) [
-      | inl g ↦ absurd (no_null true l g.0 x g.2)
-      | inr b ↦ absurd (no_null false l rest x b.1)
-    ]
-null_sound ts mid rest (o.Column z) x n h e =
-    let k : IsColumn ts mid z = column_back h z refl in
-    elim (choose_some (after (s.Word words.Not) rest) _ _ (Some x) e) as (λ _. IsTested ts x.1 x.0) [
-      | inl g ↦
-          let f = bind_some (after (s.Word words.Null) g.0) _ x g.2 in
-          let m : mid ≡ Fixed (s.Word words.Is) ∷ Fixed (s.Word words.Not) ∷ Fixed (s.Word words.Null) ∷ f.0 = n ∙ ap (λ w. Fixed (s.Word words.Is) ∷ w) (two_are (s.Word words.Not) (s.Word words.Null) rest g.0 f.0 g.1 f.1) in
-          spells IsTested ts f.0 (c.IsNotNull (o.Column z)) x (not_null (subst (λ w. IsColumn ts w z) m k)) f.2
-      | inr b ↦
-          let f = bind_some (after (s.Word words.Null) rest) _ x b.1 in
-          let m : mid ≡ Fixed (s.Word words.Is) ∷ Fixed (s.Word words.Null) ∷ f.0 = n ∙ ap (λ w. Fixed (s.Word words.Is) ∷ w) (after_is (s.Word words.Null) rest f.0 f.1) in
-          spells IsTested ts f.0 (c.IsNull (o.Column z)) x (null (subst (λ w. IsColumn ts w z) m k)) f.2
-    ]
+  -- a column as an operand is a column
+  column_back : {from to : List Token} {y : Operand C} → IsOperand R from to y → (z : C) → y ≡ o.Column z → R from to z
+  column_back (column {from = from} {to = to} {x = x} a) z e = let same : x ≡ z = cc in subst (λ w. R from to w) same a
+  column_back (literal a) z e = absurd cc
 
-compared_sound : (ts mid : List Token) (y : Operand ColumnName) (x : Filter ColumnName × List Token) → IsOperand ts mid y → compared_at y mid ≡ Some x → IsTested ts x.1 x.0
-unfolding compared_at
-compared_sound ts mid y x h e =
-    elim (choose_some (op_at mid) _ _ (Some x) e) as (λ _. IsTested ts x.1 x.0) [
-      | inl g ↦
-          let f = bind_some (operand_at g.0.1) _ x g.2 in
-          spells IsTested ts f.0.1 (c.Compare g.0.0 y f.0.0) x (compare {op = g.0.0} (ends_at ts mid (Fixed (s.Mark (mark_of g.0.0)) ∷ g.0.1) y (op_is mid g.0 g.1) h) (sound_operand.by g.0.1 f.0 f.1)) f.2
-      | inr b ↦ range_sound ts mid y x h b.1
-    ]
+  -- a literal is no column
+  no_null : (negated : Bool) (l : Literal) (ts : List Token) (x : Filter C × List Token) → nulled_at negated (o.Literal l) ts ≡ Some x → ⊥
+  unfolding nulled_at
+  no_null true l ts x e = let f = bind_some (after (s.Word words.Null) ts) (λ to. None) x e in absurd (none_some x f.2)
+  no_null false l ts x e = let f = bind_some (after (s.Word words.Null) ts) (λ to. None) x e in absurd (none_some x f.2)
 
-tail_sound : (ts mid : List Token) (y : Operand ColumnName) (x : Filter ColumnName × List Token) → IsOperand ts mid y → tail_at y mid ≡ Some x → IsTested ts x.1 x.0
-unfolding tail_at
-tail_sound ts mid y x h e =
-    elim (choose_some (after (s.Word words.Not) mid) _ _ (Some x) e) as (λ _. IsTested ts x.1 x.0) [
-      | inl g ↦ not_range_sound ts mid g.0 y x (after_is (s.Word words.Not) mid g.0 g.1) h g.2
-      | inr b ↦
-          elim (choose_some (after (s.Word words.Is) mid) _ _ (Some x) b.1) as (λ _. IsTested ts x.1 x.0) [
-            | inl g ↦ null_sound ts mid g.0 y x (after_is (s.Word words.Is) mid g.0 g.1) h g.2
-            | inr g ↦ compared_sound ts mid y x h g.1
-          ]
-    ]
+  null_sound : (ts mid rest : List Token) (y : Operand C) (x : Filter C × List Token) → mid ≡ Fixed (s.Word words.Is) ∷ rest → IsOperand R ts mid y → null_at y rest ≡ Some x → IsBare R ts x.1 x.0
+  unfolding null_at nulled_at
+  null_sound ts mid rest (o.Literal l) x n h e =
+      elim (choose_some (after (s.Word words.Not) rest) _ _ (Some x) e) as (λ _. IsBare R ts x.1 x.0) [
+        | inl g ↦ absurd (no_null true l g.0 x g.2)
+        | inr b ↦ absurd (no_null false l rest x b.1)
+      ]
+  null_sound ts mid rest (o.Column z) x n h e =
+      let k : R ts mid z = column_back h z refl in
+      elim (choose_some (after (s.Word words.Not) rest) _ _ (Some x) e) as (λ _. IsBare R ts x.1 x.0) [
+        | inl g ↦
+            let f = bind_some (after (s.Word words.Null) g.0) _ x g.2 in
+            let m : mid ≡ Fixed (s.Word words.Is) ∷ Fixed (s.Word words.Not) ∷ Fixed (s.Word words.Null) ∷ f.0 = n ∙ ap (λ w. Fixed (s.Word words.Is) ∷ w) (two_are (s.Word words.Not) (s.Word words.Null) rest g.0 f.0 g.1 f.1) in
+            spells (IsBare R) ts f.0 (c.IsNotNull (o.Column z)) x (not_null (subst (λ w. R ts w z) m k)) f.2
+        | inr b ↦
+            let f = bind_some (after (s.Word words.Null) rest) _ x b.1 in
+            let m : mid ≡ Fixed (s.Word words.Is) ∷ Fixed (s.Word words.Null) ∷ f.0 = n ∙ ap (λ w. Fixed (s.Word words.Is) ∷ w) (after_is (s.Word words.Null) rest f.0 f.1) in
+            spells (IsBare R) ts f.0 (c.IsNull (o.Column z)) x (null (subst (λ w. R ts w z) m k)) f.2
+      ]
 
-bare_sound : (ts : List Token) (x : Filter ColumnName × List Token) → bare_at ts ≡ Some x → IsTested ts x.1 x.0
-unfolding bare_at
-bare_sound ts x e =
-    let f = bind_some (operand_at ts) _ x e in
-    tail_sound ts f.0.1 f.0.0 x (sound_operand.by ts f.0 f.1) f.2
+  compared_sound : (ts mid : List Token) (y : Operand C) (x : Filter C × List Token) → IsOperand R ts mid y → compared_at p y mid ≡ Some x → IsBare R ts x.1 x.0
+  unfolding compared_at
+  compared_sound ts mid y x h e =
+      elim (choose_some (op_at mid) _ _ (Some x) e) as (λ _. IsBare R ts x.1 x.0) [
+        | inl g ↦
+            let f = bind_some (operand_at p g.0.1) _ x g.2 in
+            spells (IsBare R) ts f.0.1 (c.Compare g.0.0 y f.0.0) x (compare {op = g.0.0} (ends_at ts mid (Fixed (s.Mark (mark_of g.0.0)) ∷ g.0.1) y (op_is mid g.0 g.1) h) (operands.by g.0.1 f.0 f.1)) f.2
+        | inr b ↦ range_sound ts mid y x h b.1
+      ]
 
-pub sound_bare : Sound bare_at IsTested
-sound_bare = record { by = bare_sound }
+  tail_sound : (ts mid : List Token) (y : Operand C) (x : Filter C × List Token) → IsOperand R ts mid y → tail_at p y mid ≡ Some x → IsBare R ts x.1 x.0
+  unfolding tail_at
+  tail_sound ts mid y x h e =
+      elim (choose_some (after (s.Word words.Not) mid) _ _ (Some x) e) as (λ _. IsBare R ts x.1 x.0) [
+        | inl g ↦ not_range_sound ts mid g.0 y x (after_is (s.Word words.Not) mid g.0 g.1) h g.2
+        | inr b ↦
+            elim (choose_some (after (s.Word words.Is) mid) _ _ (Some x) b.1) as (λ _. IsBare R ts x.1 x.0) [
+              | inl g ↦ null_sound ts mid g.0 y x (after_is (s.Word words.Is) mid g.0 g.1) h g.2
+              | inr g ↦ compared_sound ts mid y x h g.1
+            ]
+      ]
+
+  bare_sound : (ts : List Token) (x : Filter C × List Token) → bare_at p ts ≡ Some x → IsBare R ts x.1 x.0
+  unfolding bare_at
+  bare_sound ts x e =
+      let f = bind_some (operand_at p ts) _ x e in
+      tail_sound ts f.0.1 f.0.0 x (operands.by ts f.0 f.1) f.2
+
+  pub sound_bare : Sound (bare_at p) (IsBare R)
+  sound_bare = record { by = bare_sound }
 
 tame_literals : Tame (IsList IsLiteral)
 tame_literals = tame_list IsLiteral tame_literal
 
-bare_shorter : {from to : List Token} {x : Filter ColumnName} → IsTested from to x → length to < length from
-bare_shorter (compare a b) = let p = tame_operand.shorter a in let q = tame_operand.shorter b in omega arith
-bare_shorter (between a b d) = let p = tame_operand.shorter a in let q = tame_operand.shorter b in let r = tame_operand.shorter d in omega arith
-bare_shorter (not_between a b d) = let p = tame_operand.shorter a in let q = tame_operand.shorter b in let r = tame_operand.shorter d in omega arith
-bare_shorter (among a b) = let p = tame_operand.shorter a in let q = tame_literals.shorter b in omega arith
-bare_shorter (not_among a b) = let p = tame_operand.shorter a in let q = tame_literals.shorter b in omega arith
-bare_shorter (null a) = let p = tame_column.shorter a in omega arith
-bare_shorter (not_null a) = let p = tame_column.shorter a in omega arith
+module _ {C : Type 0} (R : Spelling C) (r : Shorter R) where
+  operand_less : Shorter (IsOperand R)
+  operand_less = operand_shorter R r
+
+  less : {from to : List Token} {x : Filter C} → IsBare R from to x → length to < length from
+  less (compare a b) = let p = operand_less.by a in let q = operand_less.by b in omega arith
+  less (between a b d) = let p = operand_less.by a in let q = operand_less.by b in let k = operand_less.by d in omega arith
+  less (not_between a b d) = let p = operand_less.by a in let q = operand_less.by b in let k = operand_less.by d in omega arith
+  less (among a b) = let p = operand_less.by a in let q = tame_literals.shorter b in omega arith
+  less (not_among a b) = let p = operand_less.by a in let q = tame_literals.shorter b in omega arith
+  less (null a) = let p = r.by a in omega arith
+  less (not_null a) = let p = r.by a in omega arith
+
+  pub bare_shorter : Shorter (IsBare R)
+  bare_shorter = record { by = λ h. less h }
 
 -- an operator is no parenthesis
-mark_within : (y : Op) (ts : List Token) (d : ℕ) → HasRoom d (Fixed (s.Mark (mark_of y)) ∷ ts) → HasRoom d ts
+pub mark_within : (y : Op) (ts : List Token) (d : ℕ) → HasRoom d (Fixed (s.Mark (mark_of y)) ∷ ts) → HasRoom d ts
 mark_within op.Eq ts d h = h
 mark_within op.Ne ts d h = h
 mark_within op.Lt ts d h = h
@@ -185,14 +192,18 @@ members_within : (mid to : List Token) (ys : List Literal) → IsList IsLiteral 
 members_within mid to ys b zero h = absurd h
 members_within mid to ys b (suc d) h = tame_literals.within b d h
 
-bare_within : {from to : List Token} {x : Filter ColumnName} → IsTested from to x → (d : ℕ) → HasRoom d from → HasRoom d to
-bare_within (compare {mid = mid} {op = y} a b) d h = tame_operand.within b d (mark_within y mid d (tame_operand.within a d h))
-bare_within (between a b g) d h = tame_operand.within g d (tame_operand.within b d (tame_operand.within a d h))
-bare_within (not_between a b g) d h = tame_operand.within g d (tame_operand.within b d (tame_operand.within a d h))
-bare_within (among {mid = mid} {to = to} {ys = ys} a b) d h = members_within mid to ys b d (tame_operand.within a d h)
-bare_within (not_among {mid = mid} {to = to} {ys = ys} a b) d h = members_within mid to ys b d (tame_operand.within a d h)
-bare_within (null a) d h = tame_column.within a d h
-bare_within (not_null a) d h = tame_column.within a d h
+module _ {C : Type 0} (R : Spelling C) (t : Tame R) where
+  operand_tame : Tame (IsOperand R)
+  operand_tame = tame_operand R t
 
-pub tame_bare : Tame IsTested
-tame_bare = record { shorter = λ h. bare_shorter h; within = λ h d w. bare_within h d w }
+  bare_within : {from to : List Token} {x : Filter C} → IsBare R from to x → (d : ℕ) → HasRoom d from → HasRoom d to
+  bare_within (compare {mid = mid} {op = y} a b) d h = operand_tame.within b d (mark_within y mid d (operand_tame.within a d h))
+  bare_within (between a b g) d h = operand_tame.within g d (operand_tame.within b d (operand_tame.within a d h))
+  bare_within (not_between a b g) d h = operand_tame.within g d (operand_tame.within b d (operand_tame.within a d h))
+  bare_within (among {mid = mid} {to = to} {ys = ys} a b) d h = members_within mid to ys b d (operand_tame.within a d h)
+  bare_within (not_among {mid = mid} {to = to} {ys = ys} a b) d h = members_within mid to ys b d (operand_tame.within a d h)
+  bare_within (null a) d h = t.within a d h
+  bare_within (not_null a) d h = t.within a d h
+
+  pub tame_bare : Tame (IsBare R)
+  tame_bare = record { shorter = λ h. (bare_shorter R (tame_shorter R t)).by h; within = λ h d w. bare_within h d w }

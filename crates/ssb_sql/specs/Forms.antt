@@ -49,10 +49,10 @@ pub data IsLiteral : List Token → List Token → Literal → Type 0 where
   negative : {to : List Token} {n : ℕ} → n ≤ 9223372036854775807 → IsLiteral (mark marks.Minus ∷ Number n ∷ to) to (l.Number (neg_ℤ (pos n)))
   text : {to : List Token} {t : List ℕ} → IsLiteral (Text t ∷ to) to (l.Text t)
 
--- operand = column | literal
-pub data IsOperand : List Token → List Token → Operand ColumnName → Type 0 where
-  column : {from to : List Token} {x : ColumnName} → IsColumn from to x → IsOperand from to (o.Column x)
-  literal : {from to : List Token} {x : Literal} → IsLiteral from to x → IsOperand from to (o.Literal x)
+-- operand = column | literal, where R spells what may stand for a column
+pub data IsOperand {C : Type 0} (R : Spelling C) : List Token → List Token → Operand C → Type 0 where
+  column : {from to : List Token} {x : C} → R from to x → IsOperand R from to (o.Column x)
+  literal : {from to : List Token} {x : Literal} → IsLiteral from to x → IsOperand R from to (o.Literal x)
 
 -- a chain of one thing is that thing
 unfoldable pub chain_of : {A : Type 0} → (List A → A) → List A → A

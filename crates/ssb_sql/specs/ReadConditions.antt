@@ -16,7 +16,6 @@ use Rattle.ssb_sql.specs.Reading.{◌>>=◌}
 use Rattle.ssb_sql.specs.Steps.{Parser, choose, after, made_at, list_at, enclosed_at, parens_at}
 use Rattle.ssb_sql.specs.ReadParts.{literal_at, operand_at}
 use Rattle.ssb_trees.specs.Conditions.{Filter}
-use Rattle.ssb_sql.specs.declared.named.ColumnName.{ColumnName}
 use Rattle.ssb_trees.specs.declared.operand.Operand.{Operand}
 
 abbrev pub op_of : Mark → Option Op
@@ -34,18 +33,18 @@ op_at (Fixed (s.Mark m) ∷ ts) = op_of m >>= λ y. Some (y, ts)
 op_at _ = None
 
 -- operand AND operand
-unfoldable pub limits_at : Parser (Operand ColumnName × Operand ColumnName)
-limits_at ts = operand_at ts >>= λ x. after (s.Word words.And) x.1 >>= λ rest. operand_at rest >>= λ y. Some ((x.0, y.0), y.1)
+unfoldable pub limits_at : {C : Type 0} → Parser C → Parser (Operand C × Operand C)
+limits_at p ts = operand_at p ts >>= λ x. after (s.Word words.And) x.1 >>= λ rest. operand_at p rest >>= λ y. Some ((x.0, y.0), y.1)
 
 -- "(" literal {"," literal} ")"
 abbrev pub members_at : Parser (List Literal)
 members_at = parens_at (list_at literal_at)
 
-abbrev pub between_of : Bool → Operand ColumnName → Operand ColumnName × Operand ColumnName → Filter ColumnName
+abbrev pub between_of : {C : Type 0} → Bool → Operand C → Operand C × Operand C → Filter C
 between_of true x l = c.NotBetween x l.0 l.1
 between_of false x l = c.Between x l.0 l.1
 
-abbrev pub in_of : Bool → Operand ColumnName → List Literal → Filter ColumnName
+abbrev pub in_of : {C : Type 0} → Bool → Operand C → List Literal → Filter C
 in_of true x ys = c.NotIn x ys
 in_of false x ys = c.In x ys
 
@@ -54,54 +53,54 @@ unfoldable pub among_at : Parser (List Literal)
 among_at ts = after (s.Word words.In) ts >>= λ rest. members_at rest
 
 -- BETWEEN or IN, after the operand and a NOT if there is one
-unfoldable pub range_at : Bool → Operand ColumnName → Parser (Filter ColumnName)
-range_at negated x ts =
-    choose (after (s.Word words.Between) ts) (λ rest. limits_at rest >>= λ l. Some (between_of negated x l.0, l.1))
+unfoldable pub range_at : {C : Type 0} → Parser C → Bool → Operand C → Parser (Filter C)
+range_at p negated x ts =
+    choose (after (s.Word words.Between) ts) (λ rest. limits_at p rest >>= λ l. Some (between_of negated x l.0, l.1))
     (among_at ts >>= λ ys. Some (in_of negated x ys.0, ys.1))
 
 -- whether a column has no value, or whether it has one
-abbrev pub null_of : Bool → Operand ColumnName → Option (Filter ColumnName)
+abbrev pub null_of : {C : Type 0} → Bool → Operand C → Option (Filter C)
 null_of true (o.Column x) = Some (c.IsNotNull (o.Column x))
 null_of false (o.Column x) = Some (c.IsNull (o.Column x))
 null_of negated (o.Literal l) = None
 
 -- NULL, after the operand, IS and a NOT if there is one
-unfoldable pub nulled_at : Bool → Operand ColumnName → Parser (Filter ColumnName)
+unfoldable pub nulled_at : {C : Type 0} → Bool → Operand C → Parser (Filter C)
 nulled_at negated x ts = after (s.Word words.Null) ts >>= λ to. null_of negated x >>= λ y. Some (y, to)
 
 -- [NOT] NULL, after the operand and IS
-unfoldable pub null_at : Operand ColumnName → Parser (Filter ColumnName)
+unfoldable pub null_at : {C : Type 0} → Operand C → Parser (Filter C)
 null_at x ts = choose (after (s.Word words.Not) ts) (nulled_at true x) (nulled_at false x ts)
 
 -- an operator and an operand, or BETWEEN or IN
-unfoldable pub compared_at : Operand ColumnName → Parser (Filter ColumnName)
-compared_at x ts =
-    choose (op_at ts) (λ l. operand_at l.1 >>= λ y. Some (c.Compare l.0 x y.0, y.1))
-    (range_at false x ts)
+unfoldable pub compared_at : {C : Type 0} → Parser C → Operand C → Parser (Filter C)
+compared_at p x ts =
+    choose (op_at ts) (λ l. operand_at p l.1 >>= λ y. Some (c.Compare l.0 x y.0, y.1))
+    (range_at p false x ts)
 
 -- what follows an operand
-unfoldable pub tail_at : Operand ColumnName → Parser (Filter ColumnName)
-tail_at x ts =
-    choose (after (s.Word words.Not) ts) (range_at true x)
+unfoldable pub tail_at : {C : Type 0} → Parser C → Operand C → Parser (Filter C)
+tail_at p x ts =
+    choose (after (s.Word words.Not) ts) (range_at p true x)
     (choose (after (s.Word words.Is) ts) (null_at x)
-    (compared_at x ts))
+    (compared_at p x ts))
 
-unfoldable pub bare_at : Parser (Filter ColumnName)
-bare_at ts = operand_at ts >>= λ x. tail_at x.0 x.1
+unfoldable pub bare_at : {C : Type 0} → Parser C → Parser (Filter C)
+bare_at p ts = operand_at p ts >>= λ x. tail_at p x.0 x.1
 
-abbrev pub test_at : Parser (Filter ColumnName) → Parser (Filter ColumnName)
-test_at inner = enclosed_at inner bare_at
+abbrev pub test_at : {C : Type 0} → Parser C → Parser (Filter C) → Parser (Filter C)
+test_at p inner = enclosed_at inner (bare_at p)
 
-unfoldable pub neg_at : Parser (Filter ColumnName) → Parser (Filter ColumnName)
-neg_at inner ts = choose (after (s.Word words.Not) ts) (λ rest. test_at inner rest >>= λ x. Some (c.Not x.0, x.1)) (test_at inner ts)
+unfoldable pub neg_at : {C : Type 0} → Parser C → Parser (Filter C) → Parser (Filter C)
+neg_at p inner ts = choose (after (s.Word words.Not) ts) (λ rest. test_at p inner rest >>= λ x. Some (c.Not x.0, x.1)) (test_at p inner ts)
 
-unfoldable pub conj_at : Parser (Filter ColumnName) → Parser (Filter ColumnName)
-conj_at inner ts = made_at c.All (s.Word words.And) (neg_at inner) ts
+unfoldable pub conj_at : {C : Type 0} → Parser C → Parser (Filter C) → Parser (Filter C)
+conj_at p inner ts = made_at c.All (s.Word words.And) (neg_at p inner) ts
 
-abbrev pub disj_at : Parser (Filter ColumnName) → Parser (Filter ColumnName)
-disj_at inner = made_at c.Any (s.Word words.Or) (conj_at inner)
+abbrev pub disj_at : {C : Type 0} → Parser C → Parser (Filter C) → Parser (Filter C)
+disj_at p inner = made_at c.Any (s.Word words.Or) (conj_at p inner)
 
--- a condition with fewer than this many open parentheses
-unfoldable pub cond_at : ℕ → Parser (Filter ColumnName)
-cond_at zero ts = None
-cond_at (suc d) ts = disj_at (cond_at d) ts
+-- a condition with fewer than this many open parentheses, over what p reads with as many
+unfoldable pub cond_at : {C : Type 0} → (ℕ → Parser C) → ℕ → Parser (Filter C)
+cond_at p zero ts = None
+cond_at p (suc d) ts = disj_at (p d) (cond_at p d) ts

@@ -9,7 +9,7 @@ use Rattle.ssb_terms.specs.declared.literal.Literal.{Literal}
 use Rattle.ssb_terms.specs.declared.literal.Literal.TheVariants as l
 use Rattle.ssb_trees.specs.declared.operand.Operand.TheVariants as o
 use Rattle.ssb_sql.specs.Reading.{◌>>=◌}
-use Rattle.ssb_sql.specs.Steps.{Parser, choose, after, name_at, number_at, is_name_next}
+use Rattle.ssb_sql.specs.Steps.{Parser, choose, after, name_at, number_at, is_literal_next, nonempty_at}
 use Rattle.ssb_trees.specs.declared.operand.Operand.{Operand}
 
 abbrev pub column_of : Option (List ℕ) → List ℕ → ColumnName
@@ -35,7 +35,8 @@ literal_at ts =
     (choose (after (s.Mark marks.Minus) ts) (λ rest. below_at rest >>= λ x. Some (l.Number x.0, x.1))
     (plain_literal_at ts))
 
-unfoldable pub operand_at : Parser (Operand ColumnName)
-operand_at ts =
-    if is_name_next ts then (column_at ts >>= λ x. Some (o.Column x.0, x.1))
-    else (literal_at ts >>= λ x. Some (o.Literal x.0, x.1))
+-- a literal, or what p reads
+unfoldable pub operand_at : {C : Type 0} → Parser C → Parser (Operand C)
+operand_at p ts =
+    if is_literal_next ts then (literal_at ts >>= λ x. Some (o.Literal x.0, x.1))
+    else (nonempty_at p ts >>= λ x. Some (o.Column x.0, x.1))

@@ -69,7 +69,7 @@ unfoldable pub item_at : ℕ → Parser Item
 item_at d ts = output_at d ts >>= λ x. alias_at x.1 >>= λ n. Some (item_of x.0 n.0, n.1)
 
 unfoldable pub where_at : ℕ → Parser (Option (Filter ColumnName))
-where_at d ts = choose (after (s.Word words.Where) ts) (λ rest. cond_at d rest >>= λ x. Some (Some x.0, x.1)) (Some (None, ts))
+where_at d ts = choose (after (s.Word words.Where) ts) (λ rest. cond_at (λ deep. column_at) d rest >>= λ x. Some (Some x.0, x.1)) (Some (None, ts))
 
 -- the word, BY, p {"," p}; or nothing
 unfoldable pub by_at : {A : Type 0} → Keyword → Parser A → Parser (List A)

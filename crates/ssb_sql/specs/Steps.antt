@@ -1,6 +1,6 @@
 -- Reading from left to right: what every reader is made of.
 -- For the contracts inside this crate.
-use Rattle.std.specs.Prelude.{◌≡◌, ℕ, zero, suc, Bool, true, false, if◌then◌else◌, List, [], ◌∷◌, ◌++◌, length, ◌<◌, Option, Some, None, Result, Ok, Err}
+use Rattle.std.specs.Prelude.{◌≡◌, ℕ, zero, suc, Bool, true, false, if◌then◌else◌, List, [], ◌∷◌, ◌++◌, length, ◌<◌, Option, Some, None, Result, Ok, Err, nat_lt}
 use Rattle.std.specs.Borrow.{Bor}
 use Rattle.ssb_sql.specs.Forms.{chain_of}
 use Rattle.ssb_sql.specs.Reading.{◌>>=◌, seen}
@@ -58,9 +58,17 @@ unfoldable pub number_at : Parser ℕ
 number_at (Number n ∷ ts) = Some (n, ts)
 number_at _ = None
 
-unfoldable pub is_name_next : List Token → Bool
-is_name_next (Name n ∷ ts) = true
-is_name_next _ = false
+-- whether a literal comes next: a number, with a sign or without, or a text
+unfoldable pub is_literal_next : List Token → Bool
+is_literal_next (Number n ∷ ts) = true
+is_literal_next (Text t ∷ ts) = true
+is_literal_next (Fixed (s.Mark marks.Plus) ∷ ts) = true
+is_literal_next (Fixed (s.Mark marks.Minus) ∷ ts) = true
+is_literal_next _ = false
+
+-- what p reads, where that is one token at least
+unfoldable pub nonempty_at : {A : Type 0} → Parser A → Parser A
+nonempty_at p ts = p ts >>= λ x. if nat_lt (length x.1) (length ts) then Some x else None
 
 -- what a chain does where it goes on, and where it does not
 abbrev pub turn_at : {A L : Type 0} → (L → Option (A × List Token)) → Parser (List A) → List Token → Option L → Option (List A × List Token)

@@ -8,7 +8,7 @@ ghost use Rattle.ssb_terms.specs.declared.keyword.Keyword.TheVariants as words;
 ghost use Rattle.ssb_sql.specs.declared.token.Sign.TheVariants as s;
 
 use crate::chain::made;
-use crate::named::ColumnName;
+use crate::read_parts::Subject;
 use crate::read_test::bare;
 use crate::steps::{Stop, after, closing};
 use crate::token::{Mark, Sign, Token};
@@ -19,30 +19,30 @@ use std::alloc::Global;
 
 #[cycle(condition)]
 #[tactic(auto, unfolding(crate::specs::Steps::enclosed_at, crate::specs::Steps::closed_at))]
-fn test(
+fn test<C: Subject>(
     alloc: Global,
     depth: usize,
     tokens: &[Token],
-) -> Result<(Filter<ColumnName>, &[Token]), Stop>
-    ensures { Gives seen result (test_at (cond_at depth) tokens.now) }
+) -> Result<(Filter<C>, &[Token]), Stop>
+    ensures { Gives seen result (test_at (C.read_at depth) (cond_at C.read_at depth) tokens.now) }
 {
     match after(tokens, Sign::Mark(Mark::Open)) {
         Some(inside) => {
             let (found, rest) = condition(alloc, depth, inside)?;
             closing(found, rest)
         }
-        None => bare(alloc, tokens),
+        None => bare(alloc, depth, tokens),
     }
 }
 
 #[cycle(condition)]
 #[tactic(auto, unfolding(crate::specs::ReadConditions::neg_at))]
-fn negation(
+fn negation<C: Subject>(
     alloc: Global,
     depth: usize,
     tokens: &[Token],
-) -> Result<(Filter<ColumnName>, &[Token]), Stop>
-    ensures { Gives seen result (neg_at (cond_at depth) tokens.now) }
+) -> Result<(Filter<C>, &[Token]), Stop>
+    ensures { Gives seen result (neg_at (C.read_at depth) (cond_at C.read_at depth) tokens.now) }
 {
     match after(tokens, Sign::Word(Keyword::Not)) {
         Some(rest) => {
@@ -55,12 +55,12 @@ fn negation(
 
 #[cycle(condition)]
 #[tactic(auto, unfolding(crate::specs::ReadConditions::conj_at))]
-fn conjunction(
+fn conjunction<C: Subject>(
     alloc: Global,
     depth: usize,
     tokens: &[Token],
-) -> Result<(Filter<ColumnName>, &[Token]), Stop>
-    ensures { Gives seen result (conj_at (cond_at depth) tokens.now) }
+) -> Result<(Filter<C>, &[Token]), Stop>
+    ensures { Gives seen result (conj_at (C.read_at depth) (cond_at C.read_at depth) tokens.now) }
 {
     made(
         alloc,
@@ -68,7 +68,7 @@ fn conjunction(
         tokens,
         Condition::All,
         |start: &[Token]|
-            ensures { Gives seen result (neg_at (cond_at depth) start.now) }
+            ensures { Gives seen result (neg_at (C.read_at depth) (cond_at C.read_at depth) start.now) }
         { negation(alloc, depth, start) },
     )
 }
@@ -76,12 +76,12 @@ fn conjunction(
 /// Reads a condition inside fewer than `depth` parentheses.
 #[cycle(condition)]
 #[tactic(auto, unfolding(crate::specs::ReadConditions::cond_at))]
-pub(crate) fn condition(
+pub(crate) fn condition<C: Subject>(
     alloc: Global,
     depth: usize,
     tokens: &[Token],
-) -> Result<(Filter<ColumnName>, &[Token]), Stop>
-    ensures { Gives seen result (cond_at depth tokens.now) }
+) -> Result<(Filter<C>, &[Token]), Stop>
+    ensures { Gives seen result (cond_at C.read_at depth tokens.now) }
 {
     if depth == 0 {
         return Err(Stop::Syntax);
@@ -93,7 +93,7 @@ pub(crate) fn condition(
         tokens,
         Condition::Any,
         |start: &[Token]|
-            ensures { Gives seen result (conj_at (cond_at inside) start.now) }
+            ensures { Gives seen result (conj_at (C.read_at inside) (cond_at C.read_at inside) start.now) }
         { conjunction(alloc, inside, start) },
     )
 }

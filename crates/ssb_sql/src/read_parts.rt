@@ -1,13 +1,13 @@
 // Reading columns, literals and operands.
 
-ghost use Rattle.std.specs.Prelude.{◌≡◌, ◌∷◌, [], length, ◌<◌};
+ghost use Rattle.std.specs.Prelude.{◌≡◌, ℕ, ◌∷◌, [], length, ◌<◌};
 ghost use Rattle.ssb_sql.specs.Reading.{seen};
-ghost use Rattle.ssb_sql.specs.Steps.{Gives, after, list_at, name_at};
+ghost use Rattle.ssb_sql.specs.Steps.{Gives, Parser, after, list_at, name_at, nonempty_at};
 ghost use Rattle.ssb_sql.specs.ReadParts.{column_at, small_at, below_at, plain_literal_at, literal_at, operand_at};
 ghost use Rattle.ssb_sql.specs.declared.token.Sign.TheVariants as s;
 
 use crate::named::ColumnName;
-use crate::steps::{Stop, after, is_name_next, name, number};
+use crate::steps::{Stop, after, is_literal_next, name, number};
 use crate::token::{Mark, Sign, Token};
 use ssb_terms::Literal;
 use ssb_trees::Operand;
@@ -84,18 +84,41 @@ pub(crate) fn literal(alloc: Global, tokens: &[Token]) -> Result<(Literal, &[Tok
     plain_literal(alloc, tokens)
 }
 
+/// What may stand in a test beside literals: a column in WHERE.
+pub(crate) trait Subject: Drop {
+    /// How it is read where at most so many more parentheses may be opened.
+    ghost read_at: { ℕ → Parser Self };
+
+    /// Reads it. It is one token at least, so that a chain of tests comes to its end.
+    fn read(alloc: Global, depth: usize, tokens: &[Token]) -> Result<(Self, &[Token]), Stop>
+        ensures { Gives seen result (nonempty_at (read_at depth) tokens.now) };
+}
+
+impl Subject for ColumnName {
+    ghost read_at = { λ depth. column_at };
+
+    fn read(
+        alloc: Global,
+        _depth: usize,
+        tokens: &[Token],
+    ) -> Result<(ColumnName, &[Token]), Stop> {
+        column(alloc, tokens)
+    }
+}
+
 #[tactic(auto, unfolding(crate::specs::ReadParts::operand_at))]
-pub(crate) fn operand(
+pub(crate) fn operand<C: Subject>(
     alloc: Global,
+    depth: usize,
     tokens: &[Token],
-) -> Result<(Operand<ColumnName>, &[Token]), Stop>
-    ensures { Gives seen result (operand_at tokens.now) }
+) -> Result<(Operand<C>, &[Token]), Stop>
+    ensures { Gives seen result (operand_at (C.read_at depth) tokens.now) }
 {
-    if is_name_next(tokens) {
-        let (column, rest) = column(alloc, tokens)?;
-        Ok((Operand::Column(column), rest))
-    } else {
+    if is_literal_next(tokens) {
         let (literal, rest) = literal(alloc, tokens)?;
         Ok((Operand::Literal(literal), rest))
+    } else {
+        let (found, rest) = C::read(alloc, depth, tokens)?;
+        Ok((Operand::Column(found), rest))
     }
 }

@@ -8,8 +8,7 @@ ghost use Rattle.ssb_sql.specs.ReadConditions.{op_of, op_at, limits_at, among_at
 ghost use Rattle.ssb_sql.specs.declared.token.Sign.TheVariants as s;
 
 use crate::chain::{COMMA, chain};
-use crate::named::ColumnName;
-use crate::read_parts::{literal, operand};
+use crate::read_parts::{Subject, literal, operand};
 use crate::steps::{Stop, after, closing, expect, followed};
 use crate::token::{Mark, Sign, Token};
 use sqlite_items::Items;
@@ -43,15 +42,16 @@ fn op(tokens: &[Token]) -> Option<(Op, &[Token])>
 
 // The two limits of a BETWEEN and the AND between them.
 #[tactic(auto, unfolding(crate::specs::ReadConditions::limits_at))]
-fn limits(
+fn limits<C: Subject>(
     alloc: Global,
+    depth: usize,
     tokens: &[Token],
-) -> Result<((Operand<ColumnName>, Operand<ColumnName>), &[Token]), Stop>
-    ensures { Gives seen result (limits_at tokens.now) }
+) -> Result<((Operand<C>, Operand<C>), &[Token]), Stop>
+    ensures { Gives seen result (limits_at (C.read_at depth) tokens.now) }
 {
-    let (low, rest) = operand(alloc, tokens)?;
+    let (low, rest) = operand(alloc, depth, tokens)?;
     let (low, rest) = followed(low, Sign::Word(Keyword::And), rest)?;
-    operand(alloc, rest).map(|(high, rest)| ((low, high), rest))
+    operand(alloc, depth, rest).map(|(high, rest)| ((low, high), rest))
 }
 
 // IN and the literals in its parentheses.
@@ -70,11 +70,11 @@ fn among(alloc: Global, tokens: &[Token]) -> Result<(Items<Literal>, &[Token]), 
     closing(found, rest)
 }
 
-fn between_of(
+fn between_of<C: Drop>(
     negated: bool,
-    operand: Operand<ColumnName>,
-    limits: (Operand<ColumnName>, Operand<ColumnName>),
-) -> Filter<ColumnName>
+    operand: Operand<C>,
+    limits: (Operand<C>, Operand<C>),
+) -> Filter<C>
     ensures { result ≡ between_of negated operand limits }
 {
     let (low, high) = limits;
@@ -85,7 +85,7 @@ fn between_of(
     }
 }
 
-fn in_of(negated: bool, operand: Operand<ColumnName>, members: Items<Literal>) -> Filter<ColumnName>
+fn in_of<C: Drop>(negated: bool, operand: Operand<C>, members: Items<Literal>) -> Filter<C>
     ensures { result ≡ in_of negated operand members }
 {
     if negated {
@@ -97,25 +97,27 @@ fn in_of(negated: bool, operand: Operand<ColumnName>, members: Items<Literal>) -
 
 // BETWEEN or IN, after the operand and a NOT if there is one.
 #[tactic(auto, unfolding(crate::specs::ReadConditions::range_at))]
-fn range(
+fn range<C: Subject>(
     alloc: Global,
+    depth: usize,
     negated: bool,
-    operand: Operand<ColumnName>,
+    operand: Operand<C>,
     tokens: &[Token],
-) -> Result<(Filter<ColumnName>, &[Token]), Stop>
-    ensures { Gives seen result (range_at negated operand tokens.now) }
+) -> Result<(Filter<C>, &[Token]), Stop>
+    ensures { Gives seen result (range_at (C.read_at depth) negated operand tokens.now) }
 {
     match after(tokens, Sign::Word(Keyword::Between)) {
-        Some(rest) => {
-            limits(alloc, rest).map(|(limits, rest)| (between_of(negated, operand, limits), rest))
-        }
+        Some(rest) => limits(alloc, depth, rest).map(|(limits, rest)| (
+            between_of(negated, operand, limits),
+            rest,
+        )),
         None => {
             among(alloc, tokens).map(|(members, rest)| (in_of(negated, operand, members), rest))
         }
     }
 }
 
-fn null_of(negated: bool, operand: Operand<ColumnName>) -> Option<Filter<ColumnName>>
+fn null_of<C: Drop>(negated: bool, operand: Operand<C>) -> Option<Filter<C>>
     ensures { result ≡ null_of negated operand }
 {
     match operand {
@@ -127,11 +129,11 @@ fn null_of(negated: bool, operand: Operand<ColumnName>) -> Option<Filter<ColumnN
 
 // NULL, after the operand, IS and a NOT if there is one.
 #[tactic(auto, unfolding(crate::specs::ReadConditions::nulled_at))]
-fn nulled(
+fn nulled<C: Drop>(
     negated: bool,
-    operand: Operand<ColumnName>,
+    operand: Operand<C>,
     tokens: &[Token],
-) -> Result<(Filter<ColumnName>, &[Token]), Stop>
+) -> Result<(Filter<C>, &[Token]), Stop>
     ensures { Gives seen result (nulled_at negated operand tokens.now) }
 {
     let (operand, rest) = followed(operand, Sign::Word(Keyword::Null), tokens)?;
@@ -143,10 +145,7 @@ fn nulled(
 
 // [NOT] NULL, after the operand and IS.
 #[tactic(auto, unfolding(crate::specs::ReadConditions::null_at))]
-fn null(
-    operand: Operand<ColumnName>,
-    tokens: &[Token],
-) -> Result<(Filter<ColumnName>, &[Token]), Stop>
+fn null<C: Drop>(operand: Operand<C>, tokens: &[Token]) -> Result<(Filter<C>, &[Token]), Stop>
     ensures { Gives seen result (null_at operand tokens.now) }
 {
     match after(tokens, Sign::Word(Keyword::Not)) {
@@ -157,44 +156,51 @@ fn null(
 
 // An operator and an operand, or BETWEEN or IN.
 #[tactic(auto, unfolding(crate::specs::ReadConditions::compared_at))]
-fn compared(
+fn compared<C: Subject>(
     alloc: Global,
-    left: Operand<ColumnName>,
+    depth: usize,
+    left: Operand<C>,
     tokens: &[Token],
-) -> Result<(Filter<ColumnName>, &[Token]), Stop>
-    ensures { Gives seen result (compared_at left tokens.now) }
+) -> Result<(Filter<C>, &[Token]), Stop>
+    ensures { Gives seen result (compared_at (C.read_at depth) left tokens.now) }
 {
     match op(tokens) {
-        Some((op, rest)) => {
-            operand(alloc, rest).map(|(right, rest)| (Condition::Compare(op, left, right), rest))
-        }
-        None => range(alloc, false, left, tokens),
+        Some((op, rest)) => operand(alloc, depth, rest).map(|(right, rest)| (
+            Condition::Compare(op, left, right),
+            rest,
+        )),
+        None => range(alloc, depth, false, left, tokens),
     }
 }
 
 // What follows an operand.
 #[tactic(auto, unfolding(crate::specs::ReadConditions::tail_at))]
-fn tail(
+fn tail<C: Subject>(
     alloc: Global,
-    operand: Operand<ColumnName>,
+    depth: usize,
+    operand: Operand<C>,
     tokens: &[Token],
-) -> Result<(Filter<ColumnName>, &[Token]), Stop>
-    ensures { Gives seen result (tail_at operand tokens.now) }
+) -> Result<(Filter<C>, &[Token]), Stop>
+    ensures { Gives seen result (tail_at (C.read_at depth) operand tokens.now) }
 {
     if let Some(rest) = after(tokens, Sign::Word(Keyword::Not)) {
-        return range(alloc, true, operand, rest);
+        return range(alloc, depth, true, operand, rest);
     }
     if let Some(rest) = after(tokens, Sign::Word(Keyword::Is)) {
         return null(operand, rest);
     }
-    compared(alloc, operand, tokens)
+    compared(alloc, depth, operand, tokens)
 }
 
 /// Reads a test that has no parentheses round it.
 #[tactic(auto, unfolding(crate::specs::ReadConditions::bare_at))]
-pub(crate) fn bare(alloc: Global, tokens: &[Token]) -> Result<(Filter<ColumnName>, &[Token]), Stop>
-    ensures { Gives seen result (bare_at tokens.now) }
+pub(crate) fn bare<C: Subject>(
+    alloc: Global,
+    depth: usize,
+    tokens: &[Token],
+) -> Result<(Filter<C>, &[Token]), Stop>
+    ensures { Gives seen result (bare_at (C.read_at depth) tokens.now) }
 {
-    let (operand, rest) = operand(alloc, tokens)?;
-    tail(alloc, operand, rest)
+    let (operand, rest) = operand(alloc, depth, tokens)?;
+    tail(alloc, depth, operand, rest)
 }

@@ -3,7 +3,7 @@
 ghost use Rattle.std.specs.Prelude.{◌≡◌};
 ghost use Rattle.std.specs.Option.{option_copied};
 ghost use Rattle.ssb_sql.specs.Reading.{seen};
-ghost use Rattle.ssb_sql.specs.Steps.{Gives, followed_at, is_fixed, after, name_at, number_at, is_name_next};
+ghost use Rattle.ssb_sql.specs.Steps.{Gives, followed_at, is_fixed, after, name_at, number_at, is_literal_next};
 ghost use Rattle.ssb_sql.specs.declared.token.Mark.TheVariants as marks;
 ghost use Rattle.ssb_sql.specs.declared.token.Sign.TheVariants as s;
 
@@ -80,12 +80,14 @@ pub(crate) fn closing<T: Drop>(found: T, tokens: &[Token]) -> Result<(T, &[Token
     followed(found, Sign::Mark(Mark::Close), tokens)
 }
 
-#[tactic(auto, unfolding(crate::specs::Steps::is_name_next))]
-pub(crate) fn is_name_next(tokens: &[Token]) -> bool
-    ensures { result ≡ is_name_next tokens.now }
+// Whether a literal comes next.
+#[tactic(auto, unfolding(crate::specs::Steps::is_literal_next))]
+pub(crate) fn is_literal_next(tokens: &[Token]) -> bool
+    ensures { result ≡ is_literal_next tokens.now }
 {
     match tokens {
-        [Token::Name(_), ..] => true,
+        [Token::Number(_) | Token::Text(_), ..] => true,
+        [Token::Fixed(Sign::Mark(Mark::Plus | Mark::Minus)), ..] => true,
         _ => false,
     }
 }

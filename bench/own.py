@@ -9,7 +9,6 @@ morsels of 10,000 rows. Each run loads the tables once, builds the query's index
 many times; it tells the least. The runs take turns, and each figure is the least of them.
 """
 
-import re
 import sys
 import tempfile
 from pathlib import Path
@@ -17,18 +16,11 @@ from pathlib import Path
 import measure
 import queries
 
-TEXTS = measure.CRATES / "ssb_words" / "specs" / "Benchmark.antt"
+sys.path.append(str(measure.CRATES.parent / "tests"))
+from thirteen import thirteen  # noqa: E402
+
 MORSELS = [1, 1000, 10000, 100000, 1048576]
 USUAL = 10000
-
-
-def thirteen():
-    """The texts of the benchmark's queries by their names."""
-    blocks = re.findall(r"^q(\d)_(\d) =\n(.*?)\n(?=\n|\Z)", TEXTS.read_text(encoding="utf-8"), re.M | re.S)
-    return {
-        f"Q{flight}.{number}": "\n".join(re.findall(r'"([^"]*)"', block)) + "\n"
-        for flight, number, block in blocks
-    }
 
 
 def command(bench, folder, path, morsel, times):

@@ -23,9 +23,9 @@ from pathlib import Path
 from typing import NamedTuple
 
 import run_rows
+from thirteen import thirteen
 
 TABLES = run_rows.ROOT / "examples" / "thirteen"
-TEXTS = run_rows.ROOT / "crates" / "ssb_words" / "specs" / "Benchmark.antt"
 ROWS = run_rows.ROWS / "thirteen"
 
 TOKEN = re.compile(r"'(?:[^']|'')*'|[a-z_]\w*|\d+|<>|<=|>=|[-(),;+*=<>]")
@@ -414,17 +414,6 @@ def read_columns():
     return tables
 
 
-def read_texts():
-    """The thirteen texts by their names, each written line by line in the definitions."""
-    texts = {}
-    for part in TEXTS.read_text(encoding="utf-8").split("abbrev pub ")[1:]:
-        name = re.match(r"q\d_\d", part)
-        if name is not None:
-            lines = re.findall(r'^ +[(∷] ?"(.*)"$', part, flags=re.M)
-            texts[name.group().replace("_", ".").upper()] = "".join(line + "\n" for line in lines)
-    return texts
-
-
 def answer_or_none(base, query):
     """The text of a query's answer, or none where it has none."""
     try:
@@ -476,7 +465,7 @@ def main(words):
     tables = read_columns()
     catalog = Catalog(tables, read_tables(tables, TABLES))
     checks = failed = 0
-    texts = read_texts()
+    texts = thirteen()
     with tempfile.TemporaryDirectory() as folder:
         cases = read_cases(tables, Path(folder))
         for name, text in texts.items():

@@ -1,5 +1,5 @@
 -- Keys are equal where their values are.
-use Rattle.std.proofs.Common.{◌≡◌, ◌∙◌, ◌<◌, ℕ, ℤ, nat_eq, bytes_eq, Bool, true, false, true≢false, ◌&&◌, List, [], ◌∷◌, length, get_or, refl, sym, ap, ap₂}
+use Rattle.std.proofs.Common.{◌≡◌, ◌∙◌, ◌<◌, ℕ, nat_eq, bytes_eq, Bool, true, false, true≢false, ◌&&◌, List, [], ◌∷◌, length, get_or, refl, sym, ap, ap₂}
 use Rattle.std.specs.Cmp.{IsEquivalence}
 use Rattle.std.specs.Cmp.Lexicographic.{pointwise}
 use Rattle.std.proofs.lemmas.Bool.{eq-eqb, eqb-true}

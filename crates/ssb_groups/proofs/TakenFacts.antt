@@ -12,15 +12,14 @@ use Rattle.ssb_trees.specs.declared.aggregate.SetFunction.TheVariants as functio
 use Rattle.ssb_trees.specs.declared.expr.Expr.{Expr}
 use Rattle.ssb_job.specs.Kept.{JobShape, column_value, from_tables}
 use Rattle.ssb_groups.specs.Aggregates.{agg}
-use Rattle.ssb_groups.specs.Entries.{AreTotals, total_columns, totals_in}
 use Rattle.ssb_groups.specs.Gathering.{IsGathered, IsTaken, alone, texts_by}
-use Rattle.ssb_groups.specs.Joining.{joining_of, joinings_of, place_alone, values_by}
+use Rattle.ssb_groups.specs.Joining.{joining_of, place_alone, values_by}
 use Rattle.ssb_groups.specs.Keys.{AreKept, IsKept, kept_total, spelt, spelt_cell}
 use Rattle.ssb_groups.specs.Outcomes.{kept_outcome}
 use Rattle.ssb_groups.specs.Places.{values_at}
 use Rattle.ssb_groups.specs.Seen.{argument}
 use Rattle.ssb_groups.specs.Stands.{is_over, EachRanged}
-use Rattle.ssb_groups.specs.Value.{Outcome, over, known, column_of}
+use Rattle.ssb_groups.specs.Value.{over, known, column_of}
 use Rattle.ssb_groups.specs.declared.gather.Taken.{Taken}
 use Rattle.ssb_groups.specs.declared.kept.Kept.{Kept}
 use Rattle.ssb_groups.specs.declared.kept.Kept.TheVariants as kept

@@ -15,7 +15,6 @@ use Rattle.ssb_groups.specs.Keys.{IsKept, kept_total, spelt_cell}
 use Rattle.ssb_groups.specs.Rows.{Key, SeenRow}
 use Rattle.ssb_groups.specs.Seen.{argument}
 use Rattle.ssb_groups.specs.Stands.{GroupMap, Stands, has_over, is_over, IsRanged, EachRanged}
-use Rattle.ssb_groups.specs.Value.{Outcome}
 use Rattle.ssb_groups.specs.declared.gather.Taken.{Taken}
 use Rattle.ssb_groups.specs.declared.kept.Kept.{Kept}
 

@@ -5,7 +5,6 @@ use Rattle.ssb_cells.specs.Cell.{Cell, null, number}
 use Rattle.ssb_groups.specs.Keys.{spelt_cell}
 use Rattle.ssb_groups.specs.Value.{Outcome, over, known}
 use Rattle.ssb_groups.specs.declared.kept.Kept.{Kept}
-use Rattle.ssb_groups.specs.declared.kept.Kept.TheVariants as kept
 use Rattle.ssb_groups.specs.declared.outcome.Operation.{Operation}
 use Rattle.ssb_groups.specs.declared.outcome.Operation.TheVariants as operation
 use Rattle.ssb_groups.specs.declared.outcome.Outcome.{Outcome as Value}

@@ -1,6 +1,6 @@
 -- Where columns of a job stand in its tables.
 -- Source: own; for the contracts inside this crate.
-use Rattle.std.specs.Prelude.{ℕ, ◌<◌, ℤ, List, [], length, Option, None, Some, map, slice_get, unwrap_or, nat_lt, if◌then◌else◌, ⊤}
+use Rattle.std.specs.Prelude.{ℕ, ◌<◌, List, [], length, Option, None, Some, map, slice_get, unwrap_or, nat_lt, if◌then◌else◌, ⊤}
 use Rattle.ssb_query.specs.declared.column.BoundColumn.{BoundColumn}
 use Rattle.ssb_cells.specs.Cell.{Cell, null}
 use Rattle.ssb_cells.specs.Tables.{rows_in}

@@ -1,6 +1,6 @@
 -- What contracts see of tickets and partial groups.
 -- Source: morsels are those of Leis and others, Morsel-Driven Parallelism, SIGMOD 2014; that work is handed out by tickets is this project's own.
-use Rattle.std.specs.Prelude.{◌≡◌, ℕ, ◌≤◌, List, ◌∷◌, [], length}
+use Rattle.std.specs.Prelude.{ℕ, ◌≤◌, List, ◌∷◌, [], length}
 use Rattle.ssb_job.specs.Kept.{AreOneJob, JobShape}
 use Rattle.ssb_groups.specs.Stands.{GroupMap, Stands}
 use Rattle.ssb_pipeline.specs.Joined.{rows_in, seen_in}

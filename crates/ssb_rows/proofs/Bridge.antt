@@ -1,5 +1,5 @@
 -- What groups stand for is what SQL answers.
-use Rattle.std.proofs.Common.{◌≡◌, ◌∙◌, ◌∷◌, [], ◌||◌, ◌+◌, ◌<◌, ℕ, zero, suc, Bool, true, false, cond, is_some, List, length, map, Option, None, Some, slice_get, refl, sym, ap, ap₂, subst, true≢false, arith, inl, inr}
+use Rattle.std.proofs.Common.{◌≡◌, ◌∙◌, ◌∷◌, [], ◌||◌, ℕ, suc, Bool, true, false, cond, is_some, List, length, map, None, Some, refl, sym, ap, ap₂, subst, true≢false, arith, inl, inr}
 use Rattle.std.specs.List.{list_any, All}
 use Rattle.std.specs.List.Sorted.{IsPermutation}
 use Rattle.std.specs.Map.{lookup}

@@ -1,7 +1,7 @@
 -- What a query answers of the rows that WHERE keeps: a row for each group, or the overflow.
 -- Source: SQL-92, 6.5 <set function specification>, 7.7 <group by clause>, 7.9 <query specification>; that an overflow of a row goes before one of a
 -- sum, and that only the exact sum has a range, are this project's own.
-use Rattle.std.specs.Prelude.{◌≡◌, ℕ, Bool, true, false, not, List, [], ◌∷◌, map, length, Option, None, Some, Result, Ok, Err, slice_get, unwrap_or, ⊤, All}
+use Rattle.std.specs.Prelude.{◌≡◌, ℕ, Bool, true, false, not, List, [], ◌∷◌, map, length, None, Some, Result, Ok, Err, slice_get, unwrap_or, ⊤, All}
 use Rattle.std.specs.List.{filter, list_any}
 use Rattle.ssb_cells.specs.Cell.{Cell, null, number, text}
 use Rattle.ssb_query.specs.declared.column.BoundColumn.{BoundColumn}

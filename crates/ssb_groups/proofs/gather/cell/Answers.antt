@@ -1,10 +1,8 @@
-use Rattle.std.proofs.Common.{◌≡◌, ◌∙◌, map, sym, ap, ap₂, subst}
+use Rattle.std.proofs.Common.{◌≡◌, ◌∙◌, sym, ap, ap₂, subst}
 use Rattle.std.specs.Prelude.{slice_get}
-use Rattle.ssb_cells.specs.Cell.{Cell}
-use Rattle.ssb_job.specs.Kept.{JobShape, from_tables}
-use Rattle.ssb_groups.specs.Keys.{IsKept, column_values, key_cell, kept_cell, spelt_cell}
-use Rattle.ssb_groups.specs.Places.{HasSomeRow, IsSomePlace, cell_at_place, place_of, values_at}
-use Rattle.ssb_groups.specs.declared.kept.Kept.{Kept}
+use Rattle.ssb_job.specs.Kept.{from_tables}
+use Rattle.ssb_groups.specs.Keys.{IsKept, column_values, key_cell, spelt_cell}
+use Rattle.ssb_groups.specs.Places.{HasSomeRow, IsSomePlace, cell_at_place}
 use Rattle.ssb_groups.proofs.ColumnFacts.{place-cell, place-row, place-there, place-values, respells-by}
 use Rattle.ssb_groups.proofs.gather.cell.Goals as goal
 

@@ -1,10 +1,8 @@
-use Rattle.std.proofs.Common.{◌≡◌, ◌∙◌, ◌≤◌, ◌+◌, ◌∷◌, ◌++◌, ◌||◌, ℕ, zero, suc, Bool, true, false, List, [], length, drop, refl, sym, ap, ap₂, subst, arith}
+use Rattle.std.proofs.Common.{◌≡◌, ◌∙◌, ◌≤◌, ◌+◌, ◌∷◌, ◌||◌, ℕ, zero, suc, List, [], length, drop, refl, sym, ap, subst, arith}
 use Rattle.std.proofs.lemmas.List.{drop_more}
 use Rattle.ssb_trees.specs.declared.aggregate.Aggregate.{Aggregate}
 use Rattle.ssb_query.specs.declared.column.BoundColumn.{BoundColumn}
 use Rattle.ssb_job.specs.Kept.{JobShape}
-use Rattle.ssb_groups.specs.Gathering.{IsTaken}
-use Rattle.ssb_groups.specs.Keys.{kept_total}
 use Rattle.ssb_groups.proofs.TakenFacts.{Gathers, gathers-more, gathered}
 use Rattle.ssb_groups.proofs.gather.gather.Goals as goal
 use Rattle.ssb_groups.proofs.gather.gather.Goals.{then-over, else-over}

@@ -6,12 +6,12 @@ use Rattle.ssb_trees.specs.declared.aggregate.Aggregate.TheVariants as aggregate
 use Rattle.ssb_job.specs.Kept.{JobShape, column_value, from_tables}
 use Rattle.ssb_groups.specs.Aggregates.{agg}
 use Rattle.ssb_groups.specs.Gathering.{IsTaken, texts_by}
-use Rattle.ssb_groups.specs.Joining.{joining_of, place_alone, values_by}
+use Rattle.ssb_groups.specs.Joining.{place_alone}
 use Rattle.ssb_groups.specs.Keys.{IsKept, kept_total, spelt_cell}
 use Rattle.ssb_groups.specs.Outcomes.{kept_outcome}
 use Rattle.ssb_groups.specs.Places.{values_at}
 use Rattle.ssb_groups.specs.Stands.{is_over}
-use Rattle.ssb_groups.specs.Value.{column_of, known, value}
+use Rattle.ssb_groups.specs.Value.{column_of, known}
 use Rattle.ssb_groups.specs.declared.kept.Kept.{Kept}
 use Rattle.ssb_groups.proofs.TakenFacts.{kept-or, same-alone, texts-are}
 use Rattle.ssb_groups.proofs.gather.take.Goals as goal

@@ -1,4 +1,4 @@
-use Rattle.std.proofs.Common.{◌≡◌, ◌+◌, ◌∙◌, ℕ, suc, length, map, sym, ap, arith}
+use Rattle.std.proofs.Common.{◌≡◌, ◌+◌, ◌∙◌, ℕ, suc, length, map, ap, arith}
 use Rattle.ssb_groups.specs.Joining.{joined_front, values_by}
 use Rattle.ssb_groups.specs.Keys.{kept_total, spelt}
 use Rattle.ssb_groups.specs.declared.joining.Joining.TheVariants as joining

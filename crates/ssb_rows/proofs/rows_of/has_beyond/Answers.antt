@@ -1,4 +1,4 @@
-use Rattle.std.proofs.Common.{◌≡◌, ◌∙◌, ◌||◌, ◌+◌, List, drop, map, sym, ap}
+use Rattle.std.proofs.Common.{◌∙◌, ◌||◌, ◌+◌, List, drop, map, sym, ap}
 use Rattle.ssb_groups.specs.declared.totals.Total.{Total}
 use Rattle.ssb_groups.specs.declared.totals.Total.TheVariants as total
 use Rattle.std.specs.List.{list_any}

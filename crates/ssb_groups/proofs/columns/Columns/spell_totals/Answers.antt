@@ -1,6 +1,5 @@
 use Rattle.std.proofs.Common.{◌≡◌, ◌∙◌, ◌<◌, ◌+◌, ◌++◌, [], ◌∷◌, List, ℕ, Some, drop, get_or, length, map, slice_get, refl, sym, ap, subst, arith, append_assoc, append-nil}
 use Rattle.std.proofs.lemmas.List.{length-map, map-append}
-use Rattle.ssb_cells.specs.Cell.{Cell}
 use Rattle.ssb_job.specs.Kept.{Columns, JobShape}
 use Rattle.ssb_groups.specs.Entries.{AreTotals, total_columns}
 use Rattle.ssb_groups.specs.Joining.{AreJoinings, IsJoining, joinings_of, values_by}

@@ -2,7 +2,7 @@ use Rattle.std.proofs.Common.{◌≡◌, [], ◌∷◌, map, sym, ap, ◌∙◌,
 use Rattle.ssb_job.specs.Kept.{JobShape, column_value, from_tables}
 use Rattle.ssb_groups.specs.Aggregates.{totals}
 use Rattle.ssb_groups.specs.Entries.{AreTotals, totals_in}
-use Rattle.ssb_groups.specs.Gathering.{IsGathered, alone}
+use Rattle.ssb_groups.specs.Gathering.{IsGathered}
 use Rattle.ssb_groups.specs.Keys.{AreKept, cells_in, key_columns, key_of, spelt}
 use Rattle.ssb_groups.proofs.ColumnFacts.{key-kept, key-spelt}
 use Rattle.ssb_groups.specs.Rows.{SeenRow}

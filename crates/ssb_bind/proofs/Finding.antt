@@ -1,5 +1,5 @@
 -- The first name that passes a test, of the first operand that has one.
-use Rattle.std.proofs.Common.{◌≡◌, ◌⊎◌, Bool, true, false, cond, ◌||◌, List, [], ◌∷◌, ◌++◌, map, Option, Some, None, find, refl, ap, ◌∙◌, inl, inr}
+use Rattle.std.proofs.Common.{◌≡◌, ◌⊎◌, Bool, true, false, cond, ◌||◌, List, [], ◌∷◌, ◌++◌, map, Option, Some, None, find, is_some, refl, ap, ◌∙◌, inl, inr}
 use Rattle.std.specs.List.{list_any}
 use Rattle.ssb_trees.specs.Lists.{concat}
 
@@ -28,6 +28,22 @@ none_is false x r e = (refl, e)
 one_is : {X : Type 0} (b : Bool) (x y : X) (r : Option X) → cond b (Some x) r ≡ Some y → ((b ≡ true) × (x ≡ y)) ⊎ ((b ≡ false) × (r ≡ Some y))
 one_is true x y r e = inl (refl, cc)
 one_is false x y r e = inr (refl, e)
+
+one_some : {X : Type 0} (b : Bool) (x : X) (r : Option X) (t : Bool) → is_some r ≡ t → is_some (cond b (Some x) r) ≡ (b || t)
+one_some true x r t e = refl
+one_some false x r t e = e
+
+-- some pass where one is found
+pub some_found : {X : Type 0} (p : X → Bool) (xs : List X) → is_some (find p xs) ≡ list_any p xs
+some_found p [] = refl
+some_found p (x ∷ xs) = one_some (p x) x (find p xs) (list_any p xs) (some_found p xs)
+
+pub none_both : {X : Type 0} (p : X → Bool) (xs ys : List X) → find p (xs ++ ys) ≡ None → (find p xs ≡ None) × (find p ys ≡ None)
+none_both p [] ys e = (refl, e)
+none_both p (x ∷ xs) ys e =
+    let h = none_is (p x) x (find p (xs ++ ys)) e in
+    let r = none_both p xs ys h.1 in
+    (ap (λ b. cond b (Some x) (find p xs)) h.0 ∙ r.0, r.1)
 
 module _ {X Y : Type 0} (p : Y → Bool) (f : X → List Y) where
   abbrev has : X → Bool

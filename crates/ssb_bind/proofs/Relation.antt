@@ -1,20 +1,28 @@
 -- The bound query is that of the select where no refusal applies, and a select has one query at most.
-use Rattle.std.proofs.Common.{◌≡◌, ℕ, ◌+◌, true, false, cond, Option, Some, None, List, [], ◌∷◌, ◌++◌, length, map, find, is_none, slice_get, unwrap_or, refl, sym, ap, ap₂, ◌∙◌, append_assoc, length-append, arith}
+use Rattle.std.proofs.Common.{◌≡◌, ℕ, zero, suc, ◌+◌, true, false, cond, Option, Some, None, List, [], ◌∷◌, ◌++◌, length, map, find, is_none, slice_get, unwrap_or, refl, sym, ap, ap₂, subst, ◌∙◌, append_assoc, length-append, arith}
+use Rattle.std.specs.Bool.{⊤}
 use Rattle.std.specs.List.{filter_map, cons_option, range_with_len}
 use Rattle.std.proofs.lemmas.Option.{same_Some}
 use Rattle.ssb_load.proofs.Choices.{cond-none, cond-passes}
 use Rattle.ssb_load.specs.Shapes.{TableShape}
+use Rattle.ssb_sql.specs.declared.named.ColumnName.{ColumnName}
 use Rattle.ssb_sql.specs.declared.select.Item.{Item}
 use Rattle.ssb_sql.specs.declared.select.Order.{Order}
 use Rattle.ssb_sql.specs.declared.select.Output.{Output}
 use Rattle.ssb_sql.specs.declared.select.Output.TheVariants as output
 use Rattle.ssb_sql.specs.declared.select.Select.{Select}
-use Rattle.ssb_bind.specs.Binding.{bound_items, bound_order, is_aggregate, origin_of}
-use Rattle.ssb_bind.specs.Bound.{aggregate_of, aggregates_of, bound_aggregate, bound_where, group_place}
+use Rattle.ssb_trees.proofs.Turns.{same_condition}
+use Rattle.ssb_trees.specs.Conditions.{Filter, operands}
+use Rattle.ssb_trees.specs.Lists.{concat}
+use Rattle.ssb_trees.specs.declared.operand.Operand.{Operand}
+use Rattle.ssb_trees.specs.declared.operand.Operand.TheVariants as operand
+use Rattle.ssb_bind.specs.Binding.{bound_items, bound_operands, bound_order, BindsHaving, is_aggregate, origin_of}
+use Rattle.ssb_bind.specs.Bound.{aggregate_of, aggregates_of, bound_aggregate, bound_where, group_place, having_aggregates, operand_aggregate}
 use Rattle.ssb_bind.specs.Columns.{bound_name, fit_of, table_number, the_one}
-use Rattle.ssb_bind.specs.Faults.{is_ungrouped, not_grouped, own_column, unknown_table}
+use Rattle.ssb_bind.specs.Faults.{is_ungrouped, unknown_table}
+use Rattle.ssb_bind.specs.Names.{filter_names, operand_names, own_columns}
 use Rattle.ssb_bind.specs.Orders.{bad_from, fits_one, places_for}
-use Rattle.ssb_bind.specs.Query.{aggregate_number, Each, IsItem, IsOrder, IsQueryOf, Shows}
+use Rattle.ssb_bind.specs.Query.{aggregate_number, Each, form, having_numbers, IsHaving, IsItem, IsOrder, IsQueryOf, operand_number, Shows, StandsFor}
 use Rattle.ssb_query.specs.Tables.{fact_place}
 use Rattle.ssb_query.specs.declared.column.BoundColumn.{BoundColumn}
 use Rattle.ssb_query.specs.declared.query.BoundItem.{BoundItem}
@@ -54,17 +62,50 @@ module _ (c : List TableShape) (p q : QueryParts) (from : p.from ≡ q.from) (gr
   abbrev numbers_of : List BoundItem → List ℕ
   numbers_of bs = filter_map (λ item. aggregate_number item.origin) bs
 
-  same_items : (items : List Item) (bs ds : List BoundItem) → Each (IsItem c p) items bs → Each (IsItem c q) items ds → numbers_of bs ≡ numbers_of ds → bs ≡ ds
-  same_items [] [] [] h g e = refl
-  same_items [] [] (d ∷ ds) h g e = absurd g
-  same_items [] (b ∷ bs) ds h g e = absurd h
-  same_items (item ∷ items) [] ds h g e = absurd h
-  same_items (item ∷ items) (b ∷ bs) [] h g e = absurd g
-  same_items (item ∷ items) (b ∷ bs) (d ∷ ds) h g e =
-      let both = same_origin item.output b.origin d.origin h.0.origin g.0.origin (numbers_of bs) (numbers_of ds) e in
+  cons_append : (o : Option ℕ) (xs ys : List ℕ) → cons_option o xs ++ ys ≡ cons_option o (xs ++ ys)
+  cons_append None xs ys = refl
+  cons_append (Some n) xs ys = refl
+
+  same_items : (items : List Item) (bs ds : List BoundItem) (xs ys : List ℕ) → Each (IsItem c p) items bs → Each (IsItem c q) items ds → numbers_of bs ++ xs ≡ numbers_of ds ++ ys → (bs ≡ ds) × (xs ≡ ys)
+  same_items [] [] [] xs ys h g e = (refl, e)
+  same_items [] [] (d ∷ ds) xs ys h g e = absurd g
+  same_items [] (b ∷ bs) ds xs ys h g e = absurd h
+  same_items (item ∷ items) [] ds xs ys h g e = absurd h
+  same_items (item ∷ items) (b ∷ bs) [] xs ys h g e = absurd g
+  same_items (item ∷ items) (b ∷ bs) (d ∷ ds) xs ys h g e =
+      let behind = sym (cons_append (aggregate_number b.origin) (numbers_of bs) xs) ∙ e ∙ cons_append (aggregate_number d.origin) (numbers_of ds) ys in
+      let both = same_origin item.output b.origin d.origin h.0.origin g.0.origin (numbers_of bs ++ xs) (numbers_of ds ++ ys) behind in
       let names : b.name ≡ d.name = h.0.name ∙ sym g.0.name in
       let first : b ≡ d = ap₂ (λ o n. record { origin = o; name = n }) both.0 names in
-      ap₂ (λ z zs. z ∷ zs) first (same_items items bs ds h.1 g.1 both.1)
+      let rest = same_items items bs ds xs ys h.1 g.1 both.1 in
+      (ap₂ (λ z zs. z ∷ zs) first rest.0, rest.1)
+
+  same_operand : (o : Operand Output) (x y : Operand Origin) → StandsFor c p o x → StandsFor c q o y → (xs ys : List ℕ) → cons_option (operand_number x) xs ≡ cons_option (operand_number y) ys → (x ≡ y) × (xs ≡ ys)
+  same_operand (operand.Column o) (operand.Column x) (operand.Column y) h g xs ys e = let r = same_origin o x y h g xs ys e in (ap operand.Column r.0, r.1)
+  same_operand (operand.Column o) (operand.Column x) (operand.Literal m) h g xs ys e = absurd g
+  same_operand (operand.Column o) (operand.Literal m) y h g xs ys e = absurd h
+  same_operand (operand.Literal l) (operand.Column x) y h g xs ys e = absurd h
+  same_operand (operand.Literal l) (operand.Literal m) (operand.Column y) h g xs ys e = absurd g
+  same_operand (operand.Literal l) (operand.Literal m) (operand.Literal n) h g xs ys e = (ap operand.Literal (h ∙ sym g), e)
+
+  same_operands : (os : List (Operand Output)) (bs ds : List (Operand Origin)) → Each (StandsFor c p) os bs → Each (StandsFor c q) os ds → filter_map operand_number bs ≡ filter_map operand_number ds → bs ≡ ds
+  same_operands [] [] [] h g e = refl
+  same_operands [] [] (d ∷ ds) h g e = absurd g
+  same_operands [] (b ∷ bs) ds h g e = absurd h
+  same_operands (o ∷ os) [] ds h g e = absurd h
+  same_operands (o ∷ os) (b ∷ bs) [] h g e = absurd g
+  same_operands (o ∷ os) (b ∷ bs) (d ∷ ds) h g e =
+      let both = same_operand o b d h.0 g.0 (filter_map operand_number bs) (filter_map operand_number ds) e in
+      ap₂ (λ z zs. z ∷ zs) both.0 (same_operands os bs ds h.1 g.1 both.1)
+
+  same_having : (w : Option (Filter Output)) (a b : Option (Filter Origin)) → IsHaving c p w a → IsHaving c q w b → having_numbers a ≡ having_numbers b → a ≡ b
+  same_having None None None h g e = refl
+  same_having None None (Some b) h g e = absurd g
+  same_having None (Some a) b h g e = absurd h
+  same_having (Some w) None b h g e = absurd h
+  same_having (Some w) (Some a) None h g e = absurd g
+  same_having (Some w) (Some a) (Some b) h g e =
+      ap Some (same_condition (Operand Origin) ⊤ (λ o. tt) (operand.Column (origin.Group 0)) a b (h.0 ∙ sym g.0) (same_operands (operands (Operand Output) w) (operands (Operand Origin) a) (operands (Operand Origin) b) h.1 g.1 e))
 
 same_orders : (items : List Item) (os : List Order) (bs ds : List BoundOrder) → Each (IsOrder items) os bs → Each (IsOrder items) os ds → bs ≡ ds
 same_orders items [] [] [] h g = refl
@@ -86,11 +127,12 @@ one_query c s p q h g =
     let fact : p.fact ≡ q.fact = same_Some p.fact q.fact (sym h.fact ∙ ap₂ fact_place tables from ∙ g.fact) in
     let condition : p.condition ≡ q.condition = h.condition ∙ ap (λ f. bound_where c f s.condition) from ∙ sym g.condition in
     let groups : p.groups ≡ q.groups = h.groups ∙ ap (λ f. map (bound_name c f) s.groups) from ∙ sym g.groups in
-    let aggregates : p.aggregates ≡ q.aggregates = h.aggregates ∙ ap (λ f. aggregates_of c f s.items) from ∙ sym g.aggregates in
+    let aggregates : p.aggregates ≡ q.aggregates = h.aggregates ∙ ap (λ f. aggregates_of c f s.items ++ having_aggregates c f s.having) from ∙ sym g.aggregates in
     let numbers = h.numbers ∙ ap (λ (all : List (Aggregate BoundColumn)). range_with_len 0 (length all)) aggregates ∙ sym g.numbers in
-    let items : p.items ≡ q.items = same_items c p q from groups s.items p.items q.items h.items g.items numbers in
+    let items = same_items c p q from groups s.items p.items q.items (having_numbers p.having) (having_numbers q.having) h.items g.items numbers in
+    let having : p.having ≡ q.having = same_having c p q from groups s.having p.having q.having h.having g.having items.1 in
     let orders : p.orders ≡ q.orders = same_orders s.items s.orders p.orders q.orders h.orders g.orders in
-    λ j. record { tables = tables j; from = from j; fact = fact j; condition = condition j; groups = groups j; aggregates = aggregates j; items = items j; orders = orders j }
+    λ j. record { tables = tables j; from = from j; fact = fact j; condition = condition j; groups = groups j; having = having j; aggregates = aggregates j; items = items.0 j; orders = orders j }
 
 -- ---- the bound query
 
@@ -108,31 +150,65 @@ at_length : {X : Type 0} (front : List X) (x : X) (back : List X) → slice_get 
 at_length [] x back = refl
 at_length (y ∷ front) x back = at_length front x back
 
--- the select columns from one on, of which the aggregates `front` stand before
-module _ (c : List TableShape) (q : QueryParts) where
+-- the select columns from one on, of which the aggregates `front` stand before, and then HAVING
+module _ (c : List TableShape) (q : QueryParts) (back : List (Aggregate BoundColumn)) where
+  abbrev columns_in : List Item → List ColumnName
+  columns_in items = concat (map (λ item. own_columns item.output) items)
+
   abbrev Goes : List (Aggregate BoundColumn) → ℕ → List Item → Type 0
-  Goes front n items = q.aggregates ≡ front ++ aggregates_of c q.from items → n ≡ length front → not_grouped c q.from q.groups items ≡ None → Each (IsItem c q) items (bound_items c q.from q.groups n items)
+  Goes front n items = q.aggregates ≡ front ++ (aggregates_of c q.from items ++ back) → n ≡ length front → find (is_ungrouped c q.from q.groups) (columns_in items) ≡ None → Each (IsItem c q) items (bound_items c q.from q.groups n items)
 
   pub each_item : (items : List Item) (front : List (Aggregate BoundColumn)) (n : ℕ) → Goes front n items
   each_item [] front n all many e = tt
   each_item (item ∷ items) front n all many e = let h = at item.output (each_item items) all e in (record { origin = h.0; name = refl }, h.1)
     where
-      found : (a : Aggregate BoundColumn) → q.aggregates ≡ front ++ a ∷ aggregates_of c q.from items → slice_get q.aggregates n ≡ Some a
-      found a list = ap₂ slice_get list many ∙ at_length front a (aggregates_of c q.from items)
+      behind : List (Aggregate BoundColumn)
+      behind = aggregates_of c q.from items ++ back
 
-      rest : ((before : List (Aggregate BoundColumn)) (m : ℕ) → Goes before m items) → (a : Aggregate BoundColumn) → q.aggregates ≡ front ++ a ∷ aggregates_of c q.from items → not_grouped c q.from q.groups items ≡ None → Each (IsItem c q) items (bound_items c q.from q.groups (n + 1) items)
-      rest more a list grouped = more (front ++ a ∷ []) (n + 1) (list ∙ sym (append_assoc front (a ∷ []) (aggregates_of c q.from items))) (omega (arith, many, length-append front (a ∷ []))) grouped
+      found : (a : Aggregate BoundColumn) → q.aggregates ≡ front ++ a ∷ behind → slice_get q.aggregates n ≡ Some a
+      found a list = ap₂ slice_get list many ∙ at_length front a behind
 
-      at : (o : Output) → ((before : List (Aggregate BoundColumn)) (m : ℕ) → Goes before m items) → q.aggregates ≡ front ++ cons_option (aggregate_of c q.from o) (aggregates_of c q.from items)
-          → find (is_ungrouped c q.from q.groups) (cons_option (own_column o) (filter_map (λ i. own_column i.output) items)) ≡ None
+      rest : ((before : List (Aggregate BoundColumn)) (m : ℕ) → Goes before m items) → (a : Aggregate BoundColumn) → q.aggregates ≡ front ++ a ∷ behind → find (is_ungrouped c q.from q.groups) (columns_in items) ≡ None → Each (IsItem c q) items (bound_items c q.from q.groups (n + 1) items)
+      rest more a list grouped = more (front ++ a ∷ []) (n + 1) (list ∙ sym (append_assoc front (a ∷ []) behind)) (omega (arith, many, length-append front (a ∷ []))) grouped
+
+      at : (o : Output) → ((before : List (Aggregate BoundColumn)) (m : ℕ) → Goes before m items) → q.aggregates ≡ front ++ (cons_option (aggregate_of c q.from o) (aggregates_of c q.from items) ++ back)
+          → find (is_ungrouped c q.from q.groups) (own_columns o ++ columns_in items) ≡ None
           → Shows c q o (origin_of c q.from q.groups n o) × Each (IsItem c q) items (bound_items c q.from q.groups (cond (is_aggregate o) (n + 1) n) items)
       at (output.Column name) more list grouped =
-          let here = cond-none (is_ungrouped c q.from q.groups name) name (not_grouped c q.from q.groups items) grouped in
+          let here = cond-none (is_ungrouped c q.from q.groups name) name (find (is_ungrouped c q.from q.groups) (columns_in items)) grouped in
           (there (group_place q.groups (bound_name c q.from name)) 0 here.0, more front n list many here.1)
       at (output.Aggregate a) more list grouped = (found (bound_aggregate c q.from a) list, rest more (bound_aggregate c q.from a) list grouped)
 
+-- the operands of HAVING from one on
+module _ (c : List TableShape) (q : QueryParts) where
+  abbrev columns_of : List (Operand Output) → List ColumnName
+  columns_of os = concat (map (operand_names own_columns) os)
+
+  each_operand : (os : List (Operand Output)) (front : List (Aggregate BoundColumn)) → q.aggregates ≡ front ++ filter_map (operand_aggregate c q.from) os → find (is_ungrouped c q.from q.groups) (columns_of os) ≡ None
+      → Each (StandsFor c q) os (bound_operands c q.from q.groups front os)
+  each_operand [] front all grouped = tt
+  each_operand (operand.Literal l ∷ os) front all grouped = (refl, each_operand os front all grouped)
+  each_operand (operand.Column (output.Column name) ∷ os) front all grouped =
+      let here = cond-none (is_ungrouped c q.from q.groups name) name (find (is_ungrouped c q.from q.groups) (columns_of os)) grouped in
+      (there (group_place q.groups (bound_name c q.from name)) 0 here.0, each_operand os front all here.1)
+  each_operand (operand.Column (output.Aggregate a) ∷ os) front all grouped =
+      let one = bound_aggregate c q.from a in
+      let behind = filter_map (operand_aggregate c q.from) os in (
+        ap (λ list. slice_get list (length front)) all ∙ at_length front one behind,
+        each_operand os (front ++ one ∷ []) (all ∙ sym (append_assoc front (one ∷ []) behind)) grouped,
+      )
+
+  pub having_is : (w : Option (Filter Output)) (b : Option (Filter Origin)) (front : List (Aggregate BoundColumn)) → BindsHaving c q.from q.groups front w b → q.aggregates ≡ front ++ having_aggregates c q.from w
+      → find (is_ungrouped c q.from q.groups) (filter_names own_columns w) ≡ None → IsHaving c q w b
+  having_is None None front h all grouped = tt
+  having_is None (Some b) front h all grouped = absurd h
+  having_is (Some w) None front h all grouped = absurd h
+  having_is (Some w) (Some b) front h all grouped =
+      let os = operands (Operand Output) w in
+      (h.0, subst (Each (StandsFor c q) os) (sym h.1) (each_operand os front all grouped))
+
 -- the aggregates are numbered one after the other
-pub each_number : (c : List TableShape) (from : List ℕ) (groups : List BoundColumn) (n : ℕ) (items : List Item)
+each_number : (c : List TableShape) (from : List ℕ) (groups : List BoundColumn) (n : ℕ) (items : List Item)
     → filter_map (λ item. aggregate_number item.origin) (bound_items c from groups n items) ≡ range_with_len n (length (aggregates_of c from items))
 each_number c from groups n [] = refl
 each_number c from groups n (item ∷ items) = at item.output (λ m. each_number c from groups m items)
@@ -142,6 +218,35 @@ each_number c from groups n (item ∷ items) = at item.output (λ m. each_number
         ≡ range_with_len n (length (cons_option (aggregate_of c from o) (aggregates_of c from items)))
     at (output.Column name) more = more n
     at (output.Aggregate a) more = ap (λ ns. n ∷ ns) (more (n + 1))
+
+ranges : (n m k l all : ℕ) → m ≡ n + k → all ≡ k + l → range_with_len n k ++ range_with_len m l ≡ range_with_len n all
+ranges n m zero l all e h = let same : m ≡ n = omega (arith, e) in let rest : l ≡ all = omega (arith, h) in ap₂ range_with_len same rest
+ranges n m (suc k) l zero e h = absurd (omega (arith, h))
+ranges n m (suc k) l (suc all) e h = ap (λ ns. n ∷ ns) (ranges (n + 1) m k l all (omega (arith, e)) (omega (arith, h)))
+
+module _ (c : List TableShape) (from : List ℕ) (groups : List BoundColumn) where
+  operand_numbers : (os : List (Operand Output)) (front : List (Aggregate BoundColumn)) → filter_map operand_number (bound_operands c from groups front os) ≡ range_with_len (length front) (length (filter_map (operand_aggregate c from) os))
+  operand_numbers [] front = refl
+  operand_numbers (operand.Literal l ∷ os) front = operand_numbers os front
+  operand_numbers (operand.Column (output.Column name) ∷ os) front = operand_numbers os front
+  operand_numbers (operand.Column (output.Aggregate a) ∷ os) front =
+      let one = bound_aggregate c from a in
+      let longer : length (front ++ one ∷ []) ≡ length front + 1 = length-append front (one ∷ []) in
+      ap (λ ns. length front ∷ ns) (operand_numbers os (front ++ one ∷ []) ∙ ap (λ n. range_with_len n (length (filter_map (operand_aggregate c from) os))) longer)
+
+  having_numbers_are : (w : Option (Filter Output)) (b : Option (Filter Origin)) (front : List (Aggregate BoundColumn)) → BindsHaving c from groups front w b → having_numbers b ≡ range_with_len (length front) (length (having_aggregates c from w))
+  having_numbers_are None None front h = refl
+  having_numbers_are None (Some b) front h = absurd h
+  having_numbers_are (Some w) None front h = absurd h
+  having_numbers_are (Some w) (Some b) front h = ap (filter_map operand_number) h.1 ∙ operand_numbers (operands (Operand Output) w) front
+
+  pub all_numbers : (items : List Item) (w : Option (Filter Output)) (b : Option (Filter Origin)) → BindsHaving c from groups (aggregates_of c from items) w b
+      → filter_map (λ item. aggregate_number item.origin) (bound_items c from groups 0 items) ++ having_numbers b ≡ range_with_len 0 (length (aggregates_of c from items ++ having_aggregates c from w))
+  all_numbers items w b h =
+      let front = aggregates_of c from items in
+      let behind = having_aggregates c from w in
+      ap₂ (λ xs ys. xs ++ ys) (each_number c from groups 0 items) (having_numbers_are w b front h)
+      ∙ ranges 0 (length front) (length front) (length behind) (length (front ++ behind)) (omega arith) (length-append front behind)
 
 -- an order key that fits one select column stands for it
 alone : (places : List ℕ) → fits_one (fit_of places) ≡ true → places ≡ the_one (fit_of places) 0 ∷ []

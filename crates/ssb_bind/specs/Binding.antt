@@ -1,16 +1,21 @@
 -- How the code binds and judges, step by step: the query of a select whose names each stand for one column.
 -- For the contracts inside this crate.
-use Rattle.std.specs.Prelude.{◌≡◌, ℕ, ◌+◌, Bool, true, false, if◌then◌else◌, List, [], ◌∷◌, map, Option, None, Result, Ok, Err, unwrap_or, ⊤}
+use Rattle.std.specs.Prelude.{◌≡◌, ℕ, ◌+◌, Bool, true, false, if◌then◌else◌, List, [], ◌∷◌, ◌++◌, length, map, Option, None, Some, Result, Ok, Err, unwrap_or, ⊤}
 use Rattle.ssb_load.specs.Shapes.{TableShape}
 use Rattle.ssb_sql.specs.declared.select.Item.{Item}
 use Rattle.ssb_sql.specs.declared.select.Order.{Order}
 use Rattle.ssb_sql.specs.declared.select.Output.{Output}
 use Rattle.ssb_sql.specs.declared.select.Output.TheVariants as output
 use Rattle.ssb_sql.specs.declared.select.Select.{Select}
-use Rattle.ssb_bind.specs.Bound.{bound_where, aggregates_of, group_place}
-use Rattle.ssb_bind.specs.Columns.{bound_name, fit_of, the_one, table_numbers}
+use Rattle.ssb_trees.specs.Conditions.{Filter, operands}
+use Rattle.ssb_trees.specs.declared.aggregate.Aggregate.{Aggregate}
+use Rattle.ssb_trees.specs.declared.operand.Operand.{Operand}
+use Rattle.ssb_trees.specs.declared.operand.Operand.TheVariants as operand
+use Rattle.ssb_bind.specs.Bound.{bound_where, aggregates_of, group_place, having_aggregates, operand_aggregate}
+use Rattle.ssb_bind.specs.Columns.{bound_name, fit_of, the_one}
 use Rattle.ssb_bind.specs.Faults.{Says}
 use Rattle.ssb_bind.specs.Orders.{name_of_item, places_for}
+use Rattle.ssb_bind.specs.Query.{form}
 use Rattle.ssb_bind.specs.Rules.{rules_in}
 use Rattle.ssb_query.specs.Tables.{fact_place}
 use Rattle.ssb_query.specs.declared.column.BoundColumn.{BoundColumn}
@@ -53,14 +58,38 @@ bound_items c from groups before (item ∷ items) = bound_item c from groups bef
 abbrev pub bound_order : List Item → Order → BoundOrder
 bound_order items o = record { item = the_one (fit_of (places_for items o.key)) 0; descending = o.descending }
 
-abbrev pub bound_over : List TableShape → List ℕ → List BoundColumn → List BoundItem → Select → QueryParts
-bound_over c from groups items s = record {
+-- an operand of HAVING in its turn, of which so many aggregates stand before it
+abbrev pub bound_operand : List TableShape → List ℕ → List BoundColumn → ℕ → Operand Output → Operand Origin
+bound_operand c from groups before (operand.Column o) = operand.Column (origin_of c from groups before o)
+bound_operand c from groups before (operand.Literal l) = operand.Literal l
+
+abbrev pub and_last : {A : Type 0} → List A → Option A → List A
+and_last all None = all
+and_last all (Some a) = all ++ a ∷ []
+
+-- the aggregates so far, and that of an operand behind them
+abbrev pub and_aggregate : List TableShape → List ℕ → List (Aggregate BoundColumn) → Operand Output → List (Aggregate BoundColumn)
+and_aggregate c from all o = and_last all (operand_aggregate c from o)
+
+abbrev pub bound_operands : List TableShape → List ℕ → List BoundColumn → List (Aggregate BoundColumn) → List (Operand Output) → List (Operand Origin)
+bound_operands c from groups all [] = []
+bound_operands c from groups all (o ∷ os) = bound_operand c from groups (length all) o ∷ bound_operands c from groups (and_aggregate c from all o) os
+
+-- HAVING keeps its form, and its operands are bound one after the other
+abbrev pub BindsHaving : List TableShape → List ℕ → List BoundColumn → List (Aggregate BoundColumn) → Option (Filter Output) → Option (Filter Origin) → Type 0
+BindsHaving c from groups all None None = ⊤
+BindsHaving c from groups all (Some h) (Some b) = (form b ≡ form h) × (operands (Operand Origin) b ≡ bound_operands c from groups all (operands (Operand Output) h))
+BindsHaving c from groups all h b = ⊥
+
+abbrev pub bound_over : List TableShape → List ℕ → List BoundColumn → List BoundItem → Option (Filter Origin) → Select → QueryParts
+bound_over c from groups items having s = record {
   tables = rules_in c;
   from = from;
   fact = unwrap_or (fact_place (rules_in c) from) 0;
   condition = bound_where c from s.condition;
   groups = groups;
-  aggregates = aggregates_of c from s.items;
+  having = having;
+  aggregates = aggregates_of c from s.items ++ having_aggregates c from s.having;
   items = items;
   orders = map (bound_order s.items) s.orders;
 }
@@ -68,12 +97,14 @@ bound_over c from groups items s = record {
 abbrev pub groups_of : List TableShape → List ℕ → Select → List BoundColumn
 groups_of c from s = map (bound_name c from) s.groups
 
-abbrev pub bound_from : List TableShape → List ℕ → Select → QueryParts
-bound_from c from s = bound_over c from (groups_of c from s) (bound_items c from (groups_of c from s) 0 s.items) s
+-- the select with a column for each name, and this HAVING
+unfoldable pub bound_from : List TableShape → List ℕ → Select → Option (Filter Origin) → QueryParts
+bound_from c from s having = bound_over c from (groups_of c from s) (bound_items c from (groups_of c from s) 0 s.items) having s
 
--- the select with a column for each name
-unfoldable pub bound_query : List TableShape → Select → QueryParts
-bound_query c s = bound_from c (table_numbers c s.from) s
+-- the query has a column for each name of the select
+pub record IsBound (c : List TableShape) (from : List ℕ) (s : Select) (q : QueryParts) : Type 0 where
+  pub parts : q ≡ bound_from c from s q.having
+  pub having : BindsHaving c from (groups_of c from s) (aggregates_of c from s.items) s.having q.having
 
 -- a check for one fault, or several
 abbrev pub Judges : {A : Type 0} → Option BindFault → Result A BindFault → Type 0

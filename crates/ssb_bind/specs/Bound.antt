@@ -1,6 +1,6 @@
 -- Conditions, expressions and aggregates with a column in the place of each name: the same trees.
 -- Source: SQL-92, 7.9 <query specification>, cut down to the language.
-use Rattle.std.specs.Prelude.{ℕ, nat_eq, Bool, ◌&&◌, List, Option, Some, None}
+use Rattle.std.specs.Prelude.{ℕ, nat_eq, Bool, ◌&&◌, List, [], Option, Some, None}
 use Rattle.std.specs.List.{filter_map, position}
 use Rattle.ssb_load.specs.Shapes.{TableShape}
 use Rattle.ssb_sql.specs.declared.named.ColumnName.{ColumnName}
@@ -36,13 +36,22 @@ abbrev pub bound_aggregate : List TableShape → List ℕ → Aggregate ColumnNa
 bound_aggregate c from aggregate.Rows = aggregate.Rows
 bound_aggregate c from (aggregate.Of function e) = aggregate.Of function (bound_expr c from e)
 
--- the aggregates, in the order of the text
 abbrev pub aggregate_of : List TableShape → List ℕ → Output → Option (Aggregate BoundColumn)
 aggregate_of c from (output.Column name) = None
 aggregate_of c from (output.Aggregate a) = Some (bound_aggregate c from a)
 
+-- the aggregates of the select list, in the order of the text
 abbrev pub aggregates_of : List TableShape → List ℕ → List Item → List (Aggregate BoundColumn)
 aggregates_of c from items = filter_map (λ item. aggregate_of c from item.output) items
+
+abbrev pub operand_aggregate : List TableShape → List ℕ → Operand Output → Option (Aggregate BoundColumn)
+operand_aggregate c from (operand.Column o) = aggregate_of c from o
+operand_aggregate c from (operand.Literal l) = None
+
+-- those of HAVING
+abbrev pub having_aggregates : List TableShape → List ℕ → Option (Filter Output) → List (Aggregate BoundColumn)
+having_aggregates c from None = []
+having_aggregates c from (Some h) = filter_map (operand_aggregate c from) (conditions.operands (Operand Output) h)
 
 abbrev pub is_same_column : BoundColumn → BoundColumn → Bool
 is_same_column x y = nat_eq x.table y.table && nat_eq x.column y.column

@@ -1,24 +1,21 @@
 -- What a select means over a catalog, and why it means nothing: the ten refusals, least number first.
--- Source: SQL-92, 6.3 <table reference>, 6.4 <column reference>, 7.7 <group by clause>, 7.9 <query specification>, 13.1 <declare cursor>; the shape of a
+-- Source: SQL-92, 6.3 <table reference>, 6.4 <column reference>, 7.7 <group by clause>, 7.8 <having clause>, 7.9 <query specification>, 13.1 <declare cursor>; the shape of a
 -- star is that of the Star Schema Benchmark; the limits are this project's own.
 use Rattle.std.specs.Prelude.{◌≡◌, ◌⊎◌, ℕ, Bool, true, false, ◌++◌, if◌then◌else◌, List, [], ◌∷◌, length, nat_lt, Option, Some, None, Result, Ok, Err, find, is_none, map, unwrap_or, All}
-use Rattle.std.specs.List.{list_any, filter_map}
+use Rattle.std.specs.List.{list_any}
 use Rattle.std.specs.Str.{bytes_eq}
 use Rattle.ssb_load.specs.Shapes.{TableShape}
 use Rattle.ssb_sql.specs.declared.named.ColumnName.{ColumnName}
-use Rattle.ssb_sql.specs.declared.select.Item.{Item}
-use Rattle.ssb_sql.specs.declared.select.Output.{Output}
-use Rattle.ssb_sql.specs.declared.select.Output.TheVariants as output
 use Rattle.ssb_sql.specs.declared.select.Select.{Select}
-use Rattle.ssb_bind.specs.Bound.{bound_where, aggregates_of, group_place}
+use Rattle.ssb_bind.specs.Bound.{bound_where, group_place, having_aggregates}
 use Rattle.ssb_bind.specs.Columns.{table_number, table_numbers, columns_for, bound_name, is_wrong}
-use Rattle.ssb_bind.specs.Names.{column_names}
+use Rattle.ssb_bind.specs.Names.{column_names, plain_columns}
 use Rattle.ssb_bind.specs.Orders.{bad_from}
 use Rattle.ssb_bind.specs.Query.{IsQueryOf}
 use Rattle.ssb_query.specs.Star.{unjoined_from}
 use Rattle.ssb_bind.specs.Rules.{rules_in}
 use Rattle.ssb_query.specs.Tables.{fact_place}
-use Rattle.ssb_bind.specs.Types.{has_mismatch}
+use Rattle.ssb_bind.specs.Typing.{has_mismatch}
 use Rattle.ssb_query.specs.declared.column.BoundColumn.{BoundColumn}
 use Rattle.ssb_bind.specs.declared.fault.BindFault.{BindFault}
 use Rattle.ssb_bind.specs.declared.fault.BindFault.TheVariants as fault
@@ -51,16 +48,12 @@ abbrev pub fault_of : Wrong → List ℕ → BindFault
 fault_of wrong.Unknown name = fault.UnknownColumn name
 fault_of wrong.Ambiguous name = fault.AmbiguousColumn name
 
-abbrev pub own_column : Output → Option ColumnName
-own_column (output.Column name) = Some name
-own_column (output.Aggregate a) = None
-
 abbrev pub is_ungrouped : List TableShape → List ℕ → List BoundColumn → ColumnName → Bool
 is_ungrouped c from groups name = is_none (group_place groups (bound_name c from name))
 
--- a select column, no aggregate, that is no group column
-abbrev pub not_grouped : List TableShape → List ℕ → List BoundColumn → List Item → Option ColumnName
-not_grouped c from groups items = find (is_ungrouped c from groups) (filter_map (λ item. own_column item.output) items)
+-- a column of the select list or of HAVING, in no aggregate, that is no group column
+abbrev pub not_grouped : List TableShape → List ℕ → List BoundColumn → Select → Option ColumnName
+not_grouped c from groups s = find (is_ungrouped c from groups) (plain_columns s)
 
 -- an order key that is not the name or the position of exactly one select column: its number from 1
 abbrev pub bad_order : Select → Option ℕ
@@ -74,14 +67,18 @@ lacks_fact q = is_none (fact_place q.tables q.from)
 abbrev pub unjoined : QueryParts → Select → Option (List ℕ)
 unjoined q s = unjoined_from q 0 s.from
 
--- over 8 tables, 32 select columns, 16 group columns or 32 order keys: the first that holds
-abbrev pub too_many : Select → Option TooMany
-too_many s =
+-- over 8 tables, 32 select columns, 16 group columns, 32 order keys, or this many aggregates in HAVING over 32: the first that holds
+abbrev pub too_many_by : ℕ → Select → Option TooMany
+too_many_by having s =
     if nat_lt 8 (length s.from) then Some many.Tables
     else (if nat_lt 32 (length s.items) then Some many.Items
     else (if nat_lt 16 (length s.groups) then Some many.Groups
     else (if nat_lt 32 (length s.orders) then Some many.Orders
-    else None)))
+    else (if nat_lt 32 having then Some many.Having
+    else None))))
+
+abbrev pub too_many : List TableShape → List ℕ → Select → Option TooMany
+too_many c from s = too_many_by (length (having_aggregates c from s.having)) s
 
 -- ---- all of them
 
@@ -102,8 +99,7 @@ when false f = None
 abbrev pub wrong_names : List TableShape → List ℕ → Wrong → Select → Option BindFault
 wrong_names c from w s = with (λ name. fault_of w name.column) (wrong_name c from w s)
 
--- A select's FROM, WHERE, GROUP BY and aggregates, with a column in the place of each name: of these, types, groups and joins are judged. Its select columns
--- and order keys are judged as they are written.
+-- A select's FROM, WHERE and GROUP BY, with a column in the place of each name: of these, groups and joins are judged. The rest is judged as it is written.
 abbrev pub draft : List TableShape → List ℕ → Select → QueryParts
 draft c from s = record {
   tables = rules_in c;
@@ -111,7 +107,8 @@ draft c from s = record {
   fact = unwrap_or (fact_place (rules_in c) from) 0;
   condition = bound_where c from s.condition;
   groups = map (bound_name c from) s.groups;
-  aggregates = aggregates_of c from s.items;
+  having = None;
+  aggregates = [];
   items = [];
   orders = [];
 }
@@ -123,12 +120,12 @@ faults c q s =
     ∷ with fault.TableTwice (table_twice s)
     ∷ wrong_names c q.from wrong.Unknown s
     ∷ wrong_names c q.from wrong.Ambiguous s
-    ∷ when (has_mismatch q) fault.TypeMismatch
-    ∷ with (λ name. fault.NotGrouped name.column) (not_grouped c q.from q.groups s.items)
+    ∷ when (has_mismatch c q s) fault.TypeMismatch
+    ∷ with (λ name. fault.NotGrouped name.column) (not_grouped c q.from q.groups s)
     ∷ with fault.BadOrderItem (bad_order s)
     ∷ when (lacks_fact q) fault.NoFactTable
     ∷ with fault.NotStar (unjoined q s)
-    ∷ with fault.TooMany (too_many s)
+    ∷ with fault.TooMany (too_many c q.from s)
     ∷ []
 
 -- the least that applies: a number is judged only where no lesser one applies

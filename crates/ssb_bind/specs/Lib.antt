@@ -7,3 +7,4 @@ pub mod Orders
 pub mod Query
 pub mod Rules
 pub mod Types
+pub mod Typing

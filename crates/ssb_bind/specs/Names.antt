@@ -1,6 +1,6 @@
--- The names of columns that a query has, in the order of its text: the select list, WHERE, GROUP BY.
+-- The names of columns that a query has, in the order of its text: the select list, WHERE, GROUP BY, HAVING.
 -- Source: own. Names in ORDER BY are those of select columns.
-use Rattle.std.specs.Prelude.{List, [], ◌∷◌, ◌++◌, map, Option, Some, None}
+use Rattle.std.specs.Prelude.{Bool, List, [], ◌∷◌, ◌++◌, map, Option, Some, None}
 use Rattle.ssb_trees.specs.Conditions.{operands}
 use Rattle.ssb_trees.specs.Expressions.{columns}
 use Rattle.ssb_trees.specs.declared.aggregate.Aggregate.TheVariants as aggregate
@@ -18,17 +18,24 @@ use Rattle.ssb_trees.specs.declared.operand.Operand.{Operand}
 abbrev pub Names : Type 0
 Names = List ColumnName
 
-abbrev pub operand_names : Operand ColumnName → Names
-operand_names (operand.Column name) = name ∷ []
-operand_names (operand.Literal l) = []
+-- a test of names
+abbrev pub IsWanted : Type 0
+IsWanted = ColumnName → Bool
 
--- the names of a condition
-abbrev pub condition_names : Filter ColumnName → Names
-condition_names c = concat (map operand_names (operands (Operand ColumnName) c))
+abbrev pub operand_names : {C : Type 0} → (C → Names) → Operand C → Names
+operand_names of (operand.Column x) = of x
+operand_names of (operand.Literal l) = []
 
-abbrev pub where_names : Option (Filter ColumnName) → Names
-where_names None = []
-where_names (Some c) = condition_names c
+-- the names of a condition, where these are of what stands beside literals in it
+abbrev pub condition_names : {C : Type 0} → (C → Names) → Filter C → Names
+condition_names {C} of c = concat (map (operand_names of) (operands (Operand C) c))
+
+abbrev pub filter_names : {C : Type 0} → (C → Names) → Option (Filter C) → Names
+filter_names of None = []
+filter_names of (Some c) = condition_names of c
+
+abbrev pub itself : ColumnName → Names
+itself name = name ∷ []
 
 abbrev pub aggregate_names : Aggregate ColumnName → Names
 aggregate_names aggregate.Rows = []
@@ -43,4 +50,15 @@ item_names item = output_names item.output
 
 -- the names of columns of a query
 abbrev pub column_names : Select → Names
-column_names s = concat (map item_names s.items) ++ (where_names s.condition ++ s.groups)
+column_names s = concat (map item_names s.items) ++ (filter_names itself s.condition ++ (s.groups ++ filter_names output_names s.having))
+
+-- ---- outputs that are columns
+
+-- an output's own column, which an aggregate has none of
+abbrev pub own_columns : Output → Names
+own_columns (output.Column name) = name ∷ []
+own_columns (output.Aggregate a) = []
+
+-- the columns of the select list and of HAVING that stand in no aggregate
+abbrev pub plain_columns : Select → Names
+plain_columns s = concat (map (λ item. own_columns item.output) s.items) ++ filter_names own_columns s.having

@@ -7,6 +7,7 @@ ghost use Rattle.ssb_bind.specs.Columns.{bound_name};
 ghost use Rattle.ssb_bind.specs.Orders.{name_of_item};
 ghost use Rattle.ssb_bind.specs.Rules.{rules_in};
 
+use crate::bind_having::bound_having;
 use crate::bind_trees::{bound_aggregate, bound_where};
 use crate::groups::group_place;
 use crate::orders::{bound_orders, name_of};
@@ -56,7 +57,8 @@ fn bound_names(
     Ok(all)
 }
 
-fn aggregate_of(
+// The aggregate of an output, where it is one.
+pub(crate) fn aggregate_of(
     alloc: Global,
     catalog: &[TableDef],
     from: &[usize],
@@ -92,7 +94,8 @@ fn aggregates_of(
     Ok(all)
 }
 
-fn origin_of(
+// Where an output's values come from, with so many aggregates before it.
+pub(crate) fn origin_of(
     catalog: &[TableDef],
     from: &[usize],
     groups: &[BoundColumn],
@@ -135,7 +138,8 @@ fn bound_item(
     })
 }
 
-fn is_aggregate(output: &Output) -> bool
+// Whether an output is an aggregate.
+pub(crate) fn is_aggregate(output: &Output) -> bool
     ensures { result ≡ binding.is_aggregate output.now }
 {
     !matches!(output, Output::Column(_))
@@ -162,14 +166,14 @@ fn bound_items(
 }
 
 // The select with a column for each name.
-#[tactic(auto, unfolding(crate::specs::Binding::bound_query))]
+#[tactic(auto, unfolding(crate::specs::Binding::bound_from))]
 pub(crate) fn bound_query(
     alloc: Global,
     catalog: &[TableDef],
     from: Items<usize>,
     select: &Select,
 ) -> Result<QueryParts, AllocError>
-    ensures { IfOk result (λ q. q ≡ binding.bound_from catalog.now from select.now) }
+    ensures { IfOk result (λ q. binding.IsBound catalog.now from select.now q) }
 {
     let numbers = from.as_slice();
     let tables = rules_in(alloc, catalog)?;
@@ -184,6 +188,7 @@ pub(crate) fn bound_query(
         from: numbers,
     };
     let condition = bound_where(scope, &select.condition)?;
+    let (having, aggregates) = bound_having(scope, columns, aggregates, &select.having)?;
     let fact = fact_place(tables.as_slice(), numbers).unwrap_or(0);
     Ok(QueryParts {
         tables,
@@ -191,6 +196,7 @@ pub(crate) fn bound_query(
         fact,
         condition,
         groups,
+        having,
         aggregates,
         items,
         orders,

@@ -27,7 +27,7 @@ fn keep(query: QueryParts, checked: Result<(), BindFault>) -> Result<QueryParts,
     }
 }
 
-#[tactic(auto, using(crate::proofs::Meaning::answers))]
+#[tactic(auto, using(crate::proofs::Meaning::aggregates_are, crate::proofs::Meaning::answers))]
 fn judged(alloc: Global, catalog: &[TableDef], select: &Select) -> Result<QueryParts, BindFault>
     ensures { spec.BindsTo catalog.now select.now result }
 {
@@ -42,7 +42,7 @@ fn judged(alloc: Global, catalog: &[TableDef], select: &Select) -> Result<QueryP
 /// # Errors
 ///
 /// The least fault that applies, for the first place in the text: the select list, FROM, WHERE,
-/// GROUP BY and ORDER BY, each from left to right. A fault is judged only where no lesser one
+/// GROUP BY, HAVING and ORDER BY, each from left to right. A fault is judged only where no lesser one
 /// applies. `Memory` where a growth was refused.
 #[tactic(auto, using(crate::proofs::Meaning::star))]
 pub fn bind(alloc: Global, catalog: &Catalog, select: Select) -> Result<Query, BindFault>

@@ -19,6 +19,9 @@ pub enum TooMany {
     /// More than 32 order keys.
     #[error("orders")]
     Orders,
+    /// More than 32 aggregates in HAVING.
+    #[error("having")]
+    Having,
 }
 
 /// Why a query could not be bound to a catalog, least number first.
@@ -36,10 +39,10 @@ pub enum BindFault {
     /// A column, named without its table, that two tables of FROM have.
     #[error("B4 AmbiguousColumn {}", .0.as_str())]
     AmbiguousColumn(Name),
-    /// A number beside a text, or arithmetic on a text.
+    /// A number beside a text, or arithmetic or a sum of texts.
     #[error("B5 TypeMismatch")]
     TypeMismatch,
-    /// A select column that is no group column.
+    /// A column of the select list or of HAVING, in no aggregate, that is no group column.
     #[error("B6 NotGrouped {}", .0.as_str())]
     NotGrouped(Name),
     /// An order key, by its number from 1, that is not exactly one select column.

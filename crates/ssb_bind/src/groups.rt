@@ -1,15 +1,16 @@
-// Group columns, and select columns that are none.
+// Group columns, and columns of the select list and of HAVING that are none.
 
-ghost use Rattle.std.specs.Prelude.{◌≡◌, find, is_none};
-ghost use Rattle.std.specs.List.{filter_map};
+ghost use Rattle.std.specs.Prelude.{◌≡◌};
 ghost use Rattle.std.specs.Option.{option_copied};
 ghost use Rattle.ssb_bind.specs.Bound.{is_same_column, group_place};
 ghost use Rattle.ssb_bind.specs.Faults as spec;
+ghost use Rattle.ssb_bind.specs.Names.{own_columns};
 
 use crate::resolve::bound_name;
+use crate::search::{Search, in_filter, in_items};
 use ssb_load::TableDef;
 use ssb_query::BoundColumn;
-use ssb_sql::{ColumnName, Item, Output};
+use ssb_sql::{ColumnName, Output, Select};
 
 fn is_same_column(x: BoundColumn, y: BoundColumn) -> bool
     ensures { result ≡ is_same_column x y }
@@ -26,41 +27,52 @@ pub(crate) fn group_place(groups: &[BoundColumn], column: BoundColumn) -> Option
         .position(|group| is_same_column(column, *group))
 }
 
-fn is_ungrouped(
-    catalog: &[TableDef],
-    from: &[usize],
-    groups: &[BoundColumn],
-    name: &ColumnName,
-) -> bool
-    ensures { result ≡ spec.is_ungrouped catalog.now from.now groups.now name.now }
-{
-    group_place(groups, bound_name(catalog, from, name)).is_none()
+/// Which columns are group columns.
+#[derive(Clone, Copy)]
+struct Grouping<'a> {
+    catalog: &'a [TableDef],
+    from: &'a [usize],
+    groups: &'a [BoundColumn],
 }
 
-fn own_column(output: &Output) -> Option<&ColumnName>
-    ensures { option_copied result ≡ spec.own_column output.now }
+fn is_ungrouped(grouping: Grouping<'_>, name: &ColumnName) -> bool
+    ensures { result ≡ spec.is_ungrouped grouping.entry.catalog.now grouping.entry.from.now grouping.entry.groups.now name.now }
 {
-    match output {
-        Output::Column(name) => Some(name),
-        _ => None,
+    let column = bound_name(grouping.catalog, grouping.from, name);
+    group_place(grouping.groups, column).is_none()
+}
+
+// An output that is a column, and no group column.
+impl Search<Output> for Grouping<'_> {
+    ghost names = { own_columns };
+
+    ghost wanted = { λ grouping name. spec.is_ungrouped grouping.catalog.now grouping.from.now grouping.groups.now name };
+
+    fn first_in<'a>(&self, output: &'a Output) -> Option<&'a ColumnName> {
+        match output {
+            Output::Column(name) if is_ungrouped(*self, name) => Some(name),
+            _ => None,
+        }
     }
 }
 
-// The first select column that is no group column.
+// The first column of the select list and then of HAVING that is no group column.
+#[tactic(auto, using(ssb_trees::proofs::Finding::find_front, ssb_trees::proofs::Finding::find_back))]
 pub(crate) fn not_grouped<'a>(
     catalog: &[TableDef],
     from: &[usize],
     groups: &[BoundColumn],
-    items: &'a [Item],
+    select: &'a Select,
 ) -> Option<&'a ColumnName>
-    ensures { option_copied result ≡ spec.not_grouped catalog.now from.now groups.now items.now }
+    ensures { option_copied result ≡ spec.not_grouped catalog.now from.now groups.now select.now }
 {
-    for item in items {
-        if let Some(name) = own_column(&item.output) {
-            if is_ungrouped(catalog, from, groups, name) {
-                return Some(name);
-            }
-        }
+    let grouping = Grouping {
+        catalog,
+        from,
+        groups,
+    };
+    if let Some(name) = in_items(&grouping, select.items.as_slice()) {
+        return Some(name);
     }
-    None
+    in_filter(&grouping, &select.having)
 }

@@ -1,22 +1,23 @@
 // The ten refusals, least number first.
 
-ghost use Rattle.std.specs.Prelude.{◌≡◌, []};
+ghost use Rattle.std.specs.Prelude.{◌≡◌, ◌++◌, []};
 ghost use Rattle.std.specs.List.{list_any};
 ghost use Rattle.std.specs.Option.{option_copied};
 ghost use Rattle.std.specs.Str.{bytes_eq};
 ghost use Rattle.ssb_bind.specs.Binding as binding;
+ghost use Rattle.ssb_bind.specs.Bound.{aggregates_of, having_aggregates};
 ghost use Rattle.ssb_bind.specs.Faults as spec;
-ghost use Rattle.ssb_bind.specs.Types.{has_mismatch};
+ghost use Rattle.ssb_bind.specs.Typing.{has_mismatch};
 
 use crate::fault::BindFault;
 use crate::fit::Wrong;
 use crate::groups::not_grouped;
-use crate::limits::too_many;
+use crate::limits::{having_aggregates, too_many};
 use crate::names::{Sought, first_wrong};
 use crate::orders::bad_order;
 use crate::resolve::table_number;
 use crate::star::{fact_place, unjoined};
-use crate::types::has_mismatch;
+use crate::typing::has_mismatch;
 use ssb_load::TableDef;
 use ssb_query::QueryParts;
 use ssb_sql::Select;
@@ -106,10 +107,10 @@ fn check_names(
     }
 }
 
-fn check_types(query: &QueryParts) -> Result<(), BindFault>
-    ensures { binding.Judges (spec.when (has_mismatch query.now) BindFault.TypeMismatch) result }
+fn check_types(catalog: &[TableDef], query: &QueryParts, select: &Select) -> Result<(), BindFault>
+    ensures { binding.Judges (spec.when (has_mismatch catalog.now query.now select.now) BindFault.TypeMismatch) result }
 {
-    if has_mismatch(query) {
+    if has_mismatch(catalog, query, select) {
         return Err(BindFault::TypeMismatch);
     }
     Ok(())
@@ -121,15 +122,10 @@ fn check_groups(
     query: &QueryParts,
     select: &Select,
 ) -> Result<(), BindFault>
-    ensures { binding.Judges (spec.with (λ name. BindFault.NotGrouped name.column) (spec.not_grouped catalog.now query.now.from query.now.groups select.now.items)) result }
+    ensures { binding.Judges (spec.with (λ name. BindFault.NotGrouped name.column) (spec.not_grouped catalog.now query.now.from query.now.groups select.now)) result }
 {
     let from = query.from.as_slice();
-    match not_grouped(
-        catalog,
-        from,
-        query.groups.as_slice(),
-        select.items.as_slice(),
-    ) {
+    match not_grouped(catalog, from, query.groups.as_slice(), select) {
         None => Ok(()),
         Some(name) => Err(BindFault::NotGrouped(name.column.copy(alloc)?)),
     }
@@ -162,10 +158,10 @@ fn check_star(alloc: Global, query: &QueryParts, select: &Select) -> Result<(), 
     }
 }
 
-fn check_limits(select: &Select) -> Result<(), BindFault>
-    ensures { binding.Judges (spec.with BindFault.TooMany (spec.too_many select.now)) result }
+fn check_limits(select: &Select, having: usize) -> Result<(), BindFault>
+    ensures { binding.Judges (spec.with BindFault.TooMany (spec.too_many_by having select.now)) result }
 {
-    match too_many(select) {
+    match too_many(select, having) {
         None => Ok(()),
         Some(many) => Err(BindFault::TooMany(many)),
     }
@@ -179,6 +175,7 @@ pub(crate) fn check(
     query: &QueryParts,
     select: &Select,
 ) -> Result<(), BindFault>
+    requires { query.now.aggregates ≡ aggregates_of catalog.now query.now.from select.now.items ++ having_aggregates catalog.now query.now.from select.now.having }
     ensures { binding.Judges (spec.first_of (spec.faults catalog.now query.now select.now)) result }
 {
     let from = query.from.as_slice();
@@ -186,10 +183,10 @@ pub(crate) fn check(
     check_once(alloc, select)?;
     check_names(alloc, catalog, from, Wrong::Unknown, select)?;
     check_names(alloc, catalog, from, Wrong::Ambiguous, select)?;
-    check_types(query)?;
+    check_types(catalog, query, select)?;
     check_groups(alloc, catalog, query, select)?;
     check_orders(select)?;
     check_fact(query)?;
     check_star(alloc, query, select)?;
-    check_limits(select)
+    check_limits(select, having_aggregates(query, select))
 }

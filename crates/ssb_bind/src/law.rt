@@ -14,6 +14,6 @@ pub fn one_meaning()
 
 /// A law: an expression that is a text is one column. So MIN and MAX take a column of texts, and no other
 /// text.
-pub fn texts_are_columns()
-    ensures { TextsAreColumns }
+pub fn texts_are_columns<C>()
+    ensures { TextsAreColumns C }
 {}

@@ -5,6 +5,7 @@
 //! has each refusal by itself and what is answered.
 #![tactic(auto)]
 
+mod bind_having;
 mod bind_select;
 mod bind_to_catalog;
 mod bind_trees;
@@ -17,8 +18,10 @@ mod limits;
 mod names;
 mod orders;
 mod resolve;
+mod search;
 mod star;
 mod types;
+mod typing;
 
 pub use bind_to_catalog::bind;
 pub use fault::{BindFault, TooMany};

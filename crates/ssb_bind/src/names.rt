@@ -1,18 +1,17 @@
 // The first name of a column that fits none, or several.
 
-ghost use Rattle.std.specs.Prelude.{◌≡◌, ◌++◌, ◌∷◌, [], find, map};
-ghost use Rattle.std.specs.List.{list_any};
+ghost use Rattle.std.specs.Prelude.{◌≡◌, ◌∷◌, [], find};
 ghost use Rattle.std.specs.Option.{option_copied};
 ghost use Rattle.ssb_bind.specs.Columns.{is_wrong};
 ghost use Rattle.ssb_bind.specs.Faults.{wrong_name};
 ghost use Rattle.ssb_bind.specs.Names as names;
-ghost use Rattle.ssb_trees.specs.Lists.{concat};
 
 use crate::fit::{Fit, Wrong};
 use crate::resolve::fit_of;
+use crate::search::{Search, in_filter, in_items};
 use ssb_load::TableDef;
-use ssb_sql::{ColumnName, Item, Output, Select};
-use ssb_trees::{Aggregate, Filter, Operand, Test};
+use ssb_sql::{ColumnName, Output, Select};
+use ssb_trees::{Aggregate, Test};
 
 /// Which names are looked for.
 #[derive(Clone, Copy)]
@@ -53,62 +52,27 @@ impl Test<ColumnName> for Sought<'_> {
     }
 }
 
-fn in_operand<'a>(sought: Sought<'_>, operand: &'a Operand<ColumnName>) -> Option<&'a ColumnName>
-    ensures { option_copied result ≡ find (is_wrong sought.entry.catalog.now sought.entry.from.now sought.entry.wrong) (names.operand_names operand.now) }
-{
-    match operand {
-        Operand::Column(name) => in_name(sought, name),
-        Operand::Literal(_) => None,
+impl Search<ColumnName> for Sought<'_> {
+    ghost names = { names.itself };
+
+    ghost wanted = { λ sought name. is_wrong sought.catalog.now sought.from.now sought.wrong name };
+
+    fn first_in<'a>(&self, name: &'a ColumnName) -> Option<&'a ColumnName> {
+        in_name(*self, name)
     }
 }
 
-impl Test<Operand<ColumnName>> for Sought<'_> {
-    ghost passed = { λ sought operand. list_any (is_wrong sought.catalog.now sought.from.now sought.wrong) (names.operand_names operand) };
+impl Search<Output> for Sought<'_> {
+    ghost names = { names.output_names };
 
-    fn passes(&self, operand: &Operand<ColumnName>) -> bool {
-        in_operand(*self, operand).is_some()
-    }
-}
+    ghost wanted = { λ sought name. is_wrong sought.catalog.now sought.from.now sought.wrong name };
 
-fn in_condition<'a>(sought: Sought<'_>, condition: &'a Filter<ColumnName>) -> Option<&'a ColumnName>
-    ensures { option_copied result ≡ find (is_wrong sought.entry.catalog.now sought.entry.from.now sought.entry.wrong) (names.condition_names condition.now) }
-{
-    match condition.find(&sought) {
-        None => None,
-        Some(operand) => in_operand(sought, operand),
-    }
-}
-
-fn in_item<'a>(sought: Sought<'_>, item: &'a Item) -> Option<&'a ColumnName>
-    ensures { option_copied result ≡ find (is_wrong sought.entry.catalog.now sought.entry.from.now sought.entry.wrong) (names.item_names item.now) }
-{
-    match &item.output {
-        Output::Column(name) => in_name(sought, name),
-        Output::Aggregate(Aggregate::Rows) => None,
-        Output::Aggregate(Aggregate::Of(_, expr)) => expr.find(&sought),
-    }
-}
-
-fn in_items<'a>(sought: Sought<'_>, items: &'a [Item]) -> Option<&'a ColumnName>
-    ensures { option_copied result ≡ find (is_wrong sought.entry.catalog.now sought.entry.from.now sought.entry.wrong) (concat (map names.item_names items.now)) }
-{
-    for item in items {
-        if let Some(name) = in_item(sought, item) {
-            return Some(name);
+    fn first_in<'a>(&self, output: &'a Output) -> Option<&'a ColumnName> {
+        match output {
+            Output::Column(name) => in_name(*self, name),
+            Output::Aggregate(Aggregate::Rows) => None,
+            Output::Aggregate(Aggregate::Of(_, expr)) => expr.find(self),
         }
-    }
-    None
-}
-
-fn in_where<'a>(
-    sought: Sought<'_>,
-    condition: &'a Option<Filter<ColumnName>>,
-) -> Option<&'a ColumnName>
-    ensures { option_copied result ≡ find (is_wrong sought.entry.catalog.now sought.entry.from.now sought.entry.wrong) (names.where_names condition.now) }
-{
-    match condition {
-        None => None,
-        Some(condition) => in_condition(sought, condition),
     }
 }
 
@@ -128,11 +92,14 @@ fn in_names<'a>(sought: Sought<'_>, all: &'a [ColumnName]) -> Option<&'a ColumnN
 pub(crate) fn first_wrong<'a>(sought: Sought<'_>, select: &'a Select) -> Option<&'a ColumnName>
     ensures { option_copied result ≡ wrong_name sought.entry.catalog.now sought.entry.from.now sought.entry.wrong select.now }
 {
-    if let Some(name) = in_items(sought, select.items.as_slice()) {
+    if let Some(name) = in_items(&sought, select.items.as_slice()) {
         return Some(name);
     }
-    if let Some(name) = in_where(sought, &select.condition) {
+    if let Some(name) = in_filter(&sought, &select.condition) {
         return Some(name);
     }
-    in_names(sought, select.groups.as_slice())
+    if let Some(name) = in_names(sought, select.groups.as_slice()) {
+        return Some(name);
+    }
+    in_filter(&sought, &select.having)
 }

@@ -2,22 +2,19 @@
 
 ghost use Rattle.std.specs.Prelude.{◌≡◌, ◌||◌, map};
 ghost use Rattle.std.specs.List.{list_all, list_any};
-ghost use Rattle.std.specs.Option.{option_copied};
-ghost use Rattle.ssb_query.specs.Tables.{rule_at, kind_at};
 ghost use Rattle.ssb_bind.specs.Types as spec;
 
-use ssb_query::{BoundColumn, QueryParts, TableRules, rule_at};
-use ssb_terms::{ColType, Literal, Rule};
+use ssb_terms::{ColType, Literal};
 use ssb_trees::{Aggregate, Condition, Expr, Filter, Operand, SetFunction, Step};
 
-// The type of a column.
-pub(crate) fn kind_at(tables: &[TableRules], from: &[usize], column: BoundColumn) -> Option<ColType>
-    ensures { result ≡ kind_at tables.now from.now column }
-{
-    match rule_at(tables, from, column) {
-        None => None,
-        Some(rule) => Some(rule.kind),
-    }
+/// The type of each column, or of what stands for one.
+pub(crate) trait Kinds<C> {
+    /// The type; none of one that has none.
+    ghost kind: { Self → spec.Kinds C };
+
+    /// Tells it.
+    fn kind_of(&self, column: &C) -> Option<ColType>
+        ensures { result ≡ kind self.now column.now };
 }
 
 fn is_int_type(kind: Option<ColType>) -> bool
@@ -33,11 +30,11 @@ fn number_if(all: bool) -> Option<ColType>
 }
 
 #[cycle(expr)]
-fn are_number_steps(tables: &[TableRules], from: &[usize], steps: &[Step<BoundColumn>]) -> bool
-    ensures { result ≡ list_all spec.is_int_type (map (spec.type_of_step tables.now from.now) steps.now) }
+fn are_number_steps<C, K: Kinds<C>>(kinds: &K, steps: &[Step<C>]) -> bool
+    ensures { result ≡ list_all spec.is_int_type (map (spec.type_of_step (K.kind kinds.now)) steps.now) }
 {
     for step in steps {
-        if !is_int_type(type_of(tables, from, &step.term)) {
+        if !is_int_type(type_of(kinds, &step.term)) {
             return false;
         }
     }
@@ -45,11 +42,11 @@ fn are_number_steps(tables: &[TableRules], from: &[usize], steps: &[Step<BoundCo
 }
 
 #[cycle(expr)]
-fn are_number_factors(tables: &[TableRules], from: &[usize], factors: &[Expr<BoundColumn>]) -> bool
-    ensures { result ≡ list_all spec.is_int_type (map (spec.type_of tables.now from.now) factors.now) }
+fn are_number_factors<C, K: Kinds<C>>(kinds: &K, factors: &[Expr<C>]) -> bool
+    ensures { result ≡ list_all spec.is_int_type (map (spec.type_of (K.kind kinds.now)) factors.now) }
 {
     for factor in factors {
-        if !is_int_type(type_of(tables, from, factor)) {
+        if !is_int_type(type_of(kinds, factor)) {
             return false;
         }
     }
@@ -57,19 +54,18 @@ fn are_number_factors(tables: &[TableRules], from: &[usize], factors: &[Expr<Bou
 }
 
 #[cycle(expr)]
-fn type_of(tables: &[TableRules], from: &[usize], expr: &Expr<BoundColumn>) -> Option<ColType>
-    ensures { result ≡ spec.type_of tables.now from.now expr.now }
+fn type_of<C, K: Kinds<C>>(kinds: &K, expr: &Expr<C>) -> Option<ColType>
+    ensures { result ≡ spec.type_of (K.kind kinds.now) expr.now }
 {
     match expr {
-        Expr::Column(column) => kind_at(tables, from, *column),
+        Expr::Column(column) => kinds.kind_of(column),
         Expr::Number(_) => Some(ColType::Int),
-        Expr::Positive(part) => number_if(is_int_type(type_of(tables, from, part.get()))),
-        Expr::Negative(part) => number_if(is_int_type(type_of(tables, from, part.get()))),
+        Expr::Positive(part) => number_if(is_int_type(type_of(kinds, part.get()))),
+        Expr::Negative(part) => number_if(is_int_type(type_of(kinds, part.get()))),
         Expr::Chain(first, steps) => number_if(
-            is_int_type(type_of(tables, from, first.get()))
-                && are_number_steps(tables, from, steps.as_slice()),
+            is_int_type(type_of(kinds, first.get())) && are_number_steps(kinds, steps.as_slice()),
         ),
-        Expr::Times(factors) => number_if(are_number_factors(tables, from, factors.as_slice())),
+        Expr::Times(factors) => number_if(are_number_factors(kinds, factors.as_slice())),
     }
 }
 
@@ -84,23 +80,14 @@ fn result_type(function: SetFunction, argument: Option<ColType>) -> Option<ColTy
     }
 }
 
-fn aggregate_type(
-    tables: &[TableRules],
-    from: &[usize],
-    aggregate: &Aggregate<BoundColumn>,
-) -> Option<ColType>
-    ensures { result ≡ spec.aggregate_type tables.now from.now aggregate.now }
+// The type of an aggregate.
+pub(crate) fn aggregate_type<C, K: Kinds<C>>(kinds: &K, aggregate: &Aggregate<C>) -> Option<ColType>
+    ensures { result ≡ spec.aggregate_type (K.kind kinds.now) aggregate.now }
 {
     match aggregate {
         Aggregate::Rows => Some(ColType::Int),
-        Aggregate::Of(function, expr) => result_type(*function, type_of(tables, from, expr)),
+        Aggregate::Of(function, expr) => result_type(*function, type_of(kinds, expr)),
     }
-}
-
-fn has_untyped(tables: &[TableRules], from: &[usize], aggregates: &[Aggregate<BoundColumn>]) -> bool
-    ensures { result ≡ list_any (spec.is_untyped tables.now from.now) aggregates.now }
-{
-    aggregates.iter().any(|aggregate| aggregate_type(tables, from, aggregate).is_none())
 }
 
 fn is_text_literal(literal: &Literal) -> bool
@@ -112,24 +99,19 @@ fn is_text_literal(literal: &Literal) -> bool
     }
 }
 
-fn is_text(tables: &[TableRules], from: &[usize], operand: &Operand<BoundColumn>) -> bool
-    ensures { result ≡ spec.is_text tables.now from.now operand.now }
+fn is_text<C, K: Kinds<C>>(kinds: &K, operand: &Operand<C>) -> bool
+    ensures { result ≡ spec.is_text (K.kind kinds.now) operand.now }
 {
     match operand {
-        Operand::Column(column) => matches!(kind_at(tables, from, *column), Some(ColType::Text)),
+        Operand::Column(column) => matches!(kinds.kind_of(column), Some(ColType::Text)),
         Operand::Literal(literal) => is_text_literal(literal),
     }
 }
 
-fn are_mixed(
-    tables: &[TableRules],
-    from: &[usize],
-    a: &Operand<BoundColumn>,
-    b: &Operand<BoundColumn>,
-) -> bool
-    ensures { result ≡ spec.are_mixed tables.now from.now a.now b.now }
+fn are_mixed<C, K: Kinds<C>>(kinds: &K, a: &Operand<C>, b: &Operand<C>) -> bool
+    ensures { result ≡ spec.are_mixed (K.kind kinds.now) a.now b.now }
 {
-    is_text(tables, from, a) != is_text(tables, from, b)
+    is_text(kinds, a) != is_text(kinds, b)
 }
 
 fn has_other(is_text: bool, literals: &[Literal]) -> bool
@@ -141,11 +123,11 @@ fn has_other(is_text: bool, literals: &[Literal]) -> bool
 }
 
 #[cycle(condition)]
-fn has_mixed(tables: &[TableRules], from: &[usize], parts: &[Filter<BoundColumn>]) -> bool
-    ensures { result ≡ list_any (λ part. part) (map (spec.is_mixed tables.now from.now) parts.now) }
+fn has_mixed_part<C, K: Kinds<C>>(kinds: &K, parts: &[Filter<C>]) -> bool
+    ensures { result ≡ list_any (λ part. part) (map (spec.is_mixed (K.kind kinds.now)) parts.now) }
 {
     for part in parts {
-        if is_mixed(tables, from, part) {
+        if is_mixed(kinds, part) {
             return true;
         }
     }
@@ -153,48 +135,29 @@ fn has_mixed(tables: &[TableRules], from: &[usize], parts: &[Filter<BoundColumn>
 }
 
 #[cycle(condition)]
-fn is_mixed(tables: &[TableRules], from: &[usize], condition: &Filter<BoundColumn>) -> bool
-    ensures { result ≡ spec.is_mixed tables.now from.now condition.now }
+fn is_mixed<C, K: Kinds<C>>(kinds: &K, condition: &Filter<C>) -> bool
+    ensures { result ≡ spec.is_mixed (K.kind kinds.now) condition.now }
 {
     match condition {
-        Condition::Any(parts) => has_mixed(tables, from, parts.as_slice()),
-        Condition::All(parts) => has_mixed(tables, from, parts.as_slice()),
-        Condition::Not(part) => is_mixed(tables, from, part.get()),
-        Condition::Compare(_, a, b) => are_mixed(tables, from, a, b),
-        Condition::Between(x, a, b) => {
-            are_mixed(tables, from, x, a) || are_mixed(tables, from, x, b)
-        }
-        Condition::NotBetween(x, a, b) => {
-            are_mixed(tables, from, x, a) || are_mixed(tables, from, x, b)
-        }
-        Condition::In(x, literals) => has_other(is_text(tables, from, x), literals.as_slice()),
-        Condition::NotIn(x, literals) => {
-            has_other(is_text(tables, from, x), literals.as_slice())
-        }
+        Condition::Any(parts) => has_mixed_part(kinds, parts.as_slice()),
+        Condition::All(parts) => has_mixed_part(kinds, parts.as_slice()),
+        Condition::Not(part) => is_mixed(kinds, part.get()),
+        Condition::Compare(_, a, b) => are_mixed(kinds, a, b),
+        Condition::Between(x, a, b) => { are_mixed(kinds, x, a) || are_mixed(kinds, x, b) }
+        Condition::NotBetween(x, a, b) => { are_mixed(kinds, x, a) || are_mixed(kinds, x, b) }
+        Condition::In(x, literals) => has_other(is_text(kinds, x), literals.as_slice()),
+        Condition::NotIn(x, literals) => { has_other(is_text(kinds, x), literals.as_slice()) }
         Condition::IsNull(_) => false,
         Condition::IsNotNull(_) => false,
     }
 }
 
-fn is_mixed_where(
-    tables: &[TableRules],
-    from: &[usize],
-    condition: &Option<Filter<BoundColumn>>,
-) -> bool
-    ensures { result ≡ spec.is_mixed_where tables.now from.now condition.now }
+// Whether a condition, where there is one, has a number beside a text.
+pub(crate) fn has_mixed<C, K: Kinds<C>>(kinds: &K, filter: &Option<Filter<C>>) -> bool
+    ensures { result ≡ spec.has_mixed (K.kind kinds.now) filter.now }
 {
-    match condition {
+    match filter {
         None => false,
-        Some(condition) => is_mixed(tables, from, condition),
+        Some(condition) => is_mixed(kinds, condition),
     }
-}
-
-// Whether some part of the query has no type.
-pub(crate) fn has_mismatch(query: &QueryParts) -> bool
-    ensures { result ≡ spec.has_mismatch query.now }
-{
-    let tables = query.tables.as_slice();
-    let from = query.from.as_slice();
-    has_untyped(tables, from, query.aggregates.as_slice())
-        || is_mixed_where(tables, from, &query.condition)
 }

@@ -1,6 +1,7 @@
 -- Queries and their tables may go to other threads, and be shared by them.
 use denote.RattleType.{RattleType}
 use denote.Struct.Field.{row_field}
+use denote.Hole.{as_row}
 use denote.Hole.Fix.{holes}
 use denote.Hole.FixLaws.{layer_row}
 use denote.Param.Send.{IsSend, IsSync, sendable, view_send, view_sync}
@@ -36,6 +37,7 @@ use Rattle.ssb_trees.specs.contracts.expr.Expr.TheKnot as expr_knot
 use Rattle.ssb_trees.specs.contracts.aggregate.Aggregate as Aggregate
 use Rattle.ssb_trees.specs.contracts.aggregate.SetFunction as SetFunction
 use Rattle.ssb_query.specs.contracts.query.BoundItem as Item
+use Rattle.ssb_query.specs.contracts.query.Origin as Origin
 use Rattle.ssb_query.specs.contracts.query.Query as Query
 use Rattle.ssb_query.specs.contracts.query.Query.TheInside as InQuery
 use Rattle.ssb_query.specs.contracts.query.QueryParts as QueryParts
@@ -129,37 +131,54 @@ expr : Crosses (Expr.the_row BoundColumn.the_row)
 expr = variants_crosses (Expr.enum BoundColumn.the_row) (expr_parts (expr_knot.hole-Expr BoundColumn.the_row) (expr_knot.hole-Step BoundColumn.the_row) (expr_holes member-Expr) (expr_holes member-Step))
 
 -- and so does a condition
-module _ (C : RattleType) (c : Crosses C) where
-  condition_parts : VariantsHave Crosses (condition_knot.type-Condition (Operand.the_row BoundColumn.the_row) C C C).parts
-  condition_parts =
-      let several = as_row_crosses (row_field (Items.the_row C)) (items C c) in
-      let inner = as_row_crosses (row_field (Boxed.the_row C)) (boxed C c) in
-      let literals = items Literal.the_row literal in
-      let o = operand in (
-        (several, tt),
-        (
+module _ (O : RattleType) (o : Crosses O) where
+  module _ (C : RattleType) (c : Crosses C) where
+    condition_parts : VariantsHave Crosses (condition_knot.type-Condition O C C C).parts
+    condition_parts =
+        let several = as_row_crosses (row_field (Items.the_row C)) (items C c) in
+        let inner = as_row_crosses (row_field (Boxed.the_row C)) (boxed C c) in
+        let literals = items Literal.the_row literal in
+        let x = as_row_crosses (row_field (as_row (row_field O))) (as_row_crosses (row_field O) o) in (
           (several, tt),
           (
-            (inner, tt),
-            (((search (as_row_send, crosses, sendable) depth 20, search (as_row_sync, crosses, sendable) depth 20), (o, (o, tt))), ((o, (o, (o, tt))), ((o, (o, (o, tt))), ((o, (literals, tt)), ((o, (literals, tt)), ((o, tt), ((o, tt), tt))))))),
+            (several, tt),
+            (
+              (inner, tt),
+              (((search (as_row_send, crosses, sendable) depth 20, search (as_row_sync, crosses, sendable) depth 20), (x, (x, tt))), ((x, (x, (x, tt))), ((x, (x, (x, tt))), ((x, (literals, tt)), ((x, (literals, tt)), ((x, tt), ((x, tt), tt))))))),
+            ),
           ),
-        ),
-      )
+        )
 
-condition_holes : (i : condition_knot.the_members (Operand.the_row BoundColumn.the_row)) → Crosses (holes (condition_knot.ring (Operand.the_row BoundColumn.the_row)) i)
-condition_holes = fix_crosses (condition_knot.ring (Operand.the_row BoundColumn.the_row)) layers
-  where
-    layers : (i : condition_knot.the_members (Operand.the_row BoundColumn.the_row)) (h : condition_knot.the_members (Operand.the_row BoundColumn.the_row) → RattleType) → ((j : condition_knot.the_members (Operand.the_row BoundColumn.the_row)) → Crosses (h j)) → Crosses (layer_row (condition_knot.ring (Operand.the_row BoundColumn.the_row)) i h)
-    layers member-Condition h all = let C = h member-Condition in variants_crosses (condition_knot.type-Condition (Operand.the_row BoundColumn.the_row) C C C) (condition_parts C (all member-Condition))
+  condition_holes : (i : condition_knot.the_members O) → Crosses (holes (condition_knot.ring O) i)
+  condition_holes = fix_crosses (condition_knot.ring O) layers
+    where
+      layers : (i : condition_knot.the_members O) (h : condition_knot.the_members O → RattleType) → ((j : condition_knot.the_members O) → Crosses (h j)) → Crosses (layer_row (condition_knot.ring O) i h)
+      layers member-Condition h all = let C = h member-Condition in variants_crosses (condition_knot.type-Condition O C C C) (condition_parts C (all member-Condition))
 
 pub condition : Crosses (Condition.the_row (Operand.the_row BoundColumn.the_row))
-condition = variants_crosses (Condition.enum (Operand.the_row BoundColumn.the_row)) (condition_parts (condition_knot.hole-Condition (Operand.the_row BoundColumn.the_row)) (condition_holes member-Condition))
+condition =
+    let O = Operand.the_row BoundColumn.the_row in
+    variants_crosses (Condition.enum O) (condition_parts O operand (condition_knot.hole-Condition O) (condition_holes O operand member-Condition))
+
+output : Crosses (Operand.the_row Origin.the_row)
+output = (search (crosses, sendable) depth 20, search (crosses, sendable) depth 20)
+
+having : Crosses (Condition.the_row (Operand.the_row Origin.the_row))
+having =
+    let O = Operand.the_row Origin.the_row in
+    variants_crosses (Condition.enum O) (condition_parts O output (condition_knot.hole-Condition O) (condition_holes O output member-Condition))
 
 condition_send : IsSend (Condition.the_row (Operand.the_row BoundColumn.the_row))
 condition_send = condition.0
 
 condition_sync : IsSync (Condition.the_row (Operand.the_row BoundColumn.the_row))
 condition_sync = condition.1
+
+having_send : IsSend (Condition.the_row (Operand.the_row Origin.the_row))
+having_send = having.0
+
+having_sync : IsSync (Condition.the_row (Operand.the_row Origin.the_row))
+having_sync = having.1
 
 rules : Crosses TableRules.the_row
 rules = (search (items_send, crosses, sendable) depth 20, search (items_sync, crosses, sendable) depth 20)
@@ -183,7 +202,13 @@ parts =
           (search (as_row_send, crosses, sendable) depth 20, search (as_row_sync, crosses, sendable) depth 20),
           (
             (search (condition_send, as_row_send, crosses, sendable) depth 20, search (condition_sync, as_row_sync, crosses, sendable) depth 20),
-            ((search (items_send, as_row_send, crosses, sendable) depth 20, search (items_sync, as_row_sync, crosses, sendable) depth 20), (items (Aggregate.the_row BoundColumn.the_row) aggregate, (items Item.the_row item, ((search (items_send, as_row_send, crosses, sendable) depth 20, search (items_sync, as_row_sync, crosses, sendable) depth 20), tt)))),
+            (
+              (search (items_send, as_row_send, crosses, sendable) depth 20, search (items_sync, as_row_sync, crosses, sendable) depth 20),
+              (
+                (search (having_send, as_row_send, crosses, sendable) depth 20, search (having_sync, as_row_sync, crosses, sendable) depth 20),
+                (items (Aggregate.the_row BoundColumn.the_row) aggregate, (items Item.the_row item, ((search (items_send, as_row_send, crosses, sendable) depth 20, search (items_sync, as_row_sync, crosses, sendable) depth 20), tt))),
+              ),
+            ),
           ),
         ),
       ),

@@ -18,7 +18,7 @@ knows holds seen mine = record { opened = true; holds = holds; seen = seen; mine
 
 -- a job over no table, in place of one before there is a part
 abbrev pub no_job : JobShape
-no_job = record { query = record { tables = []; from = []; fact = 0; condition = None; groups = []; aggregates = []; items = []; orders = [] }; tables = [] }
+no_job = record { query = record { tables = []; from = []; fact = 0; condition = None; groups = []; having = None; aggregates = []; items = []; orders = [] }; tables = [] }
 
 abbrev pub no_part : PartState
 no_part = record {

@@ -1,12 +1,13 @@
 -- What groups stand for is what SQL answers.
 use Rattle.std.proofs.Common.{◌≡◌, ◌∙◌, ◌∷◌, [], ◌||◌, ℕ, suc, Bool, true, false, cond, is_some, List, length, map, None, Some, refl, sym, ap, ap₂, subst, true≢false, arith, inl, inr}
-use Rattle.std.specs.List.{list_any, All}
+use Rattle.std.specs.List.{filter, list_any, All}
 use Rattle.std.specs.List.Sorted.{IsPermutation}
 use Rattle.std.specs.Map.{lookup}
 use Rattle.std.proofs.lemmas.Bool.{cases_Bool}
 use Rattle.std.proofs.lemmas.List.Sorted.{IsPermutation-map, IsPermutation-refl, IsPermutation-trans}
 use Rattle.std.specs.Prelude.{Ok, Err}
 use Rattle.ssb_groups.proofs.Bounds.{summary_is}
+use Rattle.ssb_cells.specs.Truth.{is_true}
 use Rattle.ssb_query.specs.declared.column.BoundColumn.{BoundColumn}
 use Rattle.ssb_query.specs.declared.query.QueryParts.{QueryParts}
 use Rattle.ssb_query.specs.declared.query.Origin.{Origin}
@@ -15,13 +16,15 @@ use Rattle.ssb_groups.specs.Rows.{Key, key_eq, SeenRow}
 use Rattle.ssb_groups.specs.Stands.{GroupMap, Stands, group, summary}
 use Rattle.ssb_groups.specs.Aggregates.{totals}
 use Rattle.ssb_groups.proofs.KeyFacts.{key_eq_laws}
-use Rattle.ssb_rows.specs.Entries.{Entry, entry_beyond, entry_cell, entry_row, whole_entry, entries_by, all_entries, IsBeyondFault}
+use Rattle.ssb_rows.specs.Entries.{Entry, entry_beyond, entry_cell, entry_kept, entry_operand, entry_row, entry_rows, whole_entry, entries_by, all_entries, IsBeyondFault}
 use Rattle.ssb_rows.specs.Order.{Row, IsOrdered}
-use Rattle.ssb_rows.specs.Result.{bag, has_beyond, item_cell, leaves_range, row_of, present, keys, AreKeyed, Answers}
+use Rattle.ssb_rows.specs.Result.{bag, has_beyond, having_says, is_kept, item_cell, leaves_range, operand_cell, row_of, present, keys, AreKeyed, Answers}
 use Rattle.ssb_rows.specs.declared.fault.AnswerFault.{AnswerFault}
 use Rattle.ssb_rows.specs.declared.fault.AnswerFault.TheVariants as fault
 use Rattle.ssb_rows.proofs.Members.{key-same, member, Apart, apart, distinct_apart, member_distinct, same_members}
 use Rattle.ssb_trees.specs.declared.aggregate.Aggregate.{Aggregate}
+use Rattle.ssb_trees.specs.declared.operand.Operand.{Operand}
+use Rattle.ssb_trees.specs.declared.operand.Operand.TheVariants as operand
 
 -- ---- the values of a group
 
@@ -32,15 +35,35 @@ cell_is q G k (origin.Aggregate i) = refl
 row_is : (q : QueryParts) (G : List SeenRow) (k : Key) → entry_row q (k, totals q.aggregates G) ≡ row_of q G k
 row_is q G k = λ j. map (λ item. cell_is q G k item.origin j) q.items
 
+operand_is : (q : QueryParts) (G : List SeenRow) (k : Key) (o : Operand Origin) → entry_operand (k, totals q.aggregates G) o ≡ operand_cell q G k o
+operand_is q G k (operand.Column s) = cell_is q G k s
+operand_is q G k (operand.Literal l) = refl
+
+kept_is : (q : QueryParts) (G : List SeenRow) (k : Key) → entry_kept q (k, totals q.aggregates G) ≡ is_kept q G k
+kept_is q G k = λ j. is_true (having_says (λ o. operand_is q G k o j) q.having)
+
 -- ---- entries with the aggregates of their groups
 
 abbrev pub AreRight : QueryParts → List SeenRow → List Entry → Type 0
 AreRight q R [] = Unit {0}
 AreRight q R (e ∷ es) = (e.1 ≡ totals q.aggregates (group e.0 R)) × AreRight q R es
 
-pub rows_are : (q : QueryParts) (R : List SeenRow) (es : List Entry) → AreRight q R es → map (entry_row q) es ≡ map (λ k. row_of q (group k R) k) (map (λ e. e.0) es)
+-- the rows of keys that HAVING keeps
+abbrev rows_of : QueryParts → List SeenRow → List Key → List Row
+rows_of q R ks = map (λ k. row_of q (group k R) k) (filter (λ k. is_kept q (group k R) k) ks)
+
+rows_are : (q : QueryParts) (R : List SeenRow) (es : List Entry) → AreRight q R es → entry_rows q es ≡ rows_of q R (map (λ e. e.0) es)
 rows_are q R [] h = refl
-rows_are q R (e ∷ es) h = ap₂ (λ x xs. x ∷ xs) (ap (λ ts. entry_row q (e.0, ts)) h.0 ∙ row_is q (group e.0 R) e.0) (rows_are q R es h.1)
+rows_are q R (e ∷ es) h =
+    let kept = ap (λ ts. entry_kept q (e.0, ts)) h.0 ∙ kept_is q (group e.0 R) e.0 in
+    let row = ap (λ ts. entry_row q (e.0, ts)) h.0 ∙ row_is q (group e.0 R) e.0 in
+    ap (λ b. map (entry_row q) (cond b (e ∷ filter (entry_kept q) es) (filter (entry_kept q) es))) kept ∙ by (is_kept q (group e.0 R) e.0) row (rows_are q R es h.1)
+  where
+    by : (b : Bool) → entry_row q e ≡ row_of q (group e.0 R) e.0 → entry_rows q es ≡ rows_of q R (map (λ e. e.0) es)
+        → map (entry_row q) (cond b (e ∷ filter (entry_kept q) es) (filter (entry_kept q) es))
+        ≡ map (λ k. row_of q (group k R) k) (cond b (e.0 ∷ filter (λ k. is_kept q (group k R) k) (map (λ e. e.0) es)) (filter (λ k. is_kept q (group k R) k) (map (λ e. e.0) es)))
+    by true row rest = ap₂ (λ x xs. x ∷ xs) row rest
+    by false row rest = rest
 
 pub beyond_are : (q : QueryParts) (R : List SeenRow) (es : List Entry) → AreRight q R es → list_any entry_beyond es ≡ list_any (λ k. has_beyond q (group k R)) (map (λ e. e.0) es)
 beyond_are q R [] h = refl
@@ -92,7 +115,7 @@ member_group w k (r ∷ R) = by (key_eq k r.key) (member_group w k R)
 
 -- the keys of the entries are those of the rows
 pub same_keys : (g : GroupMap) (R : List SeenRow) → Stands g R → g.overflow ≡ None
-    → IsPermutation (present R) (map (λ e. e.0) g.entries) × ((p : Key → Bool) → list_any p (present R) ≡ list_any p (map (λ e. e.0) g.entries))
+    → ((p : Key → Bool) → IsPermutation (filter p (present R)) (filter p (map (λ e. e.0) g.entries))) × ((p : Key → Bool) → list_any p (present R) ≡ list_any p (map (λ e. e.0) g.entries))
 same_keys g R s none =
     same_members (present R) (map (λ e. e.0) g.entries) (distinct_apart (map (λ r. r.key) R)) (apart _ s.distinct)
     (λ k. member_distinct k (map (λ r. r.key) R) ∙ member_group g.job.query.aggregates k R ∙ sym (ap is_some (s.exact none k)) ∙ sym (member_lookup k g.entries))
@@ -118,11 +141,15 @@ empty_key k (r ∷ R) h e =
 -- the keys are those of these entries, which have the aggregates of their groups
 record AreGroups (q : QueryParts) (R : List SeenRow) (es : List Entry) : Type 0 where
   right : AreRight q R es
-  same : IsPermutation (keys q.groups R) (map (λ e. e.0) es)
+  same : (p : Key → Bool) → IsPermutation (filter p (keys q.groups R)) (filter p (map (λ e. e.0) es))
   any : (p : Key → Bool) → list_any p (keys q.groups R) ≡ list_any p (map (λ e. e.0) es)
 
 itself : (q : QueryParts) (R : List SeenRow) (es : List Entry) → AreRight q R es → keys q.groups R ≡ map (λ e. e.0) es → AreGroups q R es
-itself q R es h e = record { right = h; same = subst (IsPermutation (keys q.groups R)) e (IsPermutation-refl (keys q.groups R)); any = λ p. ap (list_any p) e }
+itself q R es h e = record {
+  right = h;
+  same = λ p. subst (λ ks. IsPermutation (filter p (keys q.groups R)) (filter p ks)) e (IsPermutation-refl (filter p (keys q.groups R)));
+  any = λ p. ap (list_any p) e;
+}
 
 whole_empty : (q : QueryParts) (g : GroupMap) (R : List SeenRow) → Stands g R → g.overflow ≡ None → g.job.query ≡ q → q.groups ≡ [] → g.entries ≡ [] → AreGroups q R (whole_entry q ∷ [])
 whole_empty q g R s none w no_group no_entry =
@@ -157,21 +184,21 @@ groups_by q g R s none w keyed (x ∷ xs) some es is =
     let these : keys q.groups R ≡ present R = ap (λ ys. keys ys R) some in
     record {
       right = subst (AreRight q R) is (are_right q g R s none w);
-      same = subst (λ ks. IsPermutation ks (map (λ e. e.0) es)) (sym these) (subst (λ fs. IsPermutation (present R) (map (λ e. e.0) fs)) is k.0);
+      same = λ p. subst (λ ks. IsPermutation (filter p ks) (filter p (map (λ e. e.0) es))) (sym these) (subst (λ fs. IsPermutation (filter p (present R)) (filter p (map (λ e. e.0) fs))) is (k.0 p));
       any = λ p. ap (list_any p) these ∙ k.1 p ∙ ap (λ fs. list_any p (map (λ e. e.0) fs)) is;
     }
 
 -- ---- the answer
 
-bag_of : (q : QueryParts) (R : List SeenRow) (es : List Entry) → AreGroups q R es → IsPermutation (bag q R) (map (entry_row q) es)
-bag_of q R es h = subst (IsPermutation (bag q R)) (sym (rows_are q R es h.right)) (IsPermutation-map (λ k. row_of q (group k R) k) _ _ h.same)
+bag_of : (q : QueryParts) (R : List SeenRow) (es : List Entry) → AreGroups q R es → IsPermutation (bag q R) (entry_rows q es)
+bag_of q R es h = subst (IsPermutation (bag q R)) (sym (rows_are q R es h.right)) (IsPermutation-map (λ k. row_of q (group k R) k) _ _ (h.same (λ k. is_kept q (group k R) k)))
 
 leaves_of : (q : QueryParts) (R : List SeenRow) (es : List Entry) → AreGroups q R es → leaves_range q R ≡ list_any entry_beyond es
 leaves_of q R es h = h.any (λ k. has_beyond q (group k R)) ∙ sym (beyond_are q R es h.right)
 
 -- the rows of the entries, put in order, are the answer
 pub ordered : (q : QueryParts) (g : GroupMap) (R : List SeenRow) (found rows : List Row) → Stands g R → g.overflow ≡ None → g.job.query ≡ q → AreKeyed q R
-    → list_any entry_beyond (all_entries q g.entries) ≡ false → found ≡ map (entry_row q) (all_entries q g.entries) → IsOrdered q.orders found rows
+    → list_any entry_beyond (all_entries q g.entries) ≡ false → found ≡ entry_rows q (all_entries q g.entries) → IsOrdered q.orders found rows
     → Answers q R (Ok rows)
 ordered q g R found rows s none w keyed fine is o =
     let h = groups_by q g R s none w keyed q.groups refl g.entries refl in (

@@ -1,6 +1,6 @@
 -- Rows of entries, one after another.
-use Rattle.std.proofs.Common.{◌≡◌, ◌∙◌, ◌++◌, ◌∷◌, [], ◌||◌, ◌+◌, ◌<◌, ℕ, zero, suc, nat_lt, Bool, true, false, List, length, map, drop, get_or, Some, Ok, Err, slice_get, refl, sym, ap, subst, arith, append_assoc}
-use Rattle.std.specs.List.{list_any}
+use Rattle.std.proofs.Common.{◌≡◌, ◌∙◌, ◌++◌, ◌∷◌, [], ◌||◌, ◌+◌, ◌<◌, ℕ, zero, suc, nat_lt, Bool, true, false, cond, List, length, map, drop, get_or, Some, slice_get, refl, sym, ap, subst, arith, append_assoc}
+use Rattle.std.specs.List.{filter, list_any}
 use Rattle.std.specs.Prelude.{option_map, unwrap_or}
 use Rattle.std.proofs.lemmas.Bool.{ltb-false, ltb-true, or_parts}
 use Rattle.std.proofs.lemmas.List.{drop_more, length-map}
@@ -9,7 +9,7 @@ use Rattle.ssb_query.specs.declared.query.QueryParts.{QueryParts}
 use Rattle.ssb_cells.specs.Cell.{Cell, null}
 use Rattle.ssb_groups.specs.Totals.{total_cell}
 use Rattle.ssb_groups.specs.declared.totals.Total.{Total}
-use Rattle.ssb_rows.specs.Entries.{Entry, entry_beyond, entry_row, IsBeyondFault, JudgesEntry}
+use Rattle.ssb_rows.specs.Entries.{AddsRow, Entry, entry_beyond, entry_kept, entry_row, entry_rows, IsBeyondFault, IsFaultAt}
 use Rattle.ssb_rows.specs.Order.{Row}
 use Rattle.ssb_rows.specs.Result.{at_or_null, is_beyond}
 use Rattle.ssb_rows.specs.declared.fault.AnswerFault.{AnswerFault}
@@ -44,26 +44,32 @@ entry_at (e ∷ es) zero (suc next) is h = let z : next ≡ 0 = omega arith in (
 entry_at (e ∷ es) (suc at) zero is h = absurd (omega arith)
 entry_at (e ∷ es) (suc at) (suc next) is h = let r = entry_at es at next (omega arith) (omega arith) in (r.0, r.1, r.2)
 
-beyond_here : (q : QueryParts) (e : Entry) (rest whole : Bool) (f : AnswerFault) → (entry_beyond e || rest) ≡ whole → IsBeyondFault (entry_beyond e) f → IsBeyondFault whole f
-beyond_here q e rest whole (fault.RowOverflow n) is h = h
-beyond_here q e rest whole fault.SumOutOfRange is h = sym is ∙ ap (λ b. b || rest) h
-beyond_here q e rest whole fault.Memory is h = h
-beyond_here q e rest whole fault.Write is h = h
+beyond_here : (e : Entry) (rest whole : Bool) (f : AnswerFault) → (entry_beyond e || rest) ≡ whole → IsBeyondFault (entry_beyond e) f → IsBeyondFault whole f
+beyond_here e rest whole (fault.RowOverflow n) is h = h
+beyond_here e rest whole fault.SumOutOfRange is h = sym is ∙ ap (λ b. b || rest) h
+beyond_here e rest whole fault.Memory is h = h
+beyond_here e rest whole fault.Write is h = h
 
-pub stops : (q : QueryParts) (es : List Entry) (at : ℕ) (f : AnswerFault) → at < length es → list_any entry_beyond (drop at es) ≡ list_any entry_beyond es → JudgesEntry q (slice_get es at) (Err f) → IsBeyondFault (list_any entry_beyond es) f
-stops q es at f below so_far h =
+pub stops : (es : List Entry) (at : ℕ) (f : AnswerFault) → at < length es → list_any entry_beyond (drop at es) ≡ list_any entry_beyond es → IsFaultAt (slice_get es at) f → IsBeyondFault (list_any entry_beyond es) f
+stops es at f below so_far h =
     let r = entry_at es at (at + 1) refl below in
-    beyond_here q r.0 (list_any entry_beyond (drop (at + 1) es)) _ f (sym (ap (list_any entry_beyond) r.2) ∙ so_far) (subst (λ o. JudgesEntry q o (Err f)) r.1 h)
+    beyond_here r.0 (list_any entry_beyond (drop (at + 1) es)) _ f (sym (ap (list_any entry_beyond) r.2) ∙ so_far) (subst (λ o. IsFaultAt o f) r.1 h)
 
-abbrev Rows : QueryParts → List Entry → List Row → ℕ → Type 0
-Rows q es rows at = (list_any entry_beyond (drop at es) ≡ list_any entry_beyond es) × (rows ++ map (entry_row q) (drop at es) ≡ map (entry_row q) es)
+-- the rows of one entry and of those behind it
+rows_more : (q : QueryParts) (e : Entry) (es : List Entry) → entry_rows q (e ∷ []) ++ entry_rows q es ≡ entry_rows q (e ∷ es)
+rows_more q e es = by (entry_kept q e)
+  where
+    by : (b : Bool) → map (entry_row q) (cond b (e ∷ []) []) ++ entry_rows q es ≡ map (entry_row q) (cond b (e ∷ filter (entry_kept q) es) (filter (entry_kept q) es))
+    by true = refl
+    by false = refl
 
-pub goes : (q : QueryParts) (es : List Entry) (at : ℕ) (row : Row) (rows more : List Row) → at < length es → (list_any entry_beyond (drop at es) ≡ list_any entry_beyond es) × (rows ++ map (entry_row q) (drop at es) ≡ map (entry_row q) es)
-    → JudgesEntry q (slice_get es at) (Ok row) → more ≡ rows ++ row ∷ []
-    → (list_any entry_beyond (drop (at + 1) es) ≡ list_any entry_beyond es) × (more ++ map (entry_row q) (drop (at + 1) es) ≡ map (entry_row q) es)
-goes q es at row rows more below so_far h is =
-    let r = entry_at es at (at + 1) refl below in
-    let (fine, same) = subst (λ o. JudgesEntry q o (Ok row)) r.1 h in (
-      sym (ap (λ b. b || list_any entry_beyond (drop (at + 1) es)) fine) ∙ sym (ap (list_any entry_beyond) r.2) ∙ so_far.0,
-      ap (λ rs. rs ++ map (entry_row q) (drop (at + 1) es)) is ∙ append_assoc rows (row ∷ []) (map (entry_row q) (drop (at + 1) es)) ∙ ap (λ x. rows ++ x ∷ map (entry_row q) (drop (at + 1) es)) same ∙ sym (ap (λ xs. rows ++ map (entry_row q) xs) r.2) ∙ so_far.1,
+pub goes : (q : QueryParts) (es : List Entry) (at : ℕ) (rows more : List Row) → at < length es → (list_any entry_beyond (drop at es) ≡ list_any entry_beyond es) × (rows ++ entry_rows q (drop at es) ≡ entry_rows q es)
+    → AddsRow q (slice_get es at) rows more
+    → (list_any entry_beyond (drop (at + 1) es) ≡ list_any entry_beyond es) × (more ++ entry_rows q (drop (at + 1) es) ≡ entry_rows q es)
+goes q es at rows more below so_far h =
+    let (e, here, split) = entry_at es at (at + 1) refl below in
+    let rest = drop (at + 1) es in
+    let (fine, same) = subst (λ o. AddsRow q o rows more) here h in (
+      sym (ap (λ b. b || list_any entry_beyond rest) fine) ∙ sym (ap (list_any entry_beyond) split) ∙ so_far.0,
+      ap (λ rs. rs ++ entry_rows q rest) same ∙ append_assoc rows (entry_rows q (e ∷ [])) (entry_rows q rest) ∙ ap (λ rs. rows ++ rs) (rows_more q e rest) ∙ sym (ap (λ es. rows ++ entry_rows q es) split) ∙ so_far.1,
     )

@@ -4,6 +4,7 @@ use Rattle.std.specs.List.{list_any, filter, AllByRecursion, IsDistinct}
 use Rattle.std.specs.List.Sorted.{IsPermutation}
 use Rattle.std.proofs.lemmas.Bool.{and_parts, cases_Bool, or_parts}
 use Rattle.std.proofs.lemmas.Bool.Decides.{Decides-int_eq}
+use Rattle.std.proofs.lemmas.List.Elements.{filter-append}
 use Rattle.std.proofs.lemmas.List.Folds.{list_any-append}
 use Rattle.std.proofs.lemmas.List.Sorted.{IsPermutation-refl, IsPermutation-cons, IsPermutation-middle, IsPermutation-sym, IsPermutation-trans}
 use Rattle.std.proofs.lemmas.Slice.Eq.{bytes_eq-Decides}
@@ -93,15 +94,25 @@ rest_same x k xs front back false e n m h = sym (ap (λ b. b || member k xs) e) 
 any_middle : (p : Key → Bool) (k : Key) (front back : List Key) → list_any p (front ++ k ∷ back) ≡ (p k || list_any p (front ++ back))
 any_middle p k front back = list_any-append p front (k ∷ back) ∙ or_swap (list_any p front) (p k) (list_any p back) ∙ ap (λ b. p k || b) (sym (list_any-append p front back))
 
--- the two differ in their order, and a test that one passes somewhere the other passes somewhere
-pub same_members : (xs ys : List Key) → Apart xs → Apart ys → ((k : Key) → member k xs ≡ member k ys) → IsPermutation xs ys × ((p : Key → Bool) → list_any p xs ≡ list_any p ys)
-same_members [] [] a b h = (IsPermutation-refl [], λ p. refl)
+filter_middle : (p : Key → Bool) (k : Key) (xs front back : List Key) → IsPermutation (filter p xs) (filter p (front ++ back)) → IsPermutation (filter p (k ∷ xs)) (filter p (front ++ k ∷ back))
+filter_middle p k xs front back h =
+    let h' : IsPermutation (filter p xs) (filter p front ++ filter p back) = subst (IsPermutation (filter p xs)) (filter-append p front back) h in
+    subst (IsPermutation (filter p (k ∷ xs))) (sym (filter-append p front (k ∷ back))) (by (p k) h')
+  where
+    by : (b : Bool) → IsPermutation (filter p xs) (filter p front ++ filter p back) → IsPermutation (cond b (k ∷ filter p xs) (filter p xs)) (filter p front ++ cond b (k ∷ filter p back) (filter p back))
+    by true h = IsPermutation-trans _ _ _ (IsPermutation-cons k (filter p xs) (filter p front ++ filter p back) h) (IsPermutation-sym _ _ (IsPermutation-middle (filter p front) k (filter p back)))
+    by false h = h
+
+-- what a test keeps of the two differs in its order alone, and a test that one passes somewhere the other passes somewhere
+pub same_members : (xs ys : List Key) → Apart xs → Apart ys → ((k : Key) → member k xs ≡ member k ys)
+    → ((p : Key → Bool) → IsPermutation (filter p xs) (filter p ys)) × ((p : Key → Bool) → list_any p xs ≡ list_any p ys)
+same_members [] [] a b h = (λ p. IsPermutation-refl [], λ p. refl)
 same_members [] (y ∷ ys) a b h = absurd (true≢false (sym (no_member y ys) ∙ sym (h y)))
 same_members (x ∷ xs) ys a b h =
     let (front, back, is) = split x ys (sym (h x) ∙ no_member x xs) in
     let (gone, left) = apart-middle front back x (subst Apart is b) in
     let rest = same_members xs (front ++ back) a.1 left (λ k. rest_same x k xs front back (key_eq k x) refl a.0 gone (h k ∙ ap (member k) is ∙ member-middle k x front back)) in (
-      subst (IsPermutation (x ∷ xs)) (sym is) (IsPermutation-trans _ _ _ (IsPermutation-cons x xs (front ++ back) rest.0) (IsPermutation-sym _ _ (IsPermutation-middle front x back))),
+      λ p. subst (λ ks. IsPermutation (filter p (x ∷ xs)) (filter p ks)) (sym is) (filter_middle p x xs front back (rest.0 p)),
       λ p. ap (λ b. p x || b) (rest.1 p) ∙ sym (any_middle p x front back) ∙ sym (ap (list_any p) is),
     )
 

@@ -1,9 +1,13 @@
 -- Rows of an answer by the entries of its groups.
 -- For the contracts inside this crate.
-use Rattle.std.specs.Prelude.{◌≡◌, Bool, true, false, ⊤, Result, Ok, Err, List, [], ◌∷◌, map, Option, None, Some}
-use Rattle.std.specs.List.{list_any}
+use Rattle.std.specs.Prelude.{◌≡◌, Bool, true, false, ⊤, List, [], ◌∷◌, ◌++◌, map, Option, None, Some}
+use Rattle.std.specs.List.{filter, list_any}
 use Rattle.ssb_cells.specs.Cell.{Cell}
+use Rattle.ssb_cells.specs.Truth.{is_true}
 use Rattle.ssb_cells.specs.Values.{cell_of}
+use Rattle.ssb_trees.specs.declared.operand.Operand.{Operand}
+use Rattle.ssb_trees.specs.declared.operand.Operand.TheVariants as operand
+use Rattle.ssb_job.specs.Holds.{Valuation, literal_cell}
 use Rattle.ssb_query.specs.declared.column.BoundColumn.{BoundColumn}
 use Rattle.ssb_query.specs.declared.query.QueryParts.{QueryParts}
 use Rattle.ssb_query.specs.declared.query.Origin.{Origin}
@@ -13,7 +17,7 @@ use Rattle.ssb_groups.specs.Rows.{Key}
 use Rattle.ssb_groups.specs.Totals.{total_cell}
 use Rattle.ssb_groups.specs.declared.groups.Group.{Group}
 use Rattle.ssb_rows.specs.Order.{Row}
-use Rattle.ssb_rows.specs.Result.{at_or_null, is_beyond}
+use Rattle.ssb_rows.specs.Result.{at_or_null, having_says, is_beyond}
 use Rattle.ssb_rows.specs.declared.fault.AnswerFault.{AnswerFault}
 use Rattle.ssb_rows.specs.declared.fault.AnswerFault.TheVariants as fault
 
@@ -33,6 +37,19 @@ entry_cell e (origin.Aggregate i) = at_or_null e.1 i
 
 abbrev pub entry_row : QueryParts → Entry → Row
 entry_row q e = map (λ item. entry_cell e item.origin) q.items
+
+-- the value of an operand of HAVING
+abbrev pub entry_operand : Entry → Valuation (Operand Origin)
+entry_operand e (operand.Column o) = entry_cell e o
+entry_operand e (operand.Literal l) = literal_cell l
+
+-- whether HAVING keeps an entry
+abbrev pub entry_kept : QueryParts → Entry → Bool
+entry_kept q e = is_true (having_says (entry_operand e) q.having)
+
+-- the rows of the entries that HAVING keeps
+abbrev pub entry_rows : QueryParts → List Entry → List Row
+entry_rows q es = map (entry_row q) (filter (entry_kept q) es)
 
 -- the whole as one group over no row
 abbrev pub whole_entry : QueryParts → Entry
@@ -54,15 +71,19 @@ IsBeyondFault beyond fault.SumOutOfRange = beyond ≡ true
 IsBeyondFault beyond fault.Memory = ⊤
 IsBeyondFault beyond fault.Write = ⊥
 
--- the row of an entry, or why it has none
-abbrev pub JudgesEntry : QueryParts → Option Entry → Result Row AnswerFault → Type 0
-JudgesEntry q None r = ⊥
-JudgesEntry q (Some e) (Ok row) = (entry_beyond e ≡ false) × (row ≡ entry_row q e)
-JudgesEntry q (Some e) (Err f) = IsBeyondFault (entry_beyond e) f
+-- an entry does not leave the range, and its row, if HAVING keeps it, was put behind others
+abbrev pub AddsRow : QueryParts → Option Entry → List Row → List Row → Type 0
+AddsRow q None old new = ⊥
+AddsRow q (Some e) old new = (entry_beyond e ≡ false) × (new ≡ old ++ entry_rows q (e ∷ []))
 
--- these are the rows of the entries, none of which leaves the range
+-- why an entry has no row, be it kept or not
+abbrev pub IsFaultAt : Option Entry → AnswerFault → Type 0
+IsFaultAt None f = ⊥
+IsFaultAt (Some e) f = IsBeyondFault (entry_beyond e) f
+
+-- these are the rows of the entries that HAVING keeps; no entry leaves the range, be it kept or not
 abbrev pub AreRowsOf : QueryParts → List Entry → List Row → Type 0
-AreRowsOf q es rows = (list_any entry_beyond es ≡ false) × (rows ≡ map (entry_row q) es)
+AreRowsOf q es rows = (list_any entry_beyond es ≡ false) × (rows ≡ entry_rows q es)
 
 -- why the entries have no rows
 abbrev pub IsFaultOf : List Entry → AnswerFault → Type 0

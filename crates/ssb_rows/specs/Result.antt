@@ -1,9 +1,16 @@
--- What a query answers of the rows that WHERE keeps: a row for each group, or the overflow.
--- Source: SQL-92, 6.5 <set function specification>, 7.7 <group by clause>, 7.9 <query specification>; that an overflow of a row goes before one of a
--- sum, and that only the exact sum has a range, are this project's own.
-use Rattle.std.specs.Prelude.{◌≡◌, ℕ, Bool, true, false, not, List, [], ◌∷◌, map, length, None, Some, Result, Ok, Err, slice_get, unwrap_or, ⊤, All}
+-- What a query answers of the rows that WHERE keeps: a row for each group that HAVING keeps, or the overflow.
+-- Source: SQL-92, 6.5 <set function specification>, 7.7 <group by clause>, 7.8 <having clause>, 7.9 <query specification>; that an overflow of a row goes
+-- before one of a sum, that both go before HAVING, and that only the exact sum has a range, are this project's own.
+use Rattle.std.specs.Prelude.{◌≡◌, ℕ, Bool, true, false, not, List, [], ◌∷◌, map, length, Option, None, Some, Result, Ok, Err, slice_get, unwrap_or, ⊤, All}
 use Rattle.std.specs.List.{filter, list_any}
 use Rattle.ssb_cells.specs.Cell.{Cell, null, number, text}
+use Rattle.ssb_cells.specs.Truth.{is_true}
+use Rattle.ssb_cells.specs.declared.truth.Truth.{Truth}
+use Rattle.ssb_cells.specs.declared.truth.Truth.TheVariants.{True}
+use Rattle.ssb_trees.specs.Conditions.{Filter}
+use Rattle.ssb_trees.specs.declared.operand.Operand.{Operand}
+use Rattle.ssb_trees.specs.declared.operand.Operand.TheVariants as operand
+use Rattle.ssb_job.specs.Holds.{Valuation, holds, literal_cell}
 use Rattle.ssb_query.specs.declared.column.BoundColumn.{BoundColumn}
 use Rattle.ssb_query.specs.declared.query.QueryParts.{QueryParts}
 use Rattle.ssb_query.specs.declared.query.Origin.{Origin}
@@ -43,7 +50,7 @@ is_beyond (text t) = false
 abbrev pub has_beyond : QueryParts → List SeenRow → Bool
 has_beyond q G = list_any is_beyond (totals q.aggregates G)
 
--- some sum of a group leaves the range
+-- some sum of a group leaves the range, whether HAVING keeps the group or not
 abbrev pub leaves_range : QueryParts → List SeenRow → Bool
 leaves_range q R = list_any (λ k. has_beyond q (group k R)) (keys q.groups R)
 
@@ -62,9 +69,31 @@ item_cell q G k (origin.Aggregate i) = at_or_null (totals q.aggregates G) i
 abbrev pub row_of : QueryParts → List SeenRow → Key → Row
 row_of q G k = map (λ item. item_cell q G k item.origin) q.items
 
--- one row for each key, in no order
+-- ---- HAVING
+
+-- the value of an operand of HAVING: one of the group's key or aggregates, or a literal's
+abbrev pub operand_cell : QueryParts → List SeenRow → Key → Valuation (Operand Origin)
+operand_cell q G k (operand.Column o) = item_cell q G k o
+operand_cell q G k (operand.Literal l) = literal_cell l
+
+-- what HAVING says: True where it is not there
+abbrev pub having_says : Valuation (Operand Origin) → Option (Filter Origin) → Truth
+having_says v None = True
+having_says v (Some c) = holds v c
+
+-- whether HAVING keeps a group: that of which it is True, and none of which it is False or Unknown
+abbrev pub is_kept : QueryParts → List SeenRow → Key → Bool
+is_kept q G k = is_true (having_says (operand_cell q G k) q.having)
+
+-- the keys of the groups that HAVING keeps
+abbrev pub kept_keys : QueryParts → List SeenRow → List Key
+kept_keys q R = filter (λ k. is_kept q (group k R) k) (keys q.groups R)
+
+-- ---- the answer
+
+-- one row for each key that HAVING keeps, in no order
 abbrev pub bag : QueryParts → List SeenRow → List Row
-bag q R = map (λ k. row_of q (group k R) k) (keys q.groups R)
+bag q R = map (λ k. row_of q (group k R) k) (kept_keys q R)
 
 -- keys have a value for each group column
 abbrev pub AreKeyed : QueryParts → List SeenRow → Type 0

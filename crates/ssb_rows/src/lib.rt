@@ -6,6 +6,8 @@
 
 pub mod answer;
 pub mod fault;
+mod having;
+mod item;
 mod order;
 mod page;
 mod rows_of;

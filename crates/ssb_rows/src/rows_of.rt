@@ -1,22 +1,21 @@
 // From groups to the rows of an answer.
 
-ghost use Rattle.std.specs.Prelude.{◌≡◌, ◌<◌, ◌∷◌, [], IfOk, IfErr, List, true, false, length, map, slice_get};
+ghost use Rattle.std.specs.Prelude.{◌≡◌, ◌<◌, ◌∷◌, [], IfOk, IfErr, OnOk, List, Some, false, length, map, slice_get};
 ghost use Rattle.std.specs.List.{list_any};
-ghost use Rattle.ssb_cells.specs.Cell as Cell;
-ghost use Rattle.ssb_cells.specs.Values.{cell_of, owned_cell};
 ghost use Rattle.ssb_groups.specs.Rows.{SeenRow};
 ghost use Rattle.ssb_groups.specs.Stands.{Stands};
 ghost use Rattle.ssb_groups.specs.Totals.{total_cell};
-ghost use Rattle.ssb_groups.specs.Value.{in_range};
 ghost use Rattle.ssb_rows.specs.Entries as spec;
-ghost use Rattle.ssb_rows.specs.Result.{Answers, AreKeyed, at_or_null, is_beyond};
+ghost use Rattle.ssb_rows.specs.Result.{Answers, AreKeyed, is_beyond};
 
 use crate::answer::{Answer, AnswerRow};
 use crate::fault::AnswerFault;
+use crate::having::is_kept;
+use crate::item::item_value;
 use crate::order::sort_rows;
-use ssb_cells::{OwnedValue, Value};
+use ssb_cells::OwnedValue;
 use ssb_groups::{Group, Groups, Total, over_no_row};
-use ssb_query::{Origin, Query, QueryParts};
+use ssb_query::{Query, QueryParts};
 use std::alloc::{AllocError, Global};
 
 // Whether the value of an aggregate leaves 64 bits.
@@ -41,57 +40,6 @@ fn has_beyond(totals: &[Total<'_>]) -> bool
     false
 }
 
-fn number_value(number: i128) -> OwnedValue
-    ensures { in_range number ≡ true → owned_cell result ≡ Cell.number number }
-{
-    match i64::try_from(number) {
-        Ok(number) => OwnedValue::Number(number),
-        Err(_) => OwnedValue::Null,
-    }
-}
-
-// The value of an aggregate that does not leave 64 bits.
-fn total_value(alloc: Global, total: &Total<'_>) -> Result<OwnedValue, AllocError>
-    requires { is_beyond (total_cell total.now) ≡ false }
-    ensures { IfOk result (λ v. owned_cell v ≡ total_cell total.now) }
-{
-    match total {
-        Total::Null => Ok(OwnedValue::Null),
-        Total::Number(number) => Ok(number_value(*number)),
-        Total::Text(text) => OwnedValue::of(alloc, Value::Text(*text)),
-    }
-}
-
-fn total_value_at(alloc: Global, totals: &[Total<'_>], at: usize) -> Result<OwnedValue, AllocError>
-    requires { list_any is_beyond (map total_cell totals.now) ≡ false }
-    ensures { IfOk result (λ v. owned_cell v ≡ at_or_null (map total_cell totals.now) at) }
-{
-    match totals.get(at) {
-        Some(total) => total_value(alloc, total),
-        None => Ok(OwnedValue::Null),
-    }
-}
-
-fn key_value_at(alloc: Global, key: &[Value<'_>], at: usize) -> Result<OwnedValue, AllocError>
-    ensures { IfOk result (λ v. owned_cell v ≡ at_or_null (map cell_of key.now) at) }
-{
-    match key.get(at) {
-        Some(value) => OwnedValue::of(alloc, *value),
-        None => Ok(OwnedValue::Null),
-    }
-}
-
-// A value of a group's row.
-fn item_value(alloc: Global, group: &Group<'_>, origin: Origin) -> Result<OwnedValue, AllocError>
-    requires { spec.entry_beyond (spec.seen group.now) ≡ false }
-    ensures { IfOk result (λ v. owned_cell v ≡ spec.entry_cell (spec.seen group.now) origin) }
-{
-    match origin {
-        Origin::Group(at) => key_value_at(alloc, group.key.as_slice(), at),
-        Origin::Aggregate(at) => total_value_at(alloc, group.totals.as_slice(), at),
-    }
-}
-
 // The row of a group.
 fn entry_row(alloc: Global, parts: &QueryParts, group: &Group<'_>) -> Result<AnswerRow, AllocError>
     requires { spec.entry_beyond (spec.seen group.now) ≡ false }
@@ -99,45 +47,57 @@ fn entry_row(alloc: Global, parts: &QueryParts, group: &Group<'_>) -> Result<Ans
 {
     let mut fields = Vec::with_capacity(alloc, parts.items.len())?;
     for item in parts.items.as_slice() {
-        fields.push(item_value(alloc, group, item.origin)?)?;
+        let value = item_value(group, item.origin);
+        fields.push(OwnedValue::of(alloc, value)?)?;
     }
     Ok(AnswerRow::new(fields))
 }
 
-// The row of a group, if no aggregate leaves 64 bits.
-fn judged_row(
+// Adds the row of a group, if HAVING keeps it. An aggregate that leaves 64 bits is told before HAVING is
+// asked, and so also of a group that it would drop.
+fn add_row(
     alloc: Global,
     parts: &QueryParts,
     group: &Group<'_>,
-) -> Result<AnswerRow, AnswerFault>
-    ensures ok { IfOk result (λ row. (spec.entry_beyond (spec.seen group.now) ≡ false) × (row ≡ spec.entry_row parts.now (spec.seen group.now))) }
-    ensures err { IfErr result (spec.IsBeyondFault (spec.entry_beyond (spec.seen group.now))) }
+    rows: &mut Vec<AnswerRow>,
+) -> Result<(), AnswerFault>
+    ensures ok { OnOk result (spec.AddsRow parts.now (Some (spec.seen group.now)) rows.old.items rows.new.items) }
+    ensures err { IfErr result (spec.IsFaultAt (Some (spec.seen group.now))) }
 {
     if has_beyond(group.totals.as_slice()) {
         return Err(AnswerFault::SumOutOfRange);
     }
-    match entry_row(alloc, parts, group) {
-        Ok(row) => Ok(row),
+    if !is_kept(parts, group) {
+        return Ok(());
+    }
+    let Ok(row) = entry_row(alloc, parts, group) else {
+        return Err(AnswerFault::Memory);
+    };
+    match rows.push(row) {
+        Ok(()) => Ok(()),
         Err(_) => Err(AnswerFault::Memory),
     }
 }
 
-fn group_row(
+// Adds the row of the group with this number.
+fn add_row_at(
     alloc: Global,
     parts: &QueryParts,
     groups: &Groups,
     at: usize,
-) -> Result<AnswerRow, AnswerFault>
+    rows: &mut Vec<AnswerRow>,
+) -> Result<(), AnswerFault>
     requires { at < length groups.now.entries }
-    ensures { spec.JudgesEntry parts.now (slice_get groups.now.entries at) result }
+    ensures ok { OnOk result (spec.AddsRow parts.now (slice_get groups.now.entries at) rows.old.items rows.new.items) }
+    ensures err { IfErr result (spec.IsFaultAt (slice_get groups.now.entries at)) }
 {
-    let Ok(group) = groups.group(alloc, at) else {
-        return Err(AnswerFault::Memory);
-    };
-    judged_row(alloc, parts, &group)
+    match groups.group(alloc, at) {
+        Ok(group) => add_row(alloc, parts, &group, rows),
+        Err(_) => Err(AnswerFault::Memory),
+    }
 }
 
-// The rows of all groups, in no order.
+// The rows of the groups that HAVING keeps, in no order.
 fn group_rows(
     alloc: Global,
     parts: &QueryParts,
@@ -148,12 +108,8 @@ fn group_rows(
 {
     let mut rows = Vec::new(alloc);
     for at in 0..groups.group_count() {
-        match group_row(alloc, parts, groups, at) {
-            Ok(row) => {
-                let Ok(()) = rows.push(row) else {
-                    return Err(AnswerFault::Memory);
-                };
-            }
+        match add_row_at(alloc, parts, groups, at, &mut rows) {
+            Ok(()) => {}
             Err(fault) => return Err(fault),
         }
     }
@@ -170,7 +126,7 @@ fn whole<'a>(alloc: Global, parts: &QueryParts) -> Result<Group<'a>, AllocError>
     })
 }
 
-// The one row of a query without GROUP BY over no row.
+// The row of a query without GROUP BY over no row, if HAVING keeps it.
 fn whole_row(alloc: Global, parts: &QueryParts) -> Result<Vec<AnswerRow>, AnswerFault>
     ensures ok { IfOk result (λ rows. spec.AreRowsOf parts.now (spec.whole_entry parts.now ∷ []) rows.items) }
     ensures err { IfErr result (spec.IsFaultOf (spec.whole_entry parts.now ∷ [])) }
@@ -178,18 +134,15 @@ fn whole_row(alloc: Global, parts: &QueryParts) -> Result<Vec<AnswerRow>, Answer
     let Ok(group) = whole(alloc, parts) else {
         return Err(AnswerFault::Memory);
     };
-    let row = match judged_row(alloc, parts, &group) {
-        Ok(row) => row,
-        Err(fault) => return Err(fault),
-    };
     let mut rows = Vec::new(alloc);
-    match rows.push(row) {
+    match add_row(alloc, parts, &group, &mut rows) {
         Ok(()) => Ok(rows),
-        Err(_) => Err(AnswerFault::Memory),
+        Err(fault) => Err(fault),
     }
 }
 
-// The rows of all groups, in no order; without GROUP BY the whole is one group, also where it is empty.
+// The rows of the groups that HAVING keeps, in no order; without GROUP BY the whole is one group, also
+// where it is empty.
 fn all_rows(
     alloc: Global,
     parts: &QueryParts,
@@ -220,13 +173,13 @@ fn answer_of(alloc: Global, parts: &QueryParts, groups: &Groups) -> Result<Answe
 }
 
 /// The rows of a query's answer in order, of the groups over the rows that it keeps. The query is that
-/// of the groups' job.
+/// of the groups' job. Only a group of which HAVING is True has a row.
 ///
 /// # Errors
 ///
 /// `RowOverflow` with the least fact row, from 1, at which an aggregate's argument leaves 64 bits;
-/// else `SumOutOfRange` where the exact sum of a group leaves them; `Memory` where a growth was
-/// refused.
+/// else `SumOutOfRange` where the exact sum of a group leaves them, also of one without a row; `Memory`
+/// where a growth was refused.
 pub fn rows(alloc: Global, groups: Groups, query: &Query) -> Result<Answer, AnswerFault>
     requires { groups.job.query ≡ query.now }
     ensures { (R : List SeenRow) → Stands groups R → AreKeyed query.now R → Answers query.now R result }

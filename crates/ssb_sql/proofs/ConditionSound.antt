@@ -44,6 +44,9 @@ module _ {C : Type 0} (R : Spelling C) (r : Shorter R) where
     test_less (parens a) = let p = cond_less a in omega arith
     test_less (bare a) = (bare_shorter R r).by a
 
+  pub cond_shorter : Shorter (IsCond R)
+  cond_shorter = record { by = λ h. cond_less h }
+
   pub conj_shorter : Shorter (IsConj R)
   conj_shorter = record { by = λ h. conj_less h }
 
@@ -74,6 +77,9 @@ module _ {C : Type 0} (R : Spelling C) (t : Tame R) where
     test_within (parens a) zero h = absurd h
     test_within (parens a) (suc d) h = cond_within a d h
     test_within (bare a) d h = (tame_bare R t).within a d h
+
+  pub tame_cond : Tame (IsCond R)
+  tame_cond = record { shorter = λ h. (cond_shorter R (tame_shorter R t)).by h; within = λ h d w. cond_within h d w }
 
   pub tame_conj : Tame (IsConj R)
   tame_conj = record { shorter = λ h. (conj_shorter R (tame_shorter R t)).by h; within = λ h d w. conj_within h d w }

@@ -95,6 +95,9 @@ output_sound d ts x e =
           spells IsOutput ts f.0.1 (u.Column f.0.0) x (column (sound_column.by ts f.0 f.1)) f.2
     ]
 
+pub sound_output : (d : ℕ) → Sound (output_at d) IsOutput
+sound_output d = record { by = output_sound d }
+
 -- an item, from its output and what AS gives
 named_sound : (ts mid : List Token) (y : Output) (n : Option (List ℕ) × List Token) → IsOutput ts mid y → alias_at mid ≡ Some n → IsItem ts n.1 (item_of y n.0)
 unfolding alias_at
@@ -155,6 +158,9 @@ aggregate_went (of {from = from} {to = to} {f = f} h) = parens_went (function_wo
 output_went : {from to : List Token} {x : Output} → IsOutput from to x → Went from to
 output_went (column h) = went IsColumn tame_column h
 output_went (aggregate h) = aggregate_went h
+
+pub tame_output : Tame IsOutput
+tame_output = tame IsOutput (λ from to x h. output_went h)
 
 item_went : {from to : List Token} {x : Item} → IsItem from to x → Went from to
 item_went (unnamed a) = output_went a

@@ -17,8 +17,8 @@ use Rattle.ssb_sql.specs.declared.select.Item.{Item}
 use Rattle.ssb_sql.specs.declared.select.Key.{Key}
 use Rattle.ssb_sql.specs.declared.select.Order.{Order}
 use Rattle.ssb_sql.specs.declared.select.Select.{Select}
-use Rattle.ssb_sql.specs.Forms.{IsList, IsNamed, IsColumn}
-use Rattle.ssb_sql.specs.Grammar.{function_word, IsAggregate, IsOutput, IsItem, IsWhere, IsGroups, IsKey, IsOrder, IsOrders, IsEnd, Parses}
+use Rattle.ssb_sql.specs.Forms.{Spelling, IsList, IsNamed, IsColumn}
+use Rattle.ssb_sql.specs.Grammar.{function_word, IsAggregate, IsOutput, IsItem, IsFilter, IsHaving, IsGroups, IsKey, IsOrder, IsOrders, IsEnd, Parses}
 use Rattle.ssb_sql.specs.Room.{HasRoom}
 use Rattle.ssb_sql.specs.Grammar.IsAggregate.{rows, of}
 use Rattle.ssb_sql.specs.Grammar.IsOutput.{column, aggregate}
@@ -26,22 +26,23 @@ use Rattle.ssb_sql.specs.Forms.IsColumn.{alone, dotted}
 use Rattle.ssb_sql.specs.Grammar.IsItem.{unnamed, named}
 use Rattle.ssb_sql.specs.Grammar.IsKey.{name, position}
 use Rattle.ssb_sql.specs.Grammar.IsOrder.{plain, asc, desc}
-use Rattle.ssb_sql.specs.Grammar.IsWhere.{no_where, where_cond}
+use Rattle.ssb_sql.specs.Grammar.IsFilter.{no_filter, filter}
 use Rattle.ssb_sql.specs.Grammar.IsGroups.{no_groups, groups}
 use Rattle.ssb_sql.specs.Grammar.IsOrders.{no_orders, orders}
 use Rattle.ssb_sql.specs.Grammar.IsEnd.{end, semicolon}
 use Rattle.ssb_sql.specs.Grammar.Parses.{query}
-use Rattle.ssb_sql.specs.Steps.{Parser, after, is_sign, name_at, list_at}
+use Rattle.ssb_sql.specs.Steps.{Parser, after, is_sign, is_literal_next, name_at, list_at}
 use Rattle.ssb_sql.specs.ReadParts.{column_at}
 use Rattle.ssb_sql.specs.ReadExpressions.{expr_at}
-use Rattle.ssb_sql.specs.ReadSelects.{function_at, star_at, argument_at, aggregate_at, output_at, alias_at, item_at, where_at, by_at, key_at, order_at, ends, select_of, ordered_at, grouped_at, filtered_at, joined_at, query_at}
+use Rattle.ssb_sql.specs.ReadSelects.{function_at, star_at, argument_at, aggregate_at, output_at, alias_at, item_at, filter_at, by_at, key_at, order_at, ends, select_of, ordered_at, kept_at, grouped_at, filtered_at, joined_at, query_at}
 use Rattle.ssb_sql.proofs.StepFacts.{some_is, Stops, stops, differs, sees}
-use Rattle.ssb_sql.proofs.Shapes.{Complete, GoesOn, closed_read, list_read, tame_list}
-use Rattle.ssb_sql.proofs.PartFacts.{begins_column, tame_name, tame_column, named_read, name_read, column_read}
+use Rattle.ssb_sql.proofs.Shapes.{Tame, Complete, GoesOn, closed_read, list_read, tame_list}
+use Rattle.ssb_sql.proofs.PartFacts.{Begins, begins_column, column_begins, column_no_literal, tame_name, tame_column, named_read, name_read, column_read}
 use Rattle.ssb_sql.proofs.Depth.{all_within}
 use Rattle.ssb_sql.proofs.ExpressionComplete.{expr_begins, expr_read, close_ends}
 use Rattle.ssb_sql.proofs.ConditionComplete.{EndsCond, cond_read}
-use Rattle.ssb_sql.proofs.ItemFacts.{tame_item, tame_order}
+use Rattle.ssb_sql.proofs.ConditionSound.{tame_cond}
+use Rattle.ssb_sql.proofs.ItemFacts.{tame_output, tame_item, tame_order}
 use Rattle.ssb_trees.specs.Conditions.{Filter}
 use Rattle.ssb_trees.specs.declared.aggregate.Aggregate.{Aggregate}
 use Rattle.ssb_trees.specs.declared.expr.Expr.{Expr}
@@ -87,6 +88,34 @@ output_read : {from to : List Token} {x : Output} → IsOutput from to x → (d 
 unfolding output_at
 output_read (column h) d room n = rw (column_names_none h, column_read h n) refl
 output_read (aggregate h) d room n = aggregate_read h d room
+
+-- an output begins with a name or with the word of a function
+function_stops : (f : SetFunction) (sign : Sign) → is_sign (s.Word words.Sum) sign ≡ false → is_sign (s.Word words.Count) sign ≡ false → is_sign (s.Word words.Min) sign ≡ false → is_sign (s.Word words.Max) sign ≡ false → (ts : List Token) → Stops sign (Fixed (s.Word (function_word f)) ∷ ts)
+function_stops functions.Sum sign a b d e ts = stops (s.Word words.Sum) sign ts a
+function_stops functions.Count sign a b d e ts = stops (s.Word words.Count) sign ts b
+function_stops functions.Min sign a b d e ts = stops (s.Word words.Min) sign ts d
+function_stops functions.Max sign a b d e ts = stops (s.Word words.Max) sign ts e
+
+output_begins : {from to : List Token} {x : Output} → IsOutput from to x → (sign : Sign) → is_sign (s.Word words.Sum) sign ≡ false → is_sign (s.Word words.Count) sign ≡ false → is_sign (s.Word words.Min) sign ≡ false → is_sign (s.Word words.Max) sign ≡ false → Stops sign from
+output_begins (column h) sign a b d e = column_begins h sign
+output_begins (aggregate (rows {to = to})) sign a b d e = function_stops functions.Count sign a b d e (Fixed (s.Mark marks.Open) ∷ Fixed (s.Mark marks.Times) ∷ Fixed (s.Mark marks.Close) ∷ to)
+output_begins (aggregate (of {from = from} {f = f} h)) sign a b d e = function_stops f sign a b d e (Fixed (s.Mark marks.Open) ∷ from)
+
+output_no_literal : {from to : List Token} {x : Output} → IsOutput from to x → is_literal_next from ≡ false
+unfolding is_literal_next
+output_no_literal (column h) = column_no_literal h
+output_no_literal (aggregate rows) = refl
+output_no_literal (aggregate (of h)) = refl
+
+begins_output : Begins IsOutput
+begins_output = record {
+  no_literal = λ h. output_no_literal h;
+  no_not = λ h. output_begins h (s.Word words.Not) (differs (s.Word words.Sum) (s.Word words.Not) refl) (differs (s.Word words.Count) (s.Word words.Not) refl) (differs (s.Word words.Min) (s.Word words.Not) refl) (differs (s.Word words.Max) (s.Word words.Not) refl);
+  no_open = λ h. output_begins h (s.Mark marks.Open) (differs (s.Word words.Sum) (s.Mark marks.Open) refl) (differs (s.Word words.Count) (s.Mark marks.Open) refl) (differs (s.Word words.Min) (s.Mark marks.Open) refl) (differs (s.Word words.Max) (s.Mark marks.Open) refl);
+}
+
+complete_output : (d : ℕ) → Complete (output_at d) IsOutput d (Stops (s.Mark marks.Dot))
+complete_output d = record { by = λ h w n. output_read h d w n }
 
 -- what may follow an item
 pub record EndsItem (to : List Token) : Type 0 where
@@ -172,15 +201,25 @@ groups_stop : {from to : List Token} {xs : List ColumnName} → IsGroups from to
 groups_stop no_groups sign p h = h
 groups_stop (groups {from = from} a) sign p h = stops (s.Word words.Group) sign (Fixed (s.Word words.By) ∷ from) p
 
-where_stops : {from to : List Token} {x : Option (Filter ColumnName)} → IsWhere from to x → (sign : Sign) → is_sign (s.Word words.Where) sign ≡ false → Stops sign to → Stops sign from
-where_stops no_where sign p h = h
-where_stops (where_cond {from = from} a) sign p h = stops (s.Word words.Where) sign from p
+filter_stops : {C : Type 0} (w : Keyword) (R : Spelling C) {from to : List Token} {x : Option (Filter C)} → IsFilter w R from to x → (sign : Sign) → is_sign (s.Word w) sign ≡ false → Stops sign to → Stops sign from
+filter_stops w R no_filter sign p h = h
+filter_stops w R (filter {from = from} a) sign p h = stops (s.Word w) sign from p
+
+-- what the parts behind FROM leave of the open parentheses
+filter_within : {C : Type 0} (w : Keyword) (R : Spelling C) → Tame R → {from to : List Token} {x : Option (Filter C)} → IsFilter w R from to x → (d : ℕ) → HasRoom d from → HasRoom d to
+filter_within w R t no_filter d h = h
+filter_within w R t (filter a) d h = (tame_cond R t).within a d h
+
+groups_within : {from to : List Token} {xs : List ColumnName} → IsGroups from to xs → (d : ℕ) → HasRoom d from → HasRoom d to
+groups_within no_groups d h = h
+groups_within (groups a) d h = (tame_list IsColumn tame_column).within a d h
 
 -- the parts behind FROM
-where_read : {from to : List Token} {x : Option (Filter ColumnName)} → IsWhere from to x → (d : ℕ) → HasRoom d from → Stops (s.Word words.Where) to → EndsCond to → where_at (suc d) from ≡ Some (x, to)
-unfolding where_at
-where_read no_where d h n z = rw n refl
-where_read (where_cond {from = from} a) d h n z = rw (sees (s.Word words.Where) from, cond_read IsColumn tame_column begins_column (λ deep. column_at) complete_column a d h z) refl
+filter_read : {C : Type 0} (w : Keyword) (R : Spelling C) → Tame R → Begins R → (p : ℕ → Parser C) → ((d : ℕ) → Complete (p d) R d (Stops (s.Mark marks.Dot)))
+    → {from to : List Token} {x : Option (Filter C)} → IsFilter w R from to x → (d : ℕ) → HasRoom d from → Stops (s.Word w) to → EndsCond to → filter_at w p (suc d) from ≡ Some (x, to)
+unfolding filter_at
+filter_read w R t starts p complete no_filter d h n z = rw n refl
+filter_read w R t starts p complete (filter {from = from} a) d h n z = rw (sees (s.Word w) from, cond_read R t starts p complete a d h z) refl
 
 by_none : {A : Type 0} (word : Keyword) (p : Parser A) (ts : List Token) → Stops (s.Word word) ts → by_at word p ts ≡ Some ([], ts)
 unfolding by_at
@@ -203,31 +242,54 @@ unfolding ends
 ends_read end = rw (nil_stops (s.Mark marks.Semicolon)) refl
 ends_read semicolon = rw (sees (s.Mark marks.Semicolon) []) refl
 
-query_goes : (d : ℕ) (a b c e f g : List Token) (items : List Item) (from : List (List ℕ)) (w : Option (Filter ColumnName)) (xs : List ColumnName) (ys : List Order) → list_at (item_at d) a ≡ Some (items, Fixed (s.Word words.From) ∷ b)
-    → list_at name_at b ≡ Some (from, c) → where_at (suc d) c ≡ Some (w, e) → by_at words.Group column_at e ≡ Some (xs, f) → by_at words.Order order_at f ≡ Some (ys, g) → ends g ≡ true
-    → query_at d (Fixed (s.Word words.Select) ∷ a) ≡ Some (select_of items from w xs ys)
-unfolding query_at joined_at filtered_at grouped_at ordered_at
-query_goes d a b c e f g items from w xs ys i n p q r z = rw (sees (s.Word words.Select) a, i, sees (s.Word words.From) b, n, p, q, r, z) refl
+query_goes : (d : ℕ) (a b c e f g k : List Token) (items : List Item) (from : List (List ℕ)) (w : Option (Filter ColumnName)) (xs : List ColumnName) (having : Option (Filter Output)) (ys : List Order) → list_at (item_at d) a ≡ Some (items, Fixed (s.Word words.From) ∷ b)
+    → list_at name_at b ≡ Some (from, c) → filter_at words.Where (λ deep. column_at) (suc d) c ≡ Some (w, e) → by_at words.Group column_at e ≡ Some (xs, f) → filter_at words.Having output_at (suc d) f ≡ Some (having, g) → by_at words.Order order_at g ≡ Some (ys, k) → ends k ≡ true
+    → query_at d (Fixed (s.Word words.Select) ∷ a) ≡ Some (select_of items from w xs having ys)
+unfolding query_at joined_at filtered_at grouped_at kept_at ordered_at
+query_goes d a b c e f g k items from w xs having ys i n p q h r z = rw (sees (s.Word words.Select) a, i, sees (s.Word words.From) b, n, p, q, h, r, z) refl
+
+-- what the parts behind a part may begin with
+module _ {e f g k : List Token} {xs : List ColumnName} {having : Option (Filter Output)} {ys : List Order} (groups_are : IsGroups e f xs) (having_is : IsHaving f g having) (orders_are : IsOrders g k ys) (last : IsEnd k) where
+  stops_orders : (sign : Sign) → is_sign (s.Mark marks.Semicolon) sign ≡ false → is_sign (s.Word words.Order) sign ≡ false → Stops sign g
+  stops_orders sign i j = orders_stop orders_are sign j (end_stops last sign i)
+
+  stops_having : (sign : Sign) → is_sign (s.Mark marks.Semicolon) sign ≡ false → is_sign (s.Word words.Order) sign ≡ false → is_sign (s.Word words.Having) sign ≡ false → Stops sign f
+  stops_having sign i j h = filter_stops words.Having IsOutput having_is sign h (stops_orders sign i j)
+
+  stops_groups : (sign : Sign) → is_sign (s.Mark marks.Semicolon) sign ≡ false → is_sign (s.Word words.Order) sign ≡ false → is_sign (s.Word words.Having) sign ≡ false → is_sign (s.Word words.Group) sign ≡ false → Stops sign e
+  stops_groups sign i j h l = groups_stop groups_are sign l (stops_having sign i j h)
 
 -- what is read of a query
 pub whole_read : {ts : List Token} {x : Select} → Parses ts x → (d : ℕ) → HasRoom d ts → query_at d ts ≡ Some x
-whole_read (query {a = a} {b = b} {c = c} {d = e} {e = f} {f = g} {items = items} {from = from} {condition = w} {groups = xs} {orders = ys} one two where_is groups_are orders_are last) d h =
+whole_read (query {a = a} {b = b} {c = c} {d = e} {e = f} {f = g} {g = k} {items = items} {from = from} {condition = w} {groups = xs} {having = having} {orders = ys} one two where_is groups_are having_is orders_are last) d h =
     let within_b : HasRoom d b = (tame_list IsItem tame_item).within one d h in
     let within_c : HasRoom d c = (tame_list IsNamed tame_name).within two d within_b in
-    let stops_f = λ (sign : Sign) (i : is_sign (s.Mark marks.Semicolon) sign ≡ false) (j : is_sign (s.Word words.Order) sign ≡ false). orders_stop orders_are sign j (end_stops last sign i) in
-    let stops_e = λ (sign : Sign) (i : is_sign (s.Mark marks.Semicolon) sign ≡ false) (j : is_sign (s.Word words.Order) sign ≡ false) (k : is_sign (s.Word words.Group) sign ≡ false). groups_stop groups_are sign k (stops_f sign i j) in
-    let ends_cond : EndsCond e = record {
-      dot = stops_e (s.Mark marks.Dot) (differs (s.Mark marks.Semicolon) (s.Mark marks.Dot) refl) (differs (s.Word words.Order) (s.Mark marks.Dot) refl) (differs (s.Word words.Group) (s.Mark marks.Dot) refl);
-      and = stops_e (s.Word words.And) (differs (s.Mark marks.Semicolon) (s.Word words.And) refl) (differs (s.Word words.Order) (s.Word words.And) refl) (differs (s.Word words.Group) (s.Word words.And) refl);
-      or = stops_e (s.Word words.Or) (differs (s.Mark marks.Semicolon) (s.Word words.Or) refl) (differs (s.Word words.Order) (s.Word words.Or) refl) (differs (s.Word words.Group) (s.Word words.Or) refl);
+    let within_e : HasRoom d e = filter_within words.Where IsColumn tame_column where_is d within_c in
+    let within_f : HasRoom d f = groups_within groups_are d within_e in
+    let at_g = stops_orders groups_are having_is orders_are last in
+    let at_f = stops_having groups_are having_is orders_are last in
+    let at_e = stops_groups groups_are having_is orders_are last in
+    let ends_where : EndsCond e = record {
+      dot = at_e (s.Mark marks.Dot) (differs (s.Mark marks.Semicolon) (s.Mark marks.Dot) refl) (differs (s.Word words.Order) (s.Mark marks.Dot) refl) (differs (s.Word words.Having) (s.Mark marks.Dot) refl) (differs (s.Word words.Group) (s.Mark marks.Dot) refl);
+      and = at_e (s.Word words.And) (differs (s.Mark marks.Semicolon) (s.Word words.And) refl) (differs (s.Word words.Order) (s.Word words.And) refl) (differs (s.Word words.Having) (s.Word words.And) refl) (differs (s.Word words.Group) (s.Word words.And) refl);
+      or = at_e (s.Word words.Or) (differs (s.Mark marks.Semicolon) (s.Word words.Or) refl) (differs (s.Word words.Order) (s.Word words.Or) refl) (differs (s.Word words.Having) (s.Word words.Or) refl) (differs (s.Word words.Group) (s.Word words.Or) refl);
     } in
-    let p = where_read where_is d within_c (stops_e (s.Word words.Where) (differs (s.Mark marks.Semicolon) (s.Word words.Where) refl) (differs (s.Word words.Order) (s.Word words.Where) refl) (differs (s.Word words.Group) (s.Word words.Where) refl)) ends_cond in
-    let q = groups_read groups_are (stops_f (s.Word words.Group) (differs (s.Mark marks.Semicolon) (s.Word words.Group) refl) (differs (s.Word words.Order) (s.Word words.Group) refl)) (stops_f (s.Mark marks.Dot) (differs (s.Mark marks.Semicolon) (s.Mark marks.Dot) refl) (differs (s.Word words.Order) (s.Mark marks.Dot) refl))
-    (stops_f (s.Mark marks.Comma) (differs (s.Mark marks.Semicolon) (s.Mark marks.Comma) refl) (differs (s.Word words.Order) (s.Mark marks.Comma) refl)) in
-    let ends_key : EndsKey g = record { asc = end_stops last (s.Word words.Asc) (differs (s.Mark marks.Semicolon) (s.Word words.Asc) refl); desc = end_stops last (s.Word words.Desc) (differs (s.Mark marks.Semicolon) (s.Word words.Desc) refl) } in
+    let ends_having : EndsCond g = record {
+      dot = at_g (s.Mark marks.Dot) (differs (s.Mark marks.Semicolon) (s.Mark marks.Dot) refl) (differs (s.Word words.Order) (s.Mark marks.Dot) refl);
+      and = at_g (s.Word words.And) (differs (s.Mark marks.Semicolon) (s.Word words.And) refl) (differs (s.Word words.Order) (s.Word words.And) refl);
+      or = at_g (s.Word words.Or) (differs (s.Mark marks.Semicolon) (s.Word words.Or) refl) (differs (s.Word words.Order) (s.Word words.Or) refl);
+    } in
+    let p = filter_read words.Where IsColumn tame_column begins_column (λ deep. column_at) complete_column where_is d within_c
+    (at_e (s.Word words.Where) (differs (s.Mark marks.Semicolon) (s.Word words.Where) refl) (differs (s.Word words.Order) (s.Word words.Where) refl) (differs (s.Word words.Having) (s.Word words.Where) refl) (differs (s.Word words.Group) (s.Word words.Where) refl)) ends_where in
+    let q = groups_read groups_are (at_f (s.Word words.Group) (differs (s.Mark marks.Semicolon) (s.Word words.Group) refl) (differs (s.Word words.Order) (s.Word words.Group) refl) (differs (s.Word words.Having) (s.Word words.Group) refl))
+    (at_f (s.Mark marks.Dot) (differs (s.Mark marks.Semicolon) (s.Mark marks.Dot) refl) (differs (s.Word words.Order) (s.Mark marks.Dot) refl) (differs (s.Word words.Having) (s.Mark marks.Dot) refl))
+    (at_f (s.Mark marks.Comma) (differs (s.Mark marks.Semicolon) (s.Mark marks.Comma) refl) (differs (s.Word words.Order) (s.Mark marks.Comma) refl) (differs (s.Word words.Having) (s.Mark marks.Comma) refl)) in
+    let v = filter_read words.Having IsOutput tame_output begins_output output_at complete_output having_is d within_f (at_g (s.Word words.Having) (differs (s.Mark marks.Semicolon) (s.Word words.Having) refl) (differs (s.Word words.Order) (s.Word words.Having) refl)) ends_having in
+    let ends_key : EndsKey k = record { asc = end_stops last (s.Word words.Asc) (differs (s.Mark marks.Semicolon) (s.Word words.Asc) refl); desc = end_stops last (s.Word words.Desc) (differs (s.Mark marks.Semicolon) (s.Word words.Desc) refl) } in
     let r = orders_read orders_are (end_stops last (s.Word words.Order) (differs (s.Mark marks.Semicolon) (s.Word words.Order) refl)) ends_key (end_stops last (s.Mark marks.Comma) (differs (s.Mark marks.Semicolon) (s.Mark marks.Comma) refl)) in
-    let comma_stops = where_stops where_is (s.Mark marks.Comma) (differs (s.Word words.Where) (s.Mark marks.Comma) refl) (stops_e (s.Mark marks.Comma) (differs (s.Mark marks.Semicolon) (s.Mark marks.Comma) refl) (differs (s.Word words.Order) (s.Mark marks.Comma) refl) (differs (s.Word words.Group) (s.Mark marks.Comma) refl)) in
-    query_goes d a b c e f g items from w xs ys (items_read d a b items one h) (names_read b c from two comma_stops) p q r (ends_read last)
+    let comma_stops = filter_stops words.Where IsColumn where_is (s.Mark marks.Comma) (differs (s.Word words.Where) (s.Mark marks.Comma) refl)
+    (at_e (s.Mark marks.Comma) (differs (s.Mark marks.Semicolon) (s.Mark marks.Comma) refl) (differs (s.Word words.Order) (s.Mark marks.Comma) refl) (differs (s.Word words.Having) (s.Mark marks.Comma) refl) (differs (s.Word words.Group) (s.Mark marks.Comma) refl)) in
+    query_goes d a b c e f g k items from w xs having ys (items_read d a b items one h) (names_read b c from two comma_stops) p q v r (ends_read last)
 
 -- tokens spell one query at most
 pub one_meaning : (ts : List Token) (x y : Select) → Parses ts x → Parses ts y → x ≡ y

@@ -9,11 +9,10 @@ use Rattle.ssb_sql.specs.declared.token.Token.{Token}
 use Rattle.ssb_sql.specs.declared.token.Mark.{Mark}
 use Rattle.ssb_terms.specs.declared.keyword.Keyword.TheVariants as words
 use Rattle.ssb_sql.specs.declared.token.Mark.TheVariants as marks
-use Rattle.ssb_sql.specs.declared.named.ColumnName.{ColumnName}
 use Rattle.ssb_terms.specs.declared.literal.Literal.{Literal}
 use Rattle.ssb_trees.specs.declared.operand.Operand.TheVariants as operand
 use Rattle.ssb_trees.specs.declared.condition.Condition.TheVariants as c
-use Rattle.ssb_sql.specs.Forms.{Spelling, IsList, IsColumn, IsLiteral, IsOperand, chain_of, word, mark}
+use Rattle.ssb_sql.specs.Forms.{Spelling, IsList, IsLiteral, IsOperand, chain_of, word, mark}
 use Rattle.ssb_trees.specs.Conditions.{Filter}
 use Rattle.ssb_trees.specs.declared.operand.Operand.{Operand}
 
@@ -72,7 +71,3 @@ mutual
   pub data IsTest {C : Type 0} (R : Spelling C) : List Token → List Token → Filter C → Type 0 where
     parens : {from to : List Token} {x : Filter C} → IsCond R from (mark marks.Close ∷ to) x → IsTest R (mark marks.Open ∷ from) to x
     bare : {from to : List Token} {x : Filter C} → IsBare R from to x → IsTest R from to x
-
--- a condition of WHERE
-abbrev pub IsWhereCond : Spelling (Filter ColumnName)
-IsWhereCond = IsCond IsColumn

@@ -1,5 +1,5 @@
 -- Which tokens spell which query.
--- Source: SQL-92, 7.9 <query specification>, 6.5 <set function specification>, 7.4 to 7.7 and 13.1 <order by clause>, cut down.
+-- Source: SQL-92, 7.9 <query specification>, 6.5 <set function specification>, 7.4 to 7.8 and 13.1 <order by clause>, cut down.
 use Rattle.std.specs.Prelude.{ℕ, true, false, List, [], ◌∷◌, Option, Some, None}
 use Rattle.ssb_sql.specs.declared.token.Token.{Token}
 use Rattle.ssb_sql.specs.declared.token.Token.TheVariants.{Name, Number}
@@ -17,9 +17,9 @@ use Rattle.ssb_sql.specs.declared.select.Key.{Key}
 use Rattle.ssb_sql.specs.declared.select.Key.TheVariants as k
 use Rattle.ssb_sql.specs.declared.select.Order.{Order}
 use Rattle.ssb_sql.specs.declared.select.Select.{Select}
-use Rattle.ssb_sql.specs.Forms.{IsList, IsNamed, IsColumn, word, mark}
+use Rattle.ssb_sql.specs.Forms.{Spelling, IsList, IsNamed, IsColumn, word, mark}
 use Rattle.ssb_sql.specs.Expressions.{IsExpr}
-use Rattle.ssb_sql.specs.Conditions.{IsWhereCond}
+use Rattle.ssb_sql.specs.Conditions.{IsCond}
 use Rattle.ssb_trees.specs.Conditions.{Filter}
 use Rattle.ssb_trees.specs.declared.aggregate.Aggregate.{Aggregate}
 use Rattle.ssb_trees.specs.declared.expr.Expr.{Expr}
@@ -46,10 +46,18 @@ pub data IsItem : List Token → List Token → Item → Type 0 where
   unnamed : {from to : List Token} {x : Output} → IsOutput from to x → IsItem from to (record { output = x; alias = None })
   named : {from to : List Token} {x : Output} {n : List ℕ} → IsOutput from (word words.As ∷ Name n ∷ to) x → IsItem from to (record { output = x; alias = Some n })
 
+-- [word cond], over what R spells
+pub data IsFilter {C : Type 0} (w : Keyword) (R : Spelling C) : List Token → List Token → Option (Filter C) → Type 0 where
+  no_filter : {to : List Token} → IsFilter w R to to None
+  filter : {from to : List Token} {x : Filter C} → IsCond R from to x → IsFilter w R (word w ∷ from) to (Some x)
+
 -- [WHERE cond]
-pub data IsWhere : List Token → List Token → Option (Filter ColumnName) → Type 0 where
-  no_where : {to : List Token} → IsWhere to to None
-  where_cond : {from to : List Token} {x : Filter ColumnName} → IsWhereCond from to x → IsWhere (word words.Where ∷ from) to (Some x)
+abbrev pub IsWhere : Spelling (Option (Filter ColumnName))
+IsWhere = IsFilter words.Where IsColumn
+
+-- [HAVING cond], where an aggregate may stand for a column
+abbrev pub IsHaving : Spelling (Option (Filter Output))
+IsHaving = IsFilter words.Having IsOutput
 
 -- [GROUP BY column {"," column}]
 pub data IsGroups : List Token → List Token → List ColumnName → Type 0 where
@@ -77,8 +85,8 @@ pub data IsEnd : List Token → Type 0 where
   end : IsEnd []
   semicolon : IsEnd (mark marks.Semicolon ∷ [])
 
--- query = SELECT item {"," item} FROM name {"," name} [WHERE cond] [GROUP BY column {"," column}] [ORDER BY key {"," key}] [";"]
+-- query = SELECT item {"," item} FROM name {"," name} [WHERE cond] [GROUP BY column {"," column}] [HAVING cond] [ORDER BY key {"," key}] [";"]
 pub data Parses : List Token → Select → Type 0 where
-  query : {a b c d e f : List Token} {items : List Item} {from : List (List ℕ)} {condition : Option (Filter ColumnName)} {groups : List ColumnName} {orders : List Order}
-      → IsList IsItem a (word words.From ∷ b) items → IsList IsNamed b c from → IsWhere c d condition → IsGroups d e groups → IsOrders e f orders → IsEnd f
-      → Parses (word words.Select ∷ a) (record { items = items; from = from; condition = condition; groups = groups; orders = orders })
+  query : {a b c d e f g : List Token} {items : List Item} {from : List (List ℕ)} {condition : Option (Filter ColumnName)} {groups : List ColumnName} {having : Option (Filter Output)} {orders : List Order}
+      → IsList IsItem a (word words.From ∷ b) items → IsList IsNamed b c from → IsWhere c d condition → IsGroups d e groups → IsHaving e f having → IsOrders f g orders → IsEnd g
+      → Parses (word words.Select ∷ a) (record { items = items; from = from; condition = condition; groups = groups; having = having; orders = orders })

@@ -68,8 +68,9 @@ alias_at ts = choose (after (s.Word words.As) ts) (λ rest. name_at rest >>= λ 
 unfoldable pub item_at : ℕ → Parser Item
 item_at d ts = output_at d ts >>= λ x. alias_at x.1 >>= λ n. Some (item_of x.0 n.0, n.1)
 
-unfoldable pub where_at : ℕ → Parser (Option (Filter ColumnName))
-where_at d ts = choose (after (s.Word words.Where) ts) (λ rest. cond_at (λ deep. column_at) d rest >>= λ x. Some (Some x.0, x.1)) (Some (None, ts))
+-- the word and a condition over what p reads; or nothing
+unfoldable pub filter_at : {C : Type 0} → Keyword → (ℕ → Parser C) → ℕ → Parser (Option (Filter C))
+filter_at word p d ts = choose (after (s.Word word) ts) (λ rest. cond_at p d rest >>= λ x. Some (Some x.0, x.1)) (Some (None, ts))
 
 -- the word, BY, p {"," p}; or nothing
 unfoldable pub by_at : {A : Type 0} → Keyword → Parser A → Parser (List A)
@@ -96,25 +97,33 @@ is_nil (t ∷ ts) = false
 unfoldable pub ends : List Token → Bool
 ends ts = choose (after (s.Mark marks.Semicolon) ts) is_nil (is_nil ts)
 
-abbrev pub select_of : List Item → List (List ℕ) → Option (Filter ColumnName) → List ColumnName → List Order → Select
-select_of items from condition groups orders = record { items = items; from = from; condition = condition; groups = groups; orders = orders }
+-- WHERE, GROUP BY, HAVING and ORDER BY
+abbrev pub Clauses : Type 0
+Clauses = Option (Filter ColumnName) × List ColumnName × Option (Filter Output) × List Order
+
+abbrev pub select_of : List Item → List (List ℕ) → Option (Filter ColumnName) → List ColumnName → Option (Filter Output) → List Order → Select
+select_of items from condition groups having orders = record { items = items; from = from; condition = condition; groups = groups; having = having; orders = orders }
 
 -- ORDER BY, and nothing behind it but the end
 unfoldable pub ordered_at : List Token → Option (List Order)
 ordered_at ts = by_at words.Order order_at ts >>= λ o. if ends o.1 then Some o.0 else None
 
+-- HAVING, and what follows
+unfoldable pub kept_at : ℕ → List Token → Option (Option (Filter Output) × List Order)
+kept_at d ts = filter_at words.Having output_at (suc d) ts >>= λ h. ordered_at h.1 >>= λ o. Some (h.0, o)
+
 -- GROUP BY, and what follows
-unfoldable pub grouped_at : List Token → Option (List ColumnName × List Order)
-grouped_at ts = by_at words.Group column_at ts >>= λ g. ordered_at g.1 >>= λ o. Some (g.0, o)
+unfoldable pub grouped_at : ℕ → List Token → Option (List ColumnName × Option (Filter Output) × List Order)
+grouped_at d ts = by_at words.Group column_at ts >>= λ g. kept_at d g.1 >>= λ h. Some (g.0, h.0, h.1)
 
 -- WHERE, and what follows
-unfoldable pub filtered_at : ℕ → List Token → Option (Option (Filter ColumnName) × List ColumnName × List Order)
-filtered_at d ts = where_at (suc d) ts >>= λ w. grouped_at w.1 >>= λ g. Some (w.0, g.0, g.1)
+unfoldable pub filtered_at : ℕ → List Token → Option Clauses
+filtered_at d ts = filter_at words.Where (λ deep. column_at) (suc d) ts >>= λ w. grouped_at d w.1 >>= λ g. Some (w.0, g.0, g.1, g.2)
 
 -- FROM, and what follows
-unfoldable pub joined_at : ℕ → List Token → Option (List (List ℕ) × Option (Filter ColumnName) × List ColumnName × List Order)
-joined_at d ts = after (s.Word words.From) ts >>= λ tables. list_at name_at tables >>= λ f. filtered_at d f.1 >>= λ w. Some (f.0, w.0, w.1, w.2)
+unfoldable pub joined_at : ℕ → List Token → Option (List (List ℕ) × Clauses)
+joined_at d ts = after (s.Word words.From) ts >>= λ tables. list_at name_at tables >>= λ f. filtered_at d f.1 >>= λ w. Some (f.0, w)
 
 -- a query up to its end, with at most this many open parentheses
 unfoldable pub query_at : ℕ → List Token → Option Select
-query_at d ts = after (s.Word words.Select) ts >>= λ start. list_at (item_at d) start >>= λ i. joined_at d i.1 >>= λ f. Some (select_of i.0 f.0 f.1 f.2 f.3)
+query_at d ts = after (s.Word words.Select) ts >>= λ start. list_at (item_at d) start >>= λ i. joined_at d i.1 >>= λ f. Some (select_of i.0 f.0 f.1.0 f.1.1 f.1.2 f.1.3)

@@ -10,7 +10,7 @@ ghost use Rattle.ssb_sql.specs.declared.token.Sign.TheVariants as s;
 use crate::chain::{COMMA, chain};
 use crate::named::ColumnName;
 use crate::read_expr::expression;
-use crate::read_parts::column;
+use crate::read_parts::{Subject, column};
 use crate::select::{Item, Key, Order, Output};
 use crate::steps::{Stop, after, closing, expect, name};
 use crate::token::{Mark, Sign, Token};
@@ -89,6 +89,15 @@ fn output(alloc: Global, depth: usize, tokens: &[Token]) -> Result<(Output, &[To
             let (found, rest) = column(alloc, tokens)?;
             Ok((Output::Column(found), rest))
         }
+    }
+}
+
+// In HAVING an aggregate may stand for a column.
+impl Subject for Output {
+    ghost read_at = { output_at };
+
+    fn read(alloc: Global, depth: usize, tokens: &[Token]) -> Result<(Output, &[Token]), Stop> {
+        output(alloc, depth, tokens)
     }
 }
 

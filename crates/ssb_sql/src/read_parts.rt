@@ -84,7 +84,7 @@ pub(crate) fn literal(alloc: Global, tokens: &[Token]) -> Result<(Literal, &[Tok
     plain_literal(alloc, tokens)
 }
 
-/// What may stand in a test beside literals: a column in WHERE.
+/// What may stand in a test beside literals: a column in WHERE, in HAVING an aggregate too.
 pub(crate) trait Subject: Drop {
     /// How it is read where at most so many more parentheses may be opened.
     ghost read_at: { ℕ → Parser Self };

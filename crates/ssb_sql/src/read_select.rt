@@ -4,7 +4,7 @@ ghost use Rattle.std.specs.Prelude.{◌≡◌, [], ◌∷◌, ◌+◌, ◌<◌, 
 ghost use Rattle.ssb_sql.specs.Reading.{seen};
 ghost use Rattle.ssb_sql.specs.Steps.{Gives, Parser, Reads, Shrinks, after, more_at, list_at, name_at};
 ghost use Rattle.ssb_sql.specs.ReadParts.{column_at};
-ghost use Rattle.ssb_sql.specs.ReadSelects.{item_at, where_at, by_at, order_at, is_nil, ends, ordered_at, grouped_at, filtered_at, joined_at, query_at};
+ghost use Rattle.ssb_sql.specs.ReadSelects.{item_at, output_at, filter_at, by_at, order_at, is_nil, ends, ordered_at, kept_at, grouped_at, filtered_at, joined_at, query_at};
 ghost use Rattle.ssb_sql.specs.declared.token.Mark.TheVariants as marks;
 ghost use Rattle.ssb_sql.specs.declared.token.Sign.TheVariants as s;
 
@@ -12,8 +12,8 @@ use crate::chain::{COMMA, chain};
 use crate::named::ColumnName;
 use crate::read_condition::condition;
 use crate::read_item::{items, order};
-use crate::read_parts::column;
-use crate::select::{Order, Select};
+use crate::read_parts::{Subject, column};
+use crate::select::{Order, Output, Select};
 use crate::steps::{Stop, after, expect, name};
 use crate::token::{Mark, Sign, Token};
 use sqlite_items::Items;
@@ -21,15 +21,25 @@ use ssb_terms::{Keyword, Name};
 use ssb_trees::Filter;
 use std::alloc::Global;
 
-#[tactic(auto, unfolding(crate::specs::ReadSelects::where_at))]
-fn condition_if(
+// WHERE, GROUP BY, HAVING and ORDER BY.
+type Clauses = (
+    Option<Filter<ColumnName>>,
+    Items<ColumnName>,
+    Option<Filter<Output>>,
+    Items<Order>,
+);
+
+// The word and a condition; or nothing.
+#[tactic(auto, unfolding(crate::specs::ReadSelects::filter_at))]
+fn condition_if<C: Subject>(
     alloc: Global,
+    word: Keyword,
     depth: usize,
     tokens: &[Token],
-) -> Result<(Option<Filter<ColumnName>>, &[Token]), Stop>
-    ensures { Gives seen result (where_at depth tokens.now) }
+) -> Result<(Option<Filter<C>>, &[Token]), Stop>
+    ensures { Gives seen result (filter_at word C.read_at depth tokens.now) }
 {
-    match after(tokens, Sign::Word(Keyword::Where)) {
+    match after(tokens, Sign::Word(word)) {
         Some(rest) => {
             let (found, rest) = condition(alloc, depth, rest)?;
             Ok((Some(found), rest))
@@ -109,51 +119,55 @@ fn ordered(alloc: Global, tokens: &[Token]) -> Result<Items<Order>, Stop>
     }
 }
 
+// HAVING, and what follows.
+#[tactic(auto, unfolding(crate::specs::ReadSelects::kept_at))]
+fn kept(
+    alloc: Global,
+    depth: usize,
+    tokens: &[Token],
+) -> Result<(Option<Filter<Output>>, Items<Order>), Stop>
+    requires { depth < 2 ^ 32 }
+    ensures { Gives (λ x. x) result (kept_at depth tokens.now) }
+{
+    let (having, rest) = condition_if(alloc, Keyword::Having, depth + 1, tokens)?;
+    ordered(alloc, rest).map(|orders| (having, orders))
+}
+
 // GROUP BY, and what follows.
 #[tactic(auto, unfolding(crate::specs::ReadSelects::grouped_at))]
-fn grouped(alloc: Global, tokens: &[Token]) -> Result<(Items<ColumnName>, Items<Order>), Stop>
-    ensures { Gives (λ x. x) result (grouped_at tokens.now) }
+fn grouped(
+    alloc: Global,
+    depth: usize,
+    tokens: &[Token],
+) -> Result<(Items<ColumnName>, Option<Filter<Output>>, Items<Order>), Stop>
+    requires { depth < 2 ^ 32 }
+    ensures { Gives (λ x. x) result (grouped_at depth tokens.now) }
 {
     let (groups, rest) = by(alloc, Keyword::Group, tokens, |list| columns(alloc, list))?;
-    ordered(alloc, rest).map(|orders| (groups, orders))
+    kept(alloc, depth, rest).map(|(having, orders)| (groups, having, orders))
 }
 
 // WHERE, and what follows.
 #[tactic(auto, unfolding(crate::specs::ReadSelects::filtered_at))]
-fn filtered(
-    alloc: Global,
-    depth: usize,
-    tokens: &[Token],
-) -> Result<(Option<Filter<ColumnName>>, Items<ColumnName>, Items<Order>), Stop>
+fn filtered(alloc: Global, depth: usize, tokens: &[Token]) -> Result<Clauses, Stop>
     requires { depth < 2 ^ 32 }
     ensures { Gives (λ x. x) result (filtered_at depth tokens.now) }
 {
-    let (condition, rest) = condition_if(alloc, depth + 1, tokens)?;
-    grouped(alloc, rest).map(|(groups, orders)| (condition, groups, orders))
+    let (condition, rest) = condition_if(alloc, Keyword::Where, depth + 1, tokens)?;
+    let (groups, having, orders) = grouped(alloc, depth, rest)?;
+    Ok((condition, groups, having, orders))
 }
 
 // FROM, and what follows.
 #[tactic(auto, unfolding(crate::specs::ReadSelects::joined_at), using(crate::proofs::PartFacts::name_shrinks))]
-fn joined(
-    alloc: Global,
-    depth: usize,
-    tokens: &[Token],
-) -> Result<
-    (
-        Items<Name>,
-        Option<Filter<ColumnName>>,
-        Items<ColumnName>,
-        Items<Order>,
-    ),
-    Stop,
->
+fn joined(alloc: Global, depth: usize, tokens: &[Token]) -> Result<(Items<Name>, Clauses), Stop>
     requires { depth < 2 ^ 32 }
     ensures { Gives (λ x. x) result (joined_at depth tokens.now) }
 {
     let tables = expect(tokens, Sign::Word(Keyword::From))?;
     let (from, rest) = chain(alloc, COMMA, tables, |start: &[Token]| name(alloc, start))?;
-    let (condition, groups, orders) = filtered(alloc, depth, rest)?;
-    Ok((from, condition, groups, orders))
+    let clauses = filtered(alloc, depth, rest)?;
+    Ok((from, clauses))
 }
 
 /// Reads a query up to its end, with at most `depth` open parentheses.
@@ -164,12 +178,13 @@ pub(crate) fn query(alloc: Global, depth: usize, tokens: &[Token]) -> Result<Sel
 {
     let start = expect(tokens, Sign::Word(Keyword::Select))?;
     let (items, rest) = items(alloc, depth, start)?;
-    let (from, condition, groups, orders) = joined(alloc, depth, rest)?;
+    let (from, (condition, groups, having, orders)) = joined(alloc, depth, rest)?;
     Ok(Select {
         items,
         from,
         condition,
         groups,
+        having,
         orders,
     })
 }

@@ -51,6 +51,8 @@ pub struct Select {
     pub condition: Option<Filter<ColumnName>>,
     /// The columns of GROUP BY; none where it is not there.
     pub groups: Items<ColumnName>,
+    /// The condition of HAVING, in which an aggregate may stand for a column.
+    pub having: Option<Filter<Output>>,
     /// The keys of ORDER BY; none where it is not there.
     pub orders: Items<Order>,
 }
@@ -63,12 +65,14 @@ impl Drop for Select {
             from,
             condition,
             groups,
+            having,
             orders,
         } = self;
         drop(items);
         drop(from);
         drop(condition);
         drop(groups);
+        drop(having);
         drop(orders);
     }
 }

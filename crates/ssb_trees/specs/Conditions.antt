@@ -29,6 +29,30 @@ mapped_layer O P f (Condition-F.IsNotNull x) = condition.IsNotNull (f x)
 abbrev pub mapped : (O P : Type 0) → (O → P) → Condition O → Condition P
 mapped O P f = fold-Condition O (Condition P) (mapped_layer O P f)
 
+-- What an operand becomes may depend on those before it: a state is handed on from one to the next, in the order of the text.
+
+-- what each makes of the state that it is handed, and the state after the last
+abbrev pub each_in_order : {X S : Type 0} → List (S → X × S) → S → List X × S
+each_in_order [] s = ([], s)
+each_in_order (make ∷ makes) s = let x = make s in let xs = each_in_order makes x.1 in (x.0 ∷ xs.0, xs.1)
+
+-- one form of condition, with what each operand becomes in its turn
+abbrev pub in_order_layer : (O P S : Type 0) → (S → O → P) → (S → O → S) → Condition-F O (S → Condition P × S) → S → Condition P × S
+in_order_layer O P S given next (Condition-F.Any parts) s = let r = each_in_order parts s in (condition.Any r.0, r.1)
+in_order_layer O P S given next (Condition-F.All parts) s = let r = each_in_order parts s in (condition.All r.0, r.1)
+in_order_layer O P S given next (Condition-F.Not part) s = let r = part s in (condition.Not r.0, r.1)
+in_order_layer O P S given next (Condition-F.Compare op a b) s = let t = next s a in (condition.Compare op (given s a) (given t b), next t b)
+in_order_layer O P S given next (Condition-F.Between x a b) s = let t = next s x in let u = next t a in (condition.Between (given s x) (given t a) (given u b), next u b)
+in_order_layer O P S given next (Condition-F.NotBetween x a b) s = let t = next s x in let u = next t a in (condition.NotBetween (given s x) (given t a) (given u b), next u b)
+in_order_layer O P S given next (Condition-F.In x literals) s = (condition.In (given s x) literals, next s x)
+in_order_layer O P S given next (Condition-F.NotIn x literals) s = (condition.NotIn (given s x) literals, next s x)
+in_order_layer O P S given next (Condition-F.IsNull x) s = (condition.IsNull (given s x), next s x)
+in_order_layer O P S given next (Condition-F.IsNotNull x) s = (condition.IsNotNull (given s x), next s x)
+
+-- the same condition with what each operand becomes in its turn, and the state after the last
+abbrev pub in_order : (O P S : Type 0) → (S → O → P) → (S → O → S) → Condition O → S → Condition P × S
+in_order O P S given next = fold-Condition O (S → Condition P × S) (in_order_layer O P S given next)
+
 -- one form of condition, with the operands of the conditions in it
 abbrev pub operands_layer : (O : Type 0) → Condition-F O (List O) → List O
 operands_layer O (Condition-F.Any parts) = concat parts

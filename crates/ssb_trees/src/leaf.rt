@@ -19,6 +19,39 @@ pub trait Leaves<A, B> {
         ensures { IfOk result (λ b. b ≡ given self.now leaf.now) };
 }
 
+/// What each leaf of a tree becomes in its turn, in the order of the text.
+pub trait LeavesInOrder<A, B> {
+    /// What a leaf becomes.
+    ghost given: { Self → A → B };
+
+    /// What is left for the leaves behind it.
+    ghost next: { Self → A → Self };
+
+    /// Makes it.
+    ///
+    /// # Errors
+    ///
+    /// Only where a growth was refused.
+    fn leaf(&mut self, alloc: Global, leaf: &A) -> Result<B, AllocError>
+        ensures { IfOk result (λ b. (b ≡ given self.old leaf.now) × (self.new ≡ next self.old leaf.now)) };
+}
+
+// What each leaf becomes, whatever stands before it.
+#[derive(Clone, Copy)]
+pub(crate) struct Whatever<'a, M> {
+    pub leaves: &'a M,
+}
+
+impl<A, B, M: Leaves<A, B>> LeavesInOrder<A, B> for Whatever<'_, M> {
+    ghost given = { λ whatever a. M.given whatever.leaves.now a };
+
+    ghost next = { λ whatever a. whatever };
+
+    fn leaf(&mut self, alloc: Global, leaf: &A) -> Result<B, AllocError> {
+        self.leaves.leaf(alloc, leaf)
+    }
+}
+
 /// A test of the leaves of a tree.
 pub trait Test<A> {
     /// Whether a leaf passes.

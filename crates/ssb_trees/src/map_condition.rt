@@ -1,35 +1,35 @@
 // The same condition over other operands.
 
 ghost use Rattle.std.specs.Prelude.{◌≡◌, IfOk, map};
-ghost use Rattle.ssb_trees.specs.Conditions.{mapped};
+ghost use Rattle.ssb_trees.specs.Conditions.{each_in_order, in_order, mapped};
 
 use crate::condition::Condition;
-use crate::leaf::Leaves;
+use crate::leaf::{Leaves, LeavesInOrder, Whatever};
 use sqlite_items::{Boxed, Items};
 use ssb_terms::{Literal, copy_literals};
 use std::alloc::{AllocError, Global};
 
-fn mapped_two<O, P: Drop, M: Leaves<O, P>>(
+fn mapped_two<O, P: Drop, M: LeavesInOrder<O, P>>(
     alloc: Global,
-    operands: &M,
+    operands: &mut M,
     a: &O,
     b: &O,
 ) -> Result<(P, P), AllocError>
-    ensures { let f = M.given operands.now in IfOk result (λ two. two ≡ (f a.now, f b.now)) }
+    ensures { let t = M.next operands.old a.now in IfOk result (λ two. (two ≡ (M.given operands.old a.now, M.given t b.now)) × (operands.new ≡ M.next t b.now)) }
 {
     let a = operands.leaf(alloc, a)?;
     let b = operands.leaf(alloc, b)?;
     Ok((a, b))
 }
 
-fn mapped_three<O, P: Drop, M: Leaves<O, P>>(
+fn mapped_three<O, P: Drop, M: LeavesInOrder<O, P>>(
     alloc: Global,
-    operands: &M,
+    operands: &mut M,
     x: &O,
     a: &O,
     b: &O,
 ) -> Result<(P, P, P), AllocError>
-    ensures { let f = M.given operands.now in IfOk result (λ three. three ≡ (f x.now, f a.now, f b.now)) }
+    ensures { let t = M.next operands.old x.now in let u = M.next t a.now in IfOk result (λ three. (three ≡ (M.given operands.old x.now, M.given t a.now, M.given u b.now)) × (operands.new ≡ M.next u b.now)) }
 {
     let x = operands.leaf(alloc, x)?;
     let (a, b) = mapped_two(alloc, operands, a, b)?;
@@ -37,13 +37,13 @@ fn mapped_three<O, P: Drop, M: Leaves<O, P>>(
 }
 
 // An operand, and the literals that it is compared to.
-fn mapped_test<O, P: Drop, M: Leaves<O, P>>(
+fn mapped_test<O, P: Drop, M: LeavesInOrder<O, P>>(
     alloc: Global,
-    operands: &M,
+    operands: &mut M,
     x: &O,
     literals: &[Literal],
 ) -> Result<(P, Items<Literal>), AllocError>
-    ensures { IfOk result (λ test. test ≡ (M.given operands.now x.now, literals.now)) }
+    ensures { IfOk result (λ test. (test ≡ (M.given operands.old x.now, literals.now)) × (operands.new ≡ M.next operands.old x.now)) }
 {
     let literals = copy_literals(alloc, literals)?;
     let x = operands.leaf(alloc, x)?;
@@ -51,12 +51,12 @@ fn mapped_test<O, P: Drop, M: Leaves<O, P>>(
 }
 
 #[cycle(condition)]
-fn mapped_parts<O, P: Drop, M: Leaves<O, P>>(
+fn mapped_parts<O, P: Drop, M: LeavesInOrder<O, P>>(
     alloc: Global,
-    operands: &M,
+    operands: &mut M,
     parts: &[Condition<O>],
 ) -> Result<Items<Condition<P>>, AllocError>
-    ensures { IfOk result (λ all. all ≡ map (mapped _ _ (M.given operands.now)) parts.now) }
+    ensures { let r = each_in_order (map (in_order _ _ _ M.given M.next) parts.now) operands.old in IfOk result (λ all. (all ≡ r.0) × (operands.new ≡ r.1)) }
 {
     let mut all = Items::new(alloc);
     for part in parts {
@@ -66,12 +66,12 @@ fn mapped_parts<O, P: Drop, M: Leaves<O, P>>(
 }
 
 #[cycle(condition)]
-fn mapped_condition<O, P: Drop, M: Leaves<O, P>>(
+fn mapped_condition<O, P: Drop, M: LeavesInOrder<O, P>>(
     alloc: Global,
-    operands: &M,
+    operands: &mut M,
     condition: &Condition<O>,
 ) -> Result<Condition<P>, AllocError>
-    ensures { IfOk result (λ c. c ≡ mapped _ _ (M.given operands.now) condition.now) }
+    ensures { let r = in_order _ _ _ M.given M.next condition.now operands.old in IfOk result (λ c. (c ≡ r.0) × (operands.new ≡ r.1)) }
 {
     match condition {
         Condition::Any(parts) => {
@@ -123,6 +123,21 @@ impl<O> Condition<O> {
         operands: &M,
     ) -> Result<Condition<P>, AllocError>
         ensures { IfOk result (λ c. c ≡ mapped _ _ (M.given operands.now) self.now) }
+    {
+        mapped_condition(alloc, &mut Whatever { leaves: operands }, self)
+    }
+
+    /// The same condition over what each operand becomes in its turn, from left to right.
+    ///
+    /// # Errors
+    ///
+    /// Only where a growth was refused.
+    pub fn mapped_in_order<P: Drop, M: LeavesInOrder<O, P>>(
+        &self,
+        alloc: Global,
+        operands: &mut M,
+    ) -> Result<Condition<P>, AllocError>
+        ensures { let r = in_order _ _ _ M.given M.next self.now operands.old in IfOk result (λ c. (c ≡ r.0) × (operands.new ≡ r.1)) }
     {
         mapped_condition(alloc, operands, self)
     }

@@ -1,10 +1,10 @@
-use Rattle.std.proofs.Common.{◌≡◌, ◌++◌, drop, map}
+use Rattle.std.proofs.Common.{◌≡◌, ◌++◌, drop}
 use Rattle.std.specs.List.{list_any}
-use Rattle.ssb_rows.specs.Entries.{entry_beyond, entry_row}
+use Rattle.ssb_rows.specs.Entries.{entry_beyond, entry_rows}
 use Rattle.ssb_rows.proofs.rows_of.group_rows.Given as goal
 
 -- the rest decides what the whole decides
 abbrev pub invariant-loop-at : goal.invariant-loop-at
 invariant-loop-at l =
     (list_any entry_beyond (drop l.at l.groups.entries) ≡ list_any entry_beyond l.groups.entries)
-    × (l.rows.items ++ map (entry_row l.parts) (drop l.at l.groups.entries) ≡ map (entry_row l.parts) l.groups.entries)
+    × (l.rows.items ++ entry_rows l.parts (drop l.at l.groups.entries) ≡ entry_rows l.parts l.groups.entries)

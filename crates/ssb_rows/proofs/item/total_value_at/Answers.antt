@@ -1,10 +1,8 @@
-use Rattle.std.proofs.Common.{◌≡◌, ◌∙◌, map, sym, ap, subst}
-use Rattle.std.specs.Prelude.{IfOk}
-use Rattle.ssb_cells.specs.Values.{owned_cell}
+use Rattle.std.proofs.Common.{◌∙◌, map, sym, ap}
 use Rattle.ssb_groups.specs.Totals.{total_cell}
 use Rattle.ssb_rows.specs.Result.{is_beyond}
 use Rattle.ssb_rows.proofs.EntryFacts.{not_beyond_at, total-here, total-past}
-use Rattle.ssb_rows.proofs.rows_of.total_value_at.Goals as goal
+use Rattle.ssb_rows.proofs.item.total_value_at.Goals as goal
 
 pub total_value-requires : goal.total_value-requires
 total_value-requires c =
@@ -12,8 +10,7 @@ total_value-requires c =
 
 pub returns-in-Some : goal.returns-in-Some
 returns-in-Some c =
-    let here = total-here c.args.totals.now c.args.at c.in-Some.total.now c.in-Some.ensures.lookup.0 c.in-Some.ensures.lookup.1 in
-    subst (λ x. IfOk c.total_value.result (λ v. owned_cell v ≡ x)) (sym here) c.total_value.ensures
+    c.total_value.ensures ∙ sym (total-here c.args.totals.now c.args.at c.in-Some.total.now c.in-Some.ensures.lookup.0 c.in-Some.ensures.lookup.1)
 
 pub returns-in-None : goal.returns-in-None
 returns-in-None c = total-past c.args.totals.now c.args.at c.in-None.ensures.lookup.0

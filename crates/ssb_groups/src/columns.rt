@@ -158,7 +158,8 @@ impl Columns {
         Ok(values)
     }
 
-    // Joins totals to those of a group.
+    // Joins totals to those of a group. It is inlined, and so is what it calls: each row does it.
+    #[inline(always)]
     pub(crate) fn join(&self, into: &mut Totals, more: &Totals)
         requires into { AreTotals self.now into.old }
         requires more { AreTotals self.now more.now }

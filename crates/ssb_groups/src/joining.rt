@@ -51,18 +51,19 @@ impl Joining {
         }
     }
 
-    // The total over the values of both.
-    pub(crate) fn join(self, tables: &[Table], a: KeptTotal, b: KeptTotal) -> KeptTotal
-        requires joining { IsJoining tables.now self }
-        requires left { IsKept (values_by tables.now self) (kept_total a) }
-        requires right { IsKept (values_by tables.now self) (kept_total b) }
-        ensures joined { Fits self (spelt_cell (values_by tables.now self) (kept_total a)) (spelt_cell (values_by tables.now self) (kept_total b)) → spelt_cell (values_by tables.now self) (kept_total result) ≡ joined self (spelt_cell (values_by tables.now self) (kept_total a)) (spelt_cell (values_by tables.now self) (kept_total b)) }
-        ensures kept { IsKept (values_by tables.now self) (kept_total result) }
+    // Joins a total to another, which then is that over the values of both.
+    #[inline(always)]
+    pub(crate) fn join(&self, tables: &[Table], into: &mut KeptTotal, more: &KeptTotal)
+        requires joining { IsJoining tables.now self.now }
+        requires left { IsKept (values_by tables.now self.now) (kept_total into.old) }
+        requires right { IsKept (values_by tables.now self.now) (kept_total more.now) }
+        ensures joined { Fits self.now (spelt_cell (values_by tables.now self.now) (kept_total into.old)) (spelt_cell (values_by tables.now self.now) (kept_total more.now)) → spelt_cell (values_by tables.now self.now) (kept_total into.new) ≡ joined self.now (spelt_cell (values_by tables.now self.now) (kept_total into.old)) (spelt_cell (values_by tables.now self.now) (kept_total more.now)) }
+        ensures kept { IsKept (values_by tables.now self.now) (kept_total into.new) }
     {
         match self {
-            Joining::Adds => add(a, b),
-            Joining::Least(place) => lesser(tables, place, a, b),
-            Joining::Greatest(place) => greater(tables, place, a, b),
+            Joining::Adds => *into = add(*into, *more),
+            Joining::Least(place) => *into = lesser(tables, *place, *into, *more),
+            Joining::Greatest(place) => *into = greater(tables, *place, *into, *more),
         }
     }
 }

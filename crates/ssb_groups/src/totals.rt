@@ -38,6 +38,7 @@ impl<'a> Total<'a> {
 }
 
 // Joins each total to that at its place.
+#[inline(always)]
 fn join_each(tables: &[Table], joinings: &[Joining], into: &mut [KeptTotal], more: &[KeptTotal])
     requires joinings { AreJoinings tables.now joinings.now }
     requires into { AreKept (map (values_by tables.now) joinings.now) (map kept_total into.old) }
@@ -46,7 +47,7 @@ fn join_each(tables: &[Table], joinings: &[Joining], into: &mut [KeptTotal], mor
     ensures kept { AreKept (map (values_by tables.now) joinings.now) (map kept_total into.new) }
 {
     for at in 0..joinings.len() {
-        into[at] = joinings[at].join(tables, into[at], more[at]);
+        joinings[at].join(tables, &mut into[at], &more[at]);
     }
 }
 
@@ -105,6 +106,7 @@ impl Totals {
     }
 
     // Joins each to that at its place, by the joinings of a job.
+    #[inline(always)]
     pub(crate) fn join(&mut self, tables: &[Table], joinings: &[Joining], more: &Totals)
         requires joinings { AreJoinings tables.now joinings.now }
         requires into { AreKept (map (values_by tables.now) joinings.now) self.old }

@@ -5,9 +5,6 @@ use Rattle.ssb_groups.specs.declared.joining.Joining.TheVariants as joining
 use Rattle.ssb_groups.proofs.JoiningFacts.{below, front-all, joining-at, total-get, total-set, totals-fit, totals-more}
 use Rattle.ssb_groups.proofs.totals.join_each.Goals as goal
 
-pub slice_copy_out-join : goal.slice_copy_out-join
-slice_copy_out-join c = below (values_by c.args.tables.now) c.args.joinings.now c.loop-at.into c.loop-at.at c.loop-at.invariant.0 c.loop-at-test.true
-
 pub bounds-more-at : goal.bounds-more-at
 bounds-more-at c = below (values_by c.args.tables.now) c.args.joinings.now c.args.more.now c.loop-at.at c.requires.more c.loop-at-test.true
 
@@ -33,10 +30,10 @@ loop-at-preserved c =
     let xs = spelt (map f ws) (map kept_total c.args.into.now) in
     let kept = c.loop-at.invariant.0 in
     let e : suc i ≡ i + 1 = omega arith in (
-      total-set f ws into i c.join.result kept c.join.ensures.kept,
+      total-set f ws into i c.join.new.into kept c.join.ensures.kept,
       λ fit.
           let is = c.loop-at.invariant.1 fit in
-          totals-more f i ws into more xs c.join.result fit is kept c.requires.more c.loop-at-test.true (c.join.ensures.joined (totals-fit f i ws into more xs fit is kept c.requires.more c.loop-at-test.true))
+          totals-more f i ws into more xs c.join.new.into fit is kept c.requires.more c.loop-at-test.true (c.join.ensures.joined (totals-fit f i ws into more xs fit is kept c.requires.more c.loop-at-test.true))
           ∙ ap (λ (n : ℕ). joined_front n ws xs (spelt (map f ws) (map kept_total more))) e,
     )
 

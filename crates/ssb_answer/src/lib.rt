@@ -12,4 +12,4 @@ mod whole;
 pub use bytes::answer_bytes;
 pub use readers::{run, run_alone};
 pub use ssb_pipeline::{Gate, NoGate};
-pub use whole::{answer_job, answer_shared, job_of_text, run_alone_from, run_from, run_in_pieces};
+pub use whole::{answer_job, answer_shared, job_of_text, run_alone_from, run_from};

@@ -6,7 +6,7 @@ ghost use Rattle.ssb_reply.specs.Reply.{Replies};
 ghost use Rattle.ssb_reply.specs.Running.{LeavesSink};
 
 use crate::whole::{run_alone_from, run_from};
-use ssb_load::{Catalog, In, Joined, Source};
+use ssb_load::{Catalog, In, Joined, PIECE_SIZE, Source};
 use ssb_pipeline::Gate;
 use ssb_reply::{RunFault, Settings};
 use ssb_rows::Sink;
@@ -75,7 +75,15 @@ pub fn run_alone<R: Read + Drop, W: Sink>(
     let Ok(mut sources) = sources_of(alloc, readers) else {
         return Err(RunFault::Memory);
     };
-    run_alone_from(alloc, catalog, &mut sources, text, morsel_size, out)
+    run_alone_from(
+        alloc,
+        catalog,
+        &mut sources,
+        text,
+        morsel_size,
+        PIECE_SIZE,
+        out,
+    )
 }
 
 /// Answers a query over readers by workers in threads of their own: [`run_from`](crate::run_from) over

@@ -176,8 +176,9 @@ fn answer_text_shared<R: Threads + Wait + Sync, G: Gate + Sync>(
 /// and writes the answer's rows. It loads all tables, reads the query, binds it, answers and writes;
 /// the first fault ends it, and nothing is written before the answer is complete.
 ///
-/// The caller's thread does all of it, and works through the fact table in morsels of `morsel_size`
-/// rows. Their size changes no answer.
+/// The caller's thread does all of it. It reads each source in pieces of `piece_size` bytes, or more
+/// where a line is longer, and works through the fact table in morsels of `morsel_size` rows. Neither
+/// size changes an answer.
 ///
 /// # Errors
 ///
@@ -191,6 +192,7 @@ pub fn run_alone_from<S: Source, W: Sink>(
     sources: &mut [S],
     text: &str,
     morsel_size: u32,
+    piece_size: usize,
     out: &mut W,
 ) -> Result<(), RunFault>
     requires sources { length sources.old ≡ length catalog }
@@ -198,7 +200,10 @@ pub fn run_alone_from<S: Source, W: Sink>(
     ensures runs { RunsFrom S.given S.failures S.ends S.whole catalog text.now sources.old sources.new result (W.taken out.old) (W.taken out.new) }
     ensures sink { LeavesSink result (W.taken out.old) (W.taken out.new) (W.failures out.old) (W.failures out.new) (W.contents out.old) (W.contents out.new) }
 {
-    run_in_pieces(alloc, catalog, sources, text, morsel_size, out, PIECE_SIZE)
+    let tables = load_all(alloc, &catalog, sources, piece_size)?;
+    let answer = answer_text(alloc, &catalog, tables, text, morsel_size)?;
+    write_answer(&answer, out)?;
+    Ok(())
 }
 
 /// The same over threads. A table without a key is read by a thread for each of the sources that stand
@@ -225,32 +230,6 @@ pub fn run_from<R: Threads + Wait + Sync, S: Source + Send, G: Gate + Sync, W: S
 {
     let tables = load_all_with(rt, alloc, &catalog, sources, PIECE_SIZE)?;
     let answer = answer_text_shared(rt, alloc, &catalog, tables, text, settings, gate)?;
-    write_answer(&answer, out)?;
-    Ok(())
-}
-
-/// [`run_alone_from`] with sources read in pieces of this many bytes, where no line is longer. The size
-/// changes no answer.
-///
-/// # Errors
-///
-/// As of [`run_alone_from`].
-pub fn run_in_pieces<S: Source, W: Sink>(
-    alloc: Global,
-    catalog: Catalog,
-    sources: &mut [S],
-    text: &str,
-    morsel_size: u32,
-    out: &mut W,
-    piece_size: usize,
-) -> Result<(), RunFault>
-    requires sources { length sources.old ≡ length catalog }
-    requires size { 0 < morsel_size }
-    ensures runs { RunsFrom S.given S.failures S.ends S.whole catalog text.now sources.old sources.new result (W.taken out.old) (W.taken out.new) }
-    ensures sink { LeavesSink result (W.taken out.old) (W.taken out.new) (W.failures out.old) (W.failures out.new) (W.contents out.old) (W.contents out.new) }
-{
-    let tables = load_all(alloc, &catalog, sources, piece_size)?;
-    let answer = answer_text(alloc, &catalog, tables, text, morsel_size)?;
     write_answer(&answer, out)?;
     Ok(())
 }

@@ -1,5 +1,5 @@
 -- HAVING is bound operand by operand.
-use Rattle.std.proofs.Common.{◌≡◌, List, [], ◌∷◌, ◌++◌, length, fold, Option, Some, None, refl, sym, ap, ◌∙◌, append_assoc}
+use Rattle.std.proofs.Common.{◌≡◌, List, [], ◌∷◌, ◌++◌, length, fold, Option, Some, None, refl, ap, ◌∙◌, append_assoc}
 use Rattle.std.specs.Bool.{⊤}
 use Rattle.std.specs.List.{filter_map, cons_option}
 use Rattle.ssb_trees.specs.Conditions.{Filter, in_order, operands}
@@ -7,18 +7,18 @@ use Rattle.ssb_trees.specs.declared.operand.Operand.{Operand}
 use Rattle.ssb_trees.proofs.Turns.{goes, turned}
 use Rattle.ssb_sql.specs.declared.select.Output.{Output}
 use Rattle.ssb_query.specs.declared.query.Origin.{Origin}
-use Rattle.ssb_bind.specs.Binding.{and_aggregate, and_last, bound_operand, bound_operands, BindsHaving}
+use Rattle.ssb_bind.specs.Binding.{and_aggregate, and_last, operand_of, operands_of, BindsHaving}
 use Rattle.ssb_bind.specs.Bound.{having_aggregates, operand_aggregate}
 use Rattle.ssb_bind.specs.Query.{form}
 use Rattle.ssb_bind.specs.declared.bind_having.Outputs.{Outputs}
 
 abbrev given : Outputs → Operand Output → Operand Origin
-given s o = bound_operand s.scope.catalog.now s.scope.from.now s.groups.now (length s.aggregates) o
+given s o = operand_of s.scope.catalog.now s.scope.from.now s.groups.now (length s.aggregates) o
 
 abbrev next : Outputs → Operand Output → Outputs
 next s o = record { scope = s.scope; groups = s.groups; aggregates = and_aggregate s.scope.catalog.now s.scope.from.now s.aggregates o }
 
-turned_is : (s : Outputs) (os : List (Operand Output)) → turned given next s os ≡ bound_operands s.scope.catalog.now s.scope.from.now s.groups.now s.aggregates os
+turned_is : (s : Outputs) (os : List (Operand Output)) → turned given next s os ≡ operands_of s.scope.catalog.now s.scope.from.now s.groups.now s.aggregates os
 turned_is s [] = refl
 turned_is s (o ∷ os) = ap (λ z. given s o ∷ z) (turned_is (next s o) os)
 

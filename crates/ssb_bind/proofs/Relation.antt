@@ -16,13 +16,13 @@ use Rattle.ssb_trees.specs.Conditions.{Filter, operands}
 use Rattle.ssb_trees.specs.Lists.{concat}
 use Rattle.ssb_trees.specs.declared.operand.Operand.{Operand}
 use Rattle.ssb_trees.specs.declared.operand.Operand.TheVariants as operand
-use Rattle.ssb_bind.specs.Binding.{bound_items, bound_operands, bound_order, BindsHaving, is_aggregate, origin_of}
+use Rattle.ssb_bind.specs.Binding.{bound_items, operands_of, bound_order, BindsHaving, is_aggregate, origin_of}
 use Rattle.ssb_bind.specs.Bound.{aggregate_of, aggregates_of, bound_aggregate, bound_where, group_place, having_aggregates, operand_aggregate}
 use Rattle.ssb_bind.specs.Columns.{bound_name, fit_of, table_number, the_one}
 use Rattle.ssb_bind.specs.Faults.{is_ungrouped, unknown_table}
 use Rattle.ssb_bind.specs.Names.{filter_names, operand_names, own_columns}
 use Rattle.ssb_bind.specs.Orders.{bad_from, fits_one, places_for}
-use Rattle.ssb_bind.specs.Query.{aggregate_number, Each, form, having_numbers, IsHaving, IsItem, IsOrder, IsQueryOf, operand_number, Shows, StandsFor}
+use Rattle.ssb_bind.specs.Query.{aggregate_number, Each, having_numbers, IsHaving, IsItem, IsOrder, IsQueryOf, operand_number, Shows, StandsFor}
 use Rattle.ssb_query.specs.Tables.{fact_place}
 use Rattle.ssb_query.specs.declared.column.BoundColumn.{BoundColumn}
 use Rattle.ssb_query.specs.declared.query.BoundItem.{BoundItem}
@@ -185,7 +185,7 @@ module _ (c : List TableShape) (q : QueryParts) where
   columns_of os = concat (map (operand_names own_columns) os)
 
   each_operand : (os : List (Operand Output)) (front : List (Aggregate BoundColumn)) → q.aggregates ≡ front ++ filter_map (operand_aggregate c q.from) os → find (is_ungrouped c q.from q.groups) (columns_of os) ≡ None
-      → Each (StandsFor c q) os (bound_operands c q.from q.groups front os)
+      → Each (StandsFor c q) os (operands_of c q.from q.groups front os)
   each_operand [] front all grouped = tt
   each_operand (operand.Literal l ∷ os) front all grouped = (refl, each_operand os front all grouped)
   each_operand (operand.Column (output.Column name) ∷ os) front all grouped =
@@ -225,7 +225,7 @@ ranges n m (suc k) l zero e h = absurd (omega (arith, h))
 ranges n m (suc k) l (suc all) e h = ap (λ ns. n ∷ ns) (ranges (n + 1) m k l all (omega (arith, e)) (omega (arith, h)))
 
 module _ (c : List TableShape) (from : List ℕ) (groups : List BoundColumn) where
-  operand_numbers : (os : List (Operand Output)) (front : List (Aggregate BoundColumn)) → filter_map operand_number (bound_operands c from groups front os) ≡ range_with_len (length front) (length (filter_map (operand_aggregate c from) os))
+  operand_numbers : (os : List (Operand Output)) (front : List (Aggregate BoundColumn)) → filter_map operand_number (operands_of c from groups front os) ≡ range_with_len (length front) (length (filter_map (operand_aggregate c from) os))
   operand_numbers [] front = refl
   operand_numbers (operand.Literal l ∷ os) front = operand_numbers os front
   operand_numbers (operand.Column (output.Column name) ∷ os) front = operand_numbers os front

@@ -7,10 +7,9 @@ use Rattle.ssb_sql.specs.declared.select.Order.{Order}
 use Rattle.ssb_sql.specs.declared.select.Output.{Output}
 use Rattle.ssb_sql.specs.declared.select.Output.TheVariants as output
 use Rattle.ssb_sql.specs.declared.select.Select.{Select}
-use Rattle.ssb_trees.specs.Conditions.{Filter, operands}
+use Rattle.ssb_trees.specs.Conditions.{Filter, mapped_operand, operands}
 use Rattle.ssb_trees.specs.declared.aggregate.Aggregate.{Aggregate}
 use Rattle.ssb_trees.specs.declared.operand.Operand.{Operand}
-use Rattle.ssb_trees.specs.declared.operand.Operand.TheVariants as operand
 use Rattle.ssb_bind.specs.Bound.{bound_where, aggregates_of, group_place, having_aggregates, operand_aggregate}
 use Rattle.ssb_bind.specs.Columns.{bound_name, fit_of, the_one}
 use Rattle.ssb_bind.specs.Faults.{Says}
@@ -59,9 +58,8 @@ abbrev pub bound_order : List Item → Order → BoundOrder
 bound_order items o = record { item = the_one (fit_of (places_for items o.key)) 0; descending = o.descending }
 
 -- an operand of HAVING in its turn, of which so many aggregates stand before it
-abbrev pub bound_operand : List TableShape → List ℕ → List BoundColumn → ℕ → Operand Output → Operand Origin
-bound_operand c from groups before (operand.Column o) = operand.Column (origin_of c from groups before o)
-bound_operand c from groups before (operand.Literal l) = operand.Literal l
+abbrev pub operand_of : List TableShape → List ℕ → List BoundColumn → ℕ → Operand Output → Operand Origin
+operand_of c from groups before = mapped_operand Output Origin (origin_of c from groups before)
 
 abbrev pub and_last : {A : Type 0} → List A → Option A → List A
 and_last all None = all
@@ -71,14 +69,14 @@ and_last all (Some a) = all ++ a ∷ []
 abbrev pub and_aggregate : List TableShape → List ℕ → List (Aggregate BoundColumn) → Operand Output → List (Aggregate BoundColumn)
 and_aggregate c from all o = and_last all (operand_aggregate c from o)
 
-abbrev pub bound_operands : List TableShape → List ℕ → List BoundColumn → List (Aggregate BoundColumn) → List (Operand Output) → List (Operand Origin)
-bound_operands c from groups all [] = []
-bound_operands c from groups all (o ∷ os) = bound_operand c from groups (length all) o ∷ bound_operands c from groups (and_aggregate c from all o) os
+abbrev pub operands_of : List TableShape → List ℕ → List BoundColumn → List (Aggregate BoundColumn) → List (Operand Output) → List (Operand Origin)
+operands_of c from groups all [] = []
+operands_of c from groups all (o ∷ os) = operand_of c from groups (length all) o ∷ operands_of c from groups (and_aggregate c from all o) os
 
 -- HAVING keeps its form, and its operands are bound one after the other
 abbrev pub BindsHaving : List TableShape → List ℕ → List BoundColumn → List (Aggregate BoundColumn) → Option (Filter Output) → Option (Filter Origin) → Type 0
 BindsHaving c from groups all None None = ⊤
-BindsHaving c from groups all (Some h) (Some b) = (form b ≡ form h) × (operands (Operand Origin) b ≡ bound_operands c from groups all (operands (Operand Output) h))
+BindsHaving c from groups all (Some h) (Some b) = (form b ≡ form h) × (operands (Operand Origin) b ≡ operands_of c from groups all (operands (Operand Output) h))
 BindsHaving c from groups all h b = ⊥
 
 abbrev pub bound_over : List TableShape → List ℕ → List BoundColumn → List BoundItem → Option (Filter Origin) → Select → QueryParts

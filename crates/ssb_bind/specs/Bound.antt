@@ -19,8 +19,7 @@ use Rattle.ssb_trees.specs.declared.operand.Operand.{Operand}
 use Rattle.ssb_trees.specs.declared.expr.Expr.{Expr}
 
 abbrev pub bound_operand : List TableShape → List ℕ → Operand ColumnName → Operand BoundColumn
-bound_operand c from (operand.Column name) = operand.Column (bound_name c from name)
-bound_operand c from (operand.Literal l) = operand.Literal l
+bound_operand c from = conditions.mapped_operand ColumnName BoundColumn (bound_name c from)
 
 abbrev pub bound_condition : List TableShape → List ℕ → Filter ColumnName → Filter BoundColumn
 bound_condition c from = conditions.mapped (Operand ColumnName) (Operand BoundColumn) (bound_operand c from)

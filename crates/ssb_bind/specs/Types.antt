@@ -1,7 +1,7 @@
 -- The types of expressions and aggregates, and tests of a number beside a text. Of what type a column is, is given.
 -- Source: SQL-92, 8.2 <comparison predicate> (comparable types), 6.12 <numeric value expression> (operands are numbers) and 6.5 <set function specification>
 -- (the type of a result).
-use Rattle.std.specs.Prelude.{◌≡◌, Bool, true, false, not, ◌||◌, if◌then◌else◌, List, ◌∷◌, Option, Some, None, is_none}
+use Rattle.std.specs.Prelude.{◌≡◌, Bool, true, false, not, ◌||◌, if◌then◌else◌, List, ◌∷◌, Option, Some, None}
 use Rattle.std.specs.List.{list_all, list_any}
 use Rattle.std.specs.Option.{is_some}
 use Rattle.ssb_terms.specs.declared.rule.ColType.{ColType}

@@ -12,7 +12,7 @@ use ssb_sql::Output;
 use ssb_trees::{Aggregate, Filter, LeavesInOrder, Operand};
 use std::alloc::{AllocError, Global};
 
-/// Outputs that are bound one after the other: the aggregates so far, and where names are bound.
+// Outputs that are bound one after the other: the aggregates so far, and where names are bound.
 #[derive(Drop)]
 struct Outputs<'a> {
     scope: Scope<'a>,
@@ -21,7 +21,7 @@ struct Outputs<'a> {
 }
 
 impl LeavesInOrder<Operand<Output>, Operand<Origin>> for Outputs<'_> {
-    ghost given = { λ outputs operand. binding.bound_operand outputs.scope.catalog.now outputs.scope.from.now outputs.groups.now (length outputs.aggregates) operand };
+    ghost given = { λ outputs operand. binding.operand_of outputs.scope.catalog.now outputs.scope.from.now outputs.groups.now (length outputs.aggregates) operand };
 
     ghost next = { λ outputs operand. record { scope = outputs.scope; groups = outputs.groups; aggregates = binding.and_aggregate outputs.scope.catalog.now outputs.scope.from.now outputs.aggregates operand } };
 

@@ -5,7 +5,7 @@ ghost use Rattle.ssb_bind.specs.Bound as spec;
 ghost use Rattle.ssb_bind.specs.Columns as columns;
 
 use crate::resolve::{Scope, bound_name};
-use ssb_query::BoundColumn;
+use ssb_query::{BoundColumn, BoundOperand};
 use ssb_sql::ColumnName;
 use ssb_trees::{Aggregate, Filter, Leaves, Operand};
 use std::alloc::{AllocError, Global};
@@ -18,18 +18,15 @@ impl Leaves<ColumnName, BoundColumn> for Scope<'_> {
     }
 }
 
-impl Leaves<Operand<ColumnName>, Operand<BoundColumn>> for Scope<'_> {
+impl Leaves<Operand<ColumnName>, BoundOperand> for Scope<'_> {
     ghost given = { λ scope operand. spec.bound_operand scope.catalog.now scope.from.now operand };
 
     fn leaf(
         &self,
         alloc: Global,
         operand: &Operand<ColumnName>,
-    ) -> Result<Operand<BoundColumn>, AllocError> {
-        match operand {
-            Operand::Column(name) => Ok(Operand::Column(bound_name(self.catalog, self.from, name))),
-            Operand::Literal(literal) => Ok(Operand::Literal(literal.copy(alloc)?)),
-        }
+    ) -> Result<BoundOperand, AllocError> {
+        operand.mapped(alloc, self)
     }
 }
 

@@ -27,7 +27,7 @@ pub(crate) fn group_place(groups: &[BoundColumn], column: BoundColumn) -> Option
         .position(|group| is_same_column(column, *group))
 }
 
-/// Which columns are group columns.
+// Which columns are group columns.
 #[derive(Clone, Copy)]
 struct Grouping<'a> {
     catalog: &'a [TableDef],

@@ -1,6 +1,6 @@
 // Searches for the name of a column: in an output or a name, in conditions and in the select list.
 
-ghost use Rattle.std.specs.Prelude.{◌≡◌, find, map, Bool};
+ghost use Rattle.std.specs.Prelude.{◌≡◌, find, map};
 ghost use Rattle.std.specs.List.{list_any};
 ghost use Rattle.std.specs.Option.{option_copied};
 ghost use Rattle.ssb_bind.specs.Names as spec;

@@ -12,7 +12,7 @@ use ssb_sql::{ColumnName, Item, Output, Select};
 use ssb_terms::ColType;
 use ssb_trees::{Filter, Operand, Test};
 
-/// Where names have their types: in a query's tables.
+// Where names have their types: in a query's tables.
 #[derive(Clone, Copy)]
 struct Typing<'a> {
     catalog: &'a [TableDef],
@@ -52,6 +52,7 @@ fn has_untyped_item(typing: Typing<'_>, items: &[Item]) -> bool
     items.iter().any(|item| is_untyped(typing, &item.output))
 }
 
+// Whether an operand of HAVING is an output that has no type.
 impl Test<Operand<Output>> for Typing<'_> {
     ghost passed = { λ typing. spec.is_untyped_operand typing.catalog.now typing.query.now };
 

@@ -6,7 +6,7 @@ ghost use Rattle.ssb_cells.specs.Cell.{Cell, Filled, null, text};
 ghost use Rattle.ssb_cells.specs.Codes.{code_at, code_of, texts_of};
 ghost use Rattle.ssb_cells.specs.Joined.{HasRoomFor, IsJoined};
 ghost use Rattle.ssb_cells.specs.Lent.{AreCodes, AreNulls, AreNumbers, codes_in, numbers_in};
-ghost use Rattle.ssb_cells.specs.Stored.{HasRoom, kind_of, with_value};
+ghost use Rattle.ssb_cells.specs.Stored.{HasRoom, IsWhole, filled, kind_of, with_value};
 ghost use Rattle.ssb_cells.specs.Values.{cell_of, IsOfType};
 ghost use Rattle.ssb_cells.specs.declared.column.Stored.TheVariants as kept;
 ghost use Rattle.ssb_terms.specs.declared.rule.ColType.TheVariants as kinds;
@@ -48,11 +48,7 @@ impl Drop for Column {
 }
 
 impl Model for Column {
-    ghost use Rattle.ssb_cells.specs.Cell.{Filled};
-
     ghost Value = { Filled };
-
-    ghost use Rattle.ssb_cells.specs.Stored.{filled, IsWhole};
 
     ghost view = { filled };
 

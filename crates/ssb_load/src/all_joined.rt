@@ -10,17 +10,18 @@ ghost use Rattle.ssb_load.specs.Runs.{ArePutTogether, FailedRead, HaveTables, Ra
 use crate::catalog::Catalog;
 use crate::fault::{FileFault, LoadFault};
 use crate::joined::Joined;
-use crate::read_joined::load_with_in_pieces;
+use crate::read_joined::load_with;
 use crate::source::Source;
 use ssb_cells::Table;
 use std::alloc::Global;
 use std::thread::{Threads, join_mut};
 
-// How tables are loaded: with which allocator, and in pieces of how many bytes. It stands behind one
-// reference, since the borrow checker does not cover two closures that share a value.
+// What tables are loaded, and how: with which allocator, and in pieces of how many bytes. It stands
+// behind one reference, since the borrow checker does not cover two closures that share a value.
 #[derive(Clone, Copy)]
-struct Manner {
+struct Plan<'a> {
     alloc: Global,
+    catalog: &'a Catalog,
     piece_size: usize,
 }
 
@@ -47,19 +48,25 @@ fn put_together(
 // The table of this number alone.
 fn load_one<S: Source + Send, R: Threads + Sync>(
     rt: &R,
-    manner: &Manner,
-    catalog: &Catalog,
+    plan: &Plan<'_>,
     number: u32,
     source: &mut Joined<S>,
 ) -> Result<Vec<Table>, FileFault>
-    requires { number < length catalog.now }
-    ensures { RanFrom joined_source catalog.now number (source.old ∷ []) (source.new ∷ []) result }
+    requires { number < length plan.now.catalog.now }
+    ensures { RanFrom joined_source plan.now.catalog.now number (source.old ∷ []) (source.new ∷ []) result }
 {
-    let alloc = manner.alloc;
-    let size = manner.piece_size;
-    match load_with_in_pieces(rt, alloc, catalog, number as usize, u32::MAX, source, size) {
+    let size = plan.piece_size;
+    match load_with(
+        rt,
+        plan.alloc,
+        plan.catalog,
+        number as usize,
+        u32::MAX,
+        source,
+        size,
+    ) {
         Ok(table) => {
-            let mut tables = Vec::new(alloc);
+            let mut tables = Vec::new(plan.alloc);
             match tables.push(table) {
                 Ok(()) => Ok(tables),
                 Err(_) => Err(FileFault {
@@ -80,26 +87,25 @@ fn load_one<S: Source + Send, R: Threads + Sync>(
 #[cycle(tables)]
 fn load_both<S: Source + Send, R: Threads + Sync>(
     rt: &R,
-    manner: &Manner,
-    catalog: &Catalog,
+    plan: &Plan<'_>,
     number: u32,
-    front: &mut [Joined<S>],
     middle: u32,
+    front: &mut [Joined<S>],
     back: &mut [Joined<S>],
 ) -> (Result<Vec<Table>, FileFault>, Result<Vec<Table>, FileFault>)
-    requires front { HaveTables catalog.now number front.old }
-    requires back { HaveTables catalog.now middle back.old }
-    ensures front { RanFrom joined_source catalog.now number front.old front.new result.0 }
-    ensures back { RanFrom joined_source catalog.now middle back.old back.new result.1 }
+    requires front { HaveTables plan.now.catalog.now number front.old }
+    requires back { HaveTables plan.now.catalog.now middle back.old }
+    ensures front { RanFrom joined_source plan.now.catalog.now number front.old front.new result.0 }
+    ensures back { RanFrom joined_source plan.now.catalog.now middle back.old back.new result.1 }
 {
     let mut first = || -> Result<Vec<Table>, FileFault>
-        requires { IsSync R.row × IsSend S.row × HaveTables catalog.now number front.now }
-        ensures { RanFrom joined_source catalog.entry.now number front.entry.now front.exit.now result }
-    { load_tables(rt, manner, catalog, number, front) };
+        requires { IsSync R.row × IsSend S.row × HaveTables plan.now.catalog.now number front.now }
+        ensures { RanFrom joined_source plan.entry.now.catalog.now number front.entry.now front.exit.now result }
+    { load_tables(rt, plan, number, front) };
     let mut second = || -> Result<Vec<Table>, FileFault>
-        requires { IsSync R.row × IsSend S.row × HaveTables catalog.now middle back.now }
-        ensures { RanFrom joined_source catalog.entry.now middle back.entry.now back.exit.now result }
-    { load_tables(rt, manner, catalog, middle, back) };
+        requires { IsSync R.row × IsSend S.row × HaveTables plan.now.catalog.now middle back.now }
+        ensures { RanFrom joined_source plan.entry.now.catalog.now middle back.entry.now back.exit.now result }
+    { load_tables(rt, plan, middle, back) };
     join_mut(rt, &mut first, &mut second)
 }
 
@@ -107,21 +113,20 @@ fn load_both<S: Source + Send, R: Threads + Sync>(
 #[cycle(tables)]
 fn load_tables<S: Source + Send, R: Threads + Sync>(
     rt: &R,
-    manner: &Manner,
-    catalog: &Catalog,
+    plan: &Plan<'_>,
     number: u32,
     sources: &mut [Joined<S>],
 ) -> Result<Vec<Table>, FileFault>
-    requires { HaveTables catalog.now number sources.old }
-    ensures { RanFrom joined_source catalog.now number sources.old sources.new result }
+    requires { HaveTables plan.now.catalog.now number sources.old }
+    ensures { RanFrom joined_source plan.now.catalog.now number sources.old sources.new result }
 {
     let half = sources.len() / 2;
     if half == 0 {
-        return load_one(rt, manner, catalog, number, &mut sources[0]);
+        return load_one(rt, plan, number, &mut sources[0]);
     }
     let middle = number + half as u32;
     let (front, back) = sources.split_at_mut(half);
-    let (first, second) = load_both(rt, manner, catalog, number, front, middle, back);
+    let (first, second) = load_both(rt, plan, number, middle, front, back);
     put_together(middle, first, second)
 }
 
@@ -149,6 +154,10 @@ pub fn load_all_with<S: Source + Send, R: Threads + Sync>(
 {
     // A catalog has 1 to 16 tables.
     let _lawful = catalog.tables();
-    let manner = Manner { alloc, piece_size };
-    load_tables(rt, &manner, catalog, 0, sources)
+    let plan = Plan {
+        alloc,
+        catalog,
+        piece_size,
+    };
+    load_tables(rt, &plan, 0, sources)
 }

@@ -30,28 +30,22 @@ fn is_short_name(word: &[u8]) -> bool
 fn kind_named(word: &[u8]) -> Option<ColType>
     ensures { result ≡ kind_named word.now }
 {
-    if word == b"int".as_slice() {
-        return Some(ColType::Int);
+    match word {
+        b"int" => Some(ColType::Int),
+        b"text" => Some(ColType::Text),
+        _ => None,
     }
-    if word == b"text".as_slice() {
-        return Some(ColType::Text);
-    }
-    None
 }
 
 fn role_named(word: &[u8]) -> Option<Role>
     ensures { result ≡ role_named word.now }
 {
-    if word == b"key".as_slice() {
-        return Some(Role::Key);
+    match word {
+        b"key" => Some(Role::Key),
+        b"need" => Some(Role::Need),
+        b"null" => Some(Role::Nullable),
+        _ => None,
     }
-    if word == b"need".as_slice() {
-        return Some(Role::Need);
-    }
-    if word == b"null".as_slice() {
-        return Some(Role::Nullable);
-    }
-    None
 }
 
 // The column that the record of this number spells.

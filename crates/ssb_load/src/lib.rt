@@ -45,7 +45,7 @@ pub use catalog::{Catalog, ColumnDef, TableDef};
 pub use fault::{CatalogFault, FileFault, LoadFault, RecordFault};
 pub use history::History;
 pub use joined::Joined;
-pub use read_joined::{load_with, load_with_in_pieces};
+pub use read_joined::load_with;
 pub use read_table::{PIECE_SIZE, load, load_from, load_in_pieces};
 pub use reader::In;
 pub use source::{Source, SourceFault};

@@ -9,40 +9,21 @@ use crate::fault::LoadFault;
 use crate::joined::Joined;
 use crate::joining::join_parts;
 use crate::judge::key_place;
-use crate::read_table::{PIECE_SIZE, load_in_pieces, rules_at};
+use crate::read_table::{load_in_pieces, rules_at};
 use crate::source::Source;
 use ssb_cells::Table;
 use std::alloc::Global;
 use std::thread::Threads;
 
-/// [`load_from`](crate::load_from) over sources one after the other, where a table without a key is
-/// read by several threads: each source by one of its own, where one can be made. The answer is the
-/// same. A table with a key is read by the caller's thread, and so is any table of one source, or of
+/// [`load_in_pieces`](crate::load_in_pieces) over sources one after the other, where a table without a
+/// key is read by several threads: each source by one of its own, where one can be made. The answer is
+/// the same. A table with a key is read by the caller's thread, and so is any table of one source, or of
 /// sources that were read before.
 ///
 /// # Errors
 ///
 /// As of [`load_from`](crate::load_from).
 pub fn load_with<S: Source + Send, R: Threads + Sync>(
-    rt: &R,
-    alloc: Global,
-    catalog: &Catalog,
-    table: usize,
-    max_rows: u32,
-    source: &mut Joined<S>,
-) -> Result<Table, LoadFault>
-    requires { table < length catalog.now }
-    ensures { LoadsFrom ⟦<Joined<S> as Source>⟧.given ⟦<Joined<S> as Source>⟧.failures ⟦<Joined<S> as Source>⟧.ends ⟦<Joined<S> as Source>⟧.whole (rules_at catalog.now table) max_rows source.old source.new result }
-{
-    load_with_in_pieces(rt, alloc, catalog, table, max_rows, source, PIECE_SIZE)
-}
-
-/// [`load_with`] in pieces of this many bytes, where no line is longer. The size changes no answer.
-///
-/// # Errors
-///
-/// As of [`load_from`](crate::load_from).
-pub fn load_with_in_pieces<S: Source + Send, R: Threads + Sync>(
     rt: &R,
     alloc: Global,
     catalog: &Catalog,

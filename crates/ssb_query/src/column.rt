@@ -14,21 +14,25 @@ pub struct BoundColumn {
     pub column: usize,
 }
 
+/// What a test of WHERE compares, once its names are bound.
+pub type BoundOperand = Operand<BoundColumn>;
+
 // Each operand becomes a copy of it.
 struct Copying;
 
-impl Leaves<Operand<BoundColumn>, Operand<BoundColumn>> for Copying {
+impl Leaves<BoundColumn, BoundColumn> for Copying {
+    ghost given = { λ _ c. c };
+
+    fn leaf(&self, _alloc: Global, column: &BoundColumn) -> Result<BoundColumn, AllocError> {
+        Ok(*column)
+    }
+}
+
+impl Leaves<BoundOperand, BoundOperand> for Copying {
     ghost given = { λ _ o. o };
 
-    fn leaf(
-        &self,
-        alloc: Global,
-        operand: &Operand<BoundColumn>,
-    ) -> Result<Operand<BoundColumn>, AllocError> {
-        match operand {
-            Operand::Column(column) => Ok(Operand::Column(*column)),
-            Operand::Literal(literal) => Ok(Operand::Literal(literal.copy(alloc)?)),
-        }
+    fn leaf(&self, alloc: Global, operand: &BoundOperand) -> Result<BoundOperand, AllocError> {
+        operand.mapped(alloc, self)
     }
 }
 

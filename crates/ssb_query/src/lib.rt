@@ -7,5 +7,5 @@
 pub mod column;
 pub mod query;
 
-pub use column::{BoundColumn, copy_condition};
+pub use column::{BoundColumn, BoundOperand, copy_condition};
 pub use query::{BoundItem, BoundOrder, Origin, Query, QueryParts, TableRules, rule_at};

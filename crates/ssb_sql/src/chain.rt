@@ -4,7 +4,7 @@ ghost use Rattle.std.specs.Prelude.{◌≡◌, List, [], ◌∷◌};
 ghost use Rattle.ssb_sql.specs.Reading.{seen};
 ghost use Rattle.ssb_sql.specs.Steps.{Gives, Makes, Parser, Reads, Shrinks, after, chained_at, made_at};
 
-use crate::steps::{Stop, after};
+use crate::steps::{Parsed, after};
 use crate::token::{Mark, Sign, Token};
 use sqlite_items::Items;
 use std::alloc::Global;
@@ -18,9 +18,9 @@ pub(crate) fn chain<T: Drop, F>(
     sign: Sign,
     tokens: &[Token],
     piece: F,
-) -> Result<(Items<T>, &[Token]), Stop>
+) -> Parsed<'_, Items<T>>
 where
-    F: Fn(&[Token]) -> Result<(T, &[Token]), Stop>,
+    F: Fn(&[Token]) -> Parsed<'_, T>,
     requires can { F.IsAlwaysCallable piece }
     requires shrinks { (p : Parser T) × Shrinks (after sign) p × Reads (F.post piece) p }
     ensures { (p : Parser T) → Shrinks (after sign) p → Reads (F.post piece) p → Gives seen result (chained_at sign p tokens.now) }
@@ -44,9 +44,9 @@ pub(crate) fn made<T: Drop, F, G>(
     tokens: &[Token],
     make: G,
     piece: F,
-) -> Result<(T, &[Token]), Stop>
+) -> Parsed<'_, T>
 where
-    F: Fn(&[Token]) -> Result<(T, &[Token]), Stop>,
+    F: Fn(&[Token]) -> Parsed<'_, T>,
     G: FnOnce(Items<T>) -> T,
     requires can { F.IsAlwaysCallable piece }
     requires makes { G.IsAlwaysCallable make }

@@ -10,7 +10,7 @@ ghost use Rattle.ssb_sql.specs.declared.token.Sign.TheVariants as s;
 use crate::chain::made;
 use crate::read_parts::Subject;
 use crate::read_test::bare;
-use crate::steps::{Stop, after, closing};
+use crate::steps::{Parsed, Stop, after, closing};
 use crate::token::{Mark, Sign, Token};
 use sqlite_items::Boxed;
 use ssb_terms::Keyword;
@@ -19,11 +19,7 @@ use std::alloc::Global;
 
 #[cycle(condition)]
 #[tactic(auto, unfolding(crate::specs::Steps::enclosed_at, crate::specs::Steps::closed_at))]
-fn test<C: Subject>(
-    alloc: Global,
-    depth: usize,
-    tokens: &[Token],
-) -> Result<(Filter<C>, &[Token]), Stop>
+fn test<C: Subject>(alloc: Global, depth: usize, tokens: &[Token]) -> Parsed<'_, Filter<C>>
     ensures { Gives seen result (test_at (C.read_at depth) (cond_at C.read_at depth) tokens.now) }
 {
     match after(tokens, Sign::Mark(Mark::Open)) {
@@ -37,11 +33,7 @@ fn test<C: Subject>(
 
 #[cycle(condition)]
 #[tactic(auto, unfolding(crate::specs::ReadConditions::neg_at))]
-fn negation<C: Subject>(
-    alloc: Global,
-    depth: usize,
-    tokens: &[Token],
-) -> Result<(Filter<C>, &[Token]), Stop>
+fn negation<C: Subject>(alloc: Global, depth: usize, tokens: &[Token]) -> Parsed<'_, Filter<C>>
     ensures { Gives seen result (neg_at (C.read_at depth) (cond_at C.read_at depth) tokens.now) }
 {
     match after(tokens, Sign::Word(Keyword::Not)) {
@@ -55,11 +47,7 @@ fn negation<C: Subject>(
 
 #[cycle(condition)]
 #[tactic(auto, unfolding(crate::specs::ReadConditions::conj_at))]
-fn conjunction<C: Subject>(
-    alloc: Global,
-    depth: usize,
-    tokens: &[Token],
-) -> Result<(Filter<C>, &[Token]), Stop>
+fn conjunction<C: Subject>(alloc: Global, depth: usize, tokens: &[Token]) -> Parsed<'_, Filter<C>>
     ensures { Gives seen result (conj_at (C.read_at depth) (cond_at C.read_at depth) tokens.now) }
 {
     made(
@@ -80,7 +68,7 @@ pub(crate) fn condition<C: Subject>(
     alloc: Global,
     depth: usize,
     tokens: &[Token],
-) -> Result<(Filter<C>, &[Token]), Stop>
+) -> Parsed<'_, Filter<C>>
     ensures { Gives seen result (cond_at C.read_at depth tokens.now) }
 {
     if depth == 0 {

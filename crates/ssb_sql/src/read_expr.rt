@@ -11,7 +11,7 @@ ghost use Rattle.ssb_sql.specs.declared.token.Sign.TheVariants as s;
 use crate::chain::made;
 use crate::named::ColumnName;
 use crate::read_parts::column;
-use crate::steps::{Stop, after, closing};
+use crate::steps::{Parsed, Stop, after, closing};
 use crate::token::{Mark, Sign, Token};
 use sqlite_items::{Boxed, Items};
 use ssb_terms::Adding;
@@ -34,7 +34,7 @@ fn sum_of(
 }
 
 #[tactic(auto, unfolding(crate::specs::ReadExpressions::bare_primary_at))]
-fn bare_primary(alloc: Global, tokens: &[Token]) -> Result<(Expr<ColumnName>, &[Token]), Stop>
+fn bare_primary(alloc: Global, tokens: &[Token]) -> Parsed<'_, Expr<ColumnName>>
     ensures { Gives seen result (bare_primary_at tokens.now) }
 {
     match tokens {
@@ -77,11 +77,7 @@ fn signed(
 
 #[cycle(expression)]
 #[tactic(auto, unfolding(crate::specs::Steps::enclosed_at, crate::specs::Steps::closed_at))]
-fn primary(
-    alloc: Global,
-    depth: usize,
-    tokens: &[Token],
-) -> Result<(Expr<ColumnName>, &[Token]), Stop>
+fn primary(alloc: Global, depth: usize, tokens: &[Token]) -> Parsed<'_, Expr<ColumnName>>
     ensures { Gives seen result (primary_at (expr_at depth) tokens.now) }
 {
     match after(tokens, Sign::Mark(Mark::Open)) {
@@ -95,11 +91,7 @@ fn primary(
 
 #[cycle(expression)]
 #[tactic(auto, unfolding(crate::specs::ReadExpressions::factor_at))]
-fn factor(
-    alloc: Global,
-    depth: usize,
-    tokens: &[Token],
-) -> Result<(Expr<ColumnName>, &[Token]), Stop>
+fn factor(alloc: Global, depth: usize, tokens: &[Token]) -> Parsed<'_, Expr<ColumnName>>
     ensures { Gives seen result (factor_at (expr_at depth) tokens.now) }
 {
     match adding(tokens) {
@@ -112,7 +104,7 @@ fn factor(
 }
 
 #[cycle(expression)]
-fn term(alloc: Global, depth: usize, tokens: &[Token]) -> Result<(Expr<ColumnName>, &[Token]), Stop>
+fn term(alloc: Global, depth: usize, tokens: &[Token]) -> Parsed<'_, Expr<ColumnName>>
     ensures { Gives seen result (term_at (expr_at depth) tokens.now) }
 {
     made(
@@ -127,11 +119,7 @@ fn term(alloc: Global, depth: usize, tokens: &[Token]) -> Result<(Expr<ColumnNam
 }
 
 #[cycle(expression)]
-fn more_terms(
-    alloc: Global,
-    depth: usize,
-    tokens: &[Token],
-) -> Result<(Items<Step<ColumnName>>, &[Token]), Stop>
+fn more_terms(alloc: Global, depth: usize, tokens: &[Token]) -> Parsed<'_, Items<Step<ColumnName>>>
     ensures { Gives seen result (more_at adding_at (step_at (expr_at depth)) [] tokens.now) }
 {
     let mut all = Items::new(alloc);
@@ -151,7 +139,7 @@ pub(crate) fn expression(
     alloc: Global,
     depth: usize,
     tokens: &[Token],
-) -> Result<(Expr<ColumnName>, &[Token]), Stop>
+) -> Parsed<'_, Expr<ColumnName>>
     ensures { Gives seen result (expr_at depth tokens.now) }
 {
     if depth == 0 {

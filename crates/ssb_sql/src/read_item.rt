@@ -12,7 +12,7 @@ use crate::named::ColumnName;
 use crate::read_expr::expression;
 use crate::read_parts::{Subject, column};
 use crate::select::{Item, Key, Order, Output};
-use crate::steps::{Stop, after, closing, expect, name};
+use crate::steps::{Parsed, Stop, after, closing, expect, name};
 use crate::token::{Mark, Sign, Token};
 use sqlite_items::Items;
 use ssb_terms::{Keyword, Name};
@@ -59,7 +59,7 @@ fn aggregate(
     depth: usize,
     function: SetFunction,
     tokens: &[Token],
-) -> Result<(Aggregate<ColumnName>, &[Token]), Stop>
+) -> Parsed<'_, Aggregate<ColumnName>>
     ensures { Gives seen result (aggregate_at depth function tokens.now) }
 {
     let inside = expect(tokens, Sign::Mark(Mark::Open))?;
@@ -77,7 +77,7 @@ fn aggregate(
 }
 
 #[tactic(auto, unfolding(crate::specs::ReadSelects::output_at))]
-fn output(alloc: Global, depth: usize, tokens: &[Token]) -> Result<(Output, &[Token]), Stop>
+fn output(alloc: Global, depth: usize, tokens: &[Token]) -> Parsed<'_, Output>
     ensures { Gives seen result (output_at depth tokens.now) }
 {
     match function(tokens) {
@@ -96,13 +96,13 @@ fn output(alloc: Global, depth: usize, tokens: &[Token]) -> Result<(Output, &[To
 impl Subject for Output {
     ghost read_at = { output_at };
 
-    fn read(alloc: Global, depth: usize, tokens: &[Token]) -> Result<(Output, &[Token]), Stop> {
+    fn read(alloc: Global, depth: usize, tokens: &[Token]) -> Parsed<'_, Output> {
         output(alloc, depth, tokens)
     }
 }
 
 #[tactic(auto, unfolding(crate::specs::ReadSelects::alias_at))]
-fn alias_if(alloc: Global, tokens: &[Token]) -> Result<(Option<Name>, &[Token]), Stop>
+fn alias_if(alloc: Global, tokens: &[Token]) -> Parsed<'_, Option<Name>>
     ensures { Gives seen result (alias_at tokens.now) }
 {
     match after(tokens, Sign::Word(Keyword::As)) {
@@ -115,18 +115,14 @@ fn alias_if(alloc: Global, tokens: &[Token]) -> Result<(Option<Name>, &[Token]),
 }
 
 #[tactic(auto, unfolding(crate::specs::ReadSelects::item_at))]
-fn item(alloc: Global, depth: usize, tokens: &[Token]) -> Result<(Item, &[Token]), Stop>
+fn item(alloc: Global, depth: usize, tokens: &[Token]) -> Parsed<'_, Item>
     ensures { Gives seen result (item_at depth tokens.now) }
 {
     let (output, rest) = output(alloc, depth, tokens)?;
     alias_if(alloc, rest).map(|(alias, rest)| (Item { output, alias }, rest))
 }
 
-pub(crate) fn items(
-    alloc: Global,
-    depth: usize,
-    tokens: &[Token],
-) -> Result<(Items<Item>, &[Token]), Stop>
+pub(crate) fn items(alloc: Global, depth: usize, tokens: &[Token]) -> Parsed<'_, Items<Item>>
     ensures { Gives seen result (list_at (item_at depth) tokens.now) }
 {
     chain(
@@ -138,7 +134,7 @@ pub(crate) fn items(
 }
 
 #[tactic(auto, unfolding(crate::specs::ReadSelects::key_at))]
-fn key(alloc: Global, tokens: &[Token]) -> Result<(Key, &[Token]), Stop>
+fn key(alloc: Global, tokens: &[Token]) -> Parsed<'_, Key>
     ensures { Gives seen result (key_at tokens.now) }
 {
     match tokens {
@@ -149,7 +145,7 @@ fn key(alloc: Global, tokens: &[Token]) -> Result<(Key, &[Token]), Stop>
 }
 
 #[tactic(auto, unfolding(crate::specs::ReadSelects::order_at))]
-pub(crate) fn order(alloc: Global, tokens: &[Token]) -> Result<(Order, &[Token]), Stop>
+pub(crate) fn order(alloc: Global, tokens: &[Token]) -> Parsed<'_, Order>
     ensures { Gives seen result (order_at tokens.now) }
 {
     let (key, rest) = key(alloc, tokens)?;

@@ -7,14 +7,14 @@ ghost use Rattle.ssb_sql.specs.ReadParts.{column_at, small_at, below_at, plain_l
 ghost use Rattle.ssb_sql.specs.declared.token.Sign.TheVariants as s;
 
 use crate::named::ColumnName;
-use crate::steps::{Stop, after, is_literal_next, name, number};
+use crate::steps::{Parsed, Stop, after, is_literal_next, name, number};
 use crate::token::{Mark, Sign, Token};
 use ssb_terms::Literal;
 use ssb_trees::Operand;
 use std::alloc::Global;
 
 #[tactic(auto, unfolding(crate::specs::ReadParts::column_at))]
-pub(crate) fn column(alloc: Global, tokens: &[Token]) -> Result<(ColumnName, &[Token]), Stop>
+pub(crate) fn column(alloc: Global, tokens: &[Token]) -> Parsed<'_, ColumnName>
     ensures { Gives seen result (column_at tokens.now) }
 {
     let (found, rest) = name(alloc, tokens)?;
@@ -32,7 +32,7 @@ pub(crate) fn column(alloc: Global, tokens: &[Token]) -> Result<(ColumnName, &[T
 
 // A number that fits in 64 bits with a sign.
 #[tactic(auto, unfolding(crate::specs::ReadParts::small_at))]
-fn small(tokens: &[Token]) -> Result<(i64, &[Token]), Stop>
+fn small(tokens: &[Token]) -> Parsed<'_, i64>
     ensures { Gives seen result (small_at tokens.now) }
 {
     let (found, rest) = number(tokens)?;
@@ -45,7 +45,7 @@ fn small(tokens: &[Token]) -> Result<(i64, &[Token]), Stop>
 
 // A number as it stands behind a `-`: one of 0 or below that fits in 64 bits with a sign.
 #[tactic(auto, unfolding(crate::specs::ReadParts::below_at))]
-fn below(tokens: &[Token]) -> Result<(i64, &[Token]), Stop>
+fn below(tokens: &[Token]) -> Parsed<'_, i64>
     ensures { Gives seen result (below_at tokens.now) }
 {
     let (found, rest) = number(tokens)?;
@@ -57,7 +57,7 @@ fn below(tokens: &[Token]) -> Result<(i64, &[Token]), Stop>
 }
 
 #[tactic(auto, unfolding(crate::specs::ReadParts::plain_literal_at))]
-fn plain_literal(alloc: Global, tokens: &[Token]) -> Result<(Literal, &[Token]), Stop>
+fn plain_literal(alloc: Global, tokens: &[Token]) -> Parsed<'_, Literal>
     ensures { Gives seen result (plain_literal_at tokens.now) }
 {
     match tokens {
@@ -70,7 +70,7 @@ fn plain_literal(alloc: Global, tokens: &[Token]) -> Result<(Literal, &[Token]),
 }
 
 #[tactic(auto, unfolding(crate::specs::ReadParts::literal_at))]
-pub(crate) fn literal(alloc: Global, tokens: &[Token]) -> Result<(Literal, &[Token]), Stop>
+pub(crate) fn literal(alloc: Global, tokens: &[Token]) -> Parsed<'_, Literal>
     ensures { Gives seen result (literal_at tokens.now) }
 {
     if let Some(rest) = after(tokens, Sign::Mark(Mark::Plus)) {
@@ -90,18 +90,14 @@ pub(crate) trait Subject: Drop {
     ghost read_at: { ℕ → Parser Self };
 
     /// Reads it. It is one token at least, so that a chain of tests comes to its end.
-    fn read(alloc: Global, depth: usize, tokens: &[Token]) -> Result<(Self, &[Token]), Stop>
+    fn read(alloc: Global, depth: usize, tokens: &[Token]) -> Parsed<'_, Self>
         ensures { Gives seen result (nonempty_at (read_at depth) tokens.now) };
 }
 
 impl Subject for ColumnName {
     ghost read_at = { λ depth. column_at };
 
-    fn read(
-        alloc: Global,
-        _depth: usize,
-        tokens: &[Token],
-    ) -> Result<(ColumnName, &[Token]), Stop> {
+    fn read(alloc: Global, _depth: usize, tokens: &[Token]) -> Parsed<'_, ColumnName> {
         column(alloc, tokens)
     }
 }
@@ -111,7 +107,7 @@ pub(crate) fn operand<C: Subject>(
     alloc: Global,
     depth: usize,
     tokens: &[Token],
-) -> Result<(Operand<C>, &[Token]), Stop>
+) -> Parsed<'_, Operand<C>>
     ensures { Gives seen result (operand_at (C.read_at depth) tokens.now) }
 {
     if is_literal_next(tokens) {

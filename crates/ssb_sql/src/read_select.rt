@@ -14,7 +14,7 @@ use crate::read_condition::condition;
 use crate::read_item::{items, order};
 use crate::read_parts::{Subject, column};
 use crate::select::{Order, Output, Select};
-use crate::steps::{Stop, after, expect, name};
+use crate::steps::{Parsed, Stop, after, expect, name};
 use crate::token::{Mark, Sign, Token};
 use sqlite_items::Items;
 use ssb_terms::{Keyword, Name};
@@ -36,7 +36,7 @@ fn condition_if<C: Subject>(
     word: Keyword,
     depth: usize,
     tokens: &[Token],
-) -> Result<(Option<Filter<C>>, &[Token]), Stop>
+) -> Parsed<'_, Option<Filter<C>>>
     ensures { Gives seen result (filter_at word C.read_at depth tokens.now) }
 {
     match after(tokens, Sign::Word(word)) {
@@ -50,14 +50,9 @@ fn condition_if<C: Subject>(
 
 // The word, BY and a list; or nothing.
 #[tactic(auto, unfolding(crate::specs::ReadSelects::by_at))]
-fn by<T: Drop, F>(
-    alloc: Global,
-    word: Keyword,
-    tokens: &[Token],
-    list: F,
-) -> Result<(Items<T>, &[Token]), Stop>
+fn by<T: Drop, F>(alloc: Global, word: Keyword, tokens: &[Token], list: F) -> Parsed<'_, Items<T>>
 where
-    F: FnOnce(&[Token]) -> Result<(Items<T>, &[Token]), Stop>,
+    F: FnOnce(&[Token]) -> Parsed<'_, Items<T>>,
     requires { F.IsAlwaysCallable list }
     ensures { (p : Parser T) → Reads (F.post list) (list_at p) → Gives seen result (by_at word p tokens.now) }
 {
@@ -72,7 +67,7 @@ where
 
 // The columns of GROUP BY.
 #[tactic(auto, using(crate::proofs::PartFacts::column_shrinks))]
-fn columns(alloc: Global, tokens: &[Token]) -> Result<(Items<ColumnName>, &[Token]), Stop>
+fn columns(alloc: Global, tokens: &[Token]) -> Parsed<'_, Items<ColumnName>>
     ensures { Gives seen result (list_at column_at tokens.now) }
 {
     chain(alloc, COMMA, tokens, |start: &[Token]| column(alloc, start))
@@ -80,7 +75,7 @@ fn columns(alloc: Global, tokens: &[Token]) -> Result<(Items<ColumnName>, &[Toke
 
 // The keys of ORDER BY.
 #[tactic(auto, using(crate::proofs::ItemFacts::order_shrinks))]
-fn orders(alloc: Global, tokens: &[Token]) -> Result<(Items<Order>, &[Token]), Stop>
+fn orders(alloc: Global, tokens: &[Token]) -> Parsed<'_, Items<Order>>
     ensures { Gives seen result (list_at order_at tokens.now) }
 {
     chain(alloc, COMMA, tokens, |start: &[Token]| order(alloc, start))
@@ -154,8 +149,7 @@ fn filtered(alloc: Global, depth: usize, tokens: &[Token]) -> Result<Clauses, St
     ensures { Gives (λ x. x) result (filtered_at depth tokens.now) }
 {
     let (condition, rest) = condition_if(alloc, Keyword::Where, depth + 1, tokens)?;
-    let (groups, having, orders) = grouped(alloc, depth, rest)?;
-    Ok((condition, groups, having, orders))
+    grouped(alloc, depth, rest).map(|(groups, having, orders)| (condition, groups, having, orders))
 }
 
 // FROM, and what follows.
@@ -166,8 +160,7 @@ fn joined(alloc: Global, depth: usize, tokens: &[Token]) -> Result<(Items<Name>,
 {
     let tables = expect(tokens, Sign::Word(Keyword::From))?;
     let (from, rest) = chain(alloc, COMMA, tables, |start: &[Token]| name(alloc, start))?;
-    let clauses = filtered(alloc, depth, rest)?;
-    Ok((from, clauses))
+    filtered(alloc, depth, rest).map(|clauses| (from, clauses))
 }
 
 /// Reads a query up to its end, with at most `depth` open parentheses.

@@ -9,7 +9,7 @@ ghost use Rattle.ssb_sql.specs.declared.token.Sign.TheVariants as s;
 
 use crate::chain::{COMMA, chain};
 use crate::read_parts::{Subject, literal, operand};
-use crate::steps::{Stop, after, closing, expect, followed};
+use crate::steps::{Parsed, Stop, after, closing, expect, followed};
 use crate::token::{Mark, Sign, Token};
 use sqlite_items::Items;
 use ssb_terms::{Keyword, Literal, Op};
@@ -46,7 +46,7 @@ fn limits<C: Subject>(
     alloc: Global,
     depth: usize,
     tokens: &[Token],
-) -> Result<((Operand<C>, Operand<C>), &[Token]), Stop>
+) -> Parsed<'_, (Operand<C>, Operand<C>)>
     ensures { Gives seen result (limits_at (C.read_at depth) tokens.now) }
 {
     let (low, rest) = operand(alloc, depth, tokens)?;
@@ -56,7 +56,7 @@ fn limits<C: Subject>(
 
 // IN and the literals in its parentheses.
 #[tactic(auto, unfolding(crate::specs::ReadConditions::among_at, crate::specs::Steps::parens_at, crate::specs::Steps::closed_at), using(crate::proofs::PartFacts::literal_shrinks))]
-fn among(alloc: Global, tokens: &[Token]) -> Result<(Items<Literal>, &[Token]), Stop>
+fn among(alloc: Global, tokens: &[Token]) -> Parsed<'_, Items<Literal>>
     ensures { Gives seen result (among_at tokens.now) }
 {
     let rest = expect(tokens, Sign::Word(Keyword::In))?;
@@ -103,7 +103,7 @@ fn range<C: Subject>(
     negated: bool,
     operand: Operand<C>,
     tokens: &[Token],
-) -> Result<(Filter<C>, &[Token]), Stop>
+) -> Parsed<'_, Filter<C>>
     ensures { Gives seen result (range_at (C.read_at depth) negated operand tokens.now) }
 {
     match after(tokens, Sign::Word(Keyword::Between)) {
@@ -129,11 +129,7 @@ fn null_of<C: Drop>(negated: bool, operand: Operand<C>) -> Option<Filter<C>>
 
 // NULL, after the operand, IS and a NOT if there is one.
 #[tactic(auto, unfolding(crate::specs::ReadConditions::nulled_at))]
-fn nulled<C: Drop>(
-    negated: bool,
-    operand: Operand<C>,
-    tokens: &[Token],
-) -> Result<(Filter<C>, &[Token]), Stop>
+fn nulled<C: Drop>(negated: bool, operand: Operand<C>, tokens: &[Token]) -> Parsed<'_, Filter<C>>
     ensures { Gives seen result (nulled_at negated operand tokens.now) }
 {
     let (operand, rest) = followed(operand, Sign::Word(Keyword::Null), tokens)?;
@@ -145,7 +141,7 @@ fn nulled<C: Drop>(
 
 // [NOT] NULL, after the operand and IS.
 #[tactic(auto, unfolding(crate::specs::ReadConditions::null_at))]
-fn null<C: Drop>(operand: Operand<C>, tokens: &[Token]) -> Result<(Filter<C>, &[Token]), Stop>
+fn null<C: Drop>(operand: Operand<C>, tokens: &[Token]) -> Parsed<'_, Filter<C>>
     ensures { Gives seen result (null_at operand tokens.now) }
 {
     match after(tokens, Sign::Word(Keyword::Not)) {
@@ -161,7 +157,7 @@ fn compared<C: Subject>(
     depth: usize,
     left: Operand<C>,
     tokens: &[Token],
-) -> Result<(Filter<C>, &[Token]), Stop>
+) -> Parsed<'_, Filter<C>>
     ensures { Gives seen result (compared_at (C.read_at depth) left tokens.now) }
 {
     match op(tokens) {
@@ -180,7 +176,7 @@ fn tail<C: Subject>(
     depth: usize,
     operand: Operand<C>,
     tokens: &[Token],
-) -> Result<(Filter<C>, &[Token]), Stop>
+) -> Parsed<'_, Filter<C>>
     ensures { Gives seen result (tail_at (C.read_at depth) operand tokens.now) }
 {
     if let Some(rest) = after(tokens, Sign::Word(Keyword::Not)) {
@@ -198,7 +194,7 @@ pub(crate) fn bare<C: Subject>(
     alloc: Global,
     depth: usize,
     tokens: &[Token],
-) -> Result<(Filter<C>, &[Token]), Stop>
+) -> Parsed<'_, Filter<C>>
     ensures { Gives seen result (bare_at (C.read_at depth) tokens.now) }
 {
     let (operand, rest) = operand(alloc, depth, tokens)?;

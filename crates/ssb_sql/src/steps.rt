@@ -28,6 +28,9 @@ impl From<AllocError> for Stop {
     }
 }
 
+/// What was read, and the tokens behind it.
+pub(crate) type Parsed<'a, T> = Result<(T, &'a [Token]), Stop>;
+
 #[tactic(auto, unfolding(crate::specs::Steps::is_fixed, crate::specs::Steps::is_sign))]
 pub(crate) fn is_fixed(token: &Token, sign: Sign) -> bool
     ensures { result ≡ is_fixed sign token.now }
@@ -62,11 +65,7 @@ pub(crate) fn expect(tokens: &[Token], sign: Sign) -> Result<&[Token], Stop>
 }
 
 // What was read, where the sign comes next.
-pub(crate) fn followed<T: Drop>(
-    found: T,
-    sign: Sign,
-    tokens: &[Token],
-) -> Result<(T, &[Token]), Stop>
+pub(crate) fn followed<T: Drop>(found: T, sign: Sign, tokens: &[Token]) -> Parsed<'_, T>
     ensures { Gives seen result (followed_at found sign tokens.now) }
 {
     let rest = expect(tokens, sign)?;
@@ -74,7 +73,7 @@ pub(crate) fn followed<T: Drop>(
 }
 
 // What was read, where a `)` comes next.
-pub(crate) fn closing<T: Drop>(found: T, tokens: &[Token]) -> Result<(T, &[Token]), Stop>
+pub(crate) fn closing<T: Drop>(found: T, tokens: &[Token]) -> Parsed<'_, T>
     ensures { Gives seen result (followed_at found (s.Mark marks.Close) tokens.now) }
 {
     followed(found, Sign::Mark(Mark::Close), tokens)
@@ -93,7 +92,7 @@ pub(crate) fn is_literal_next(tokens: &[Token]) -> bool
 }
 
 #[tactic(auto, unfolding(crate::specs::Steps::name_at))]
-pub(crate) fn name(alloc: Global, tokens: &[Token]) -> Result<(Name, &[Token]), Stop>
+pub(crate) fn name(alloc: Global, tokens: &[Token]) -> Parsed<'_, Name>
     ensures { Gives seen result (name_at tokens.now) }
 {
     match tokens {
@@ -103,7 +102,7 @@ pub(crate) fn name(alloc: Global, tokens: &[Token]) -> Result<(Name, &[Token]), 
 }
 
 #[tactic(auto, unfolding(crate::specs::Steps::number_at))]
-pub(crate) fn number(tokens: &[Token]) -> Result<(u64, &[Token]), Stop>
+pub(crate) fn number(tokens: &[Token]) -> Parsed<'_, u64>
     ensures { Gives seen result (number_at tokens.now) }
 {
     match tokens {

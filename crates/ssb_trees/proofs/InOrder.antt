@@ -1,14 +1,12 @@
 -- Conditions whose operands are taken in their turn.
-use Rattle.std.proofs.Common.{◌≡◌, ℕ, ◌+◌, ◌<◌, List, [], ◌∷◌, ◌++◌, length, get_or, drop, map, fold, refl, sym, ap, ap₂, ◌∙◌, subst, append_assoc}
+use Rattle.std.proofs.Common.{◌≡◌, ℕ, ◌+◌, ◌<◌, List, [], ◌∷◌, ◌++◌, length, get_or, drop, map, sym, ap, ap₂, ◌∙◌, append_assoc}
 use Rattle.ssb_trees.proofs.Finding.{here}
-use Rattle.ssb_trees.proofs.Mapping.{mapped_same, same}
-use Rattle.ssb_trees.specs.Conditions.{each_in_order, in_order, in_order_layer, mapped, mapped_layer, operands, operands_layer}
-use Rattle.ssb_trees.specs.Lists.{concat}
+use Rattle.ssb_trees.specs.Conditions.{each_in_order, in_order, in_order_layer}
 use Rattle.ssb_trees.specs.declared.condition.Condition.{Condition}
 use Rattle.ssb_trees.specs.declared.condition.Condition.TheVariants as condition
 use Rattle.ssb_trees.specs.declared.condition.Condition.TheVariants.{rolls-Any, rolls-All}
 use Rattle.ssb_trees.specs.declared.condition.Condition.TheOpen.{Condition-F}
-use Rattle.ssb_trees.specs.declared.condition.Condition.TheFolds.{fold-roll-Condition, ind-Condition, map-Condition}
+use Rattle.ssb_trees.specs.declared.condition.Condition.TheFolds.{fold-roll-Condition, map-Condition}
 use Rattle.ssb_trees.specs.declared.condition.Condition.TheViews.{roll-Condition}
 
 module _ (O P S : Type 0) (given : S → O → P) (next : S → O → S) where

@@ -1,6 +1,6 @@
 -- What becomes of a condition whose operands are taken in their turn: where the state tells of the operands that are left, and in general.
 use Rattle.std.proofs.Common.{◌≡◌, List, [], ◌∷◌, ◌++◌, map, fold, refl, sym, ap, ap₂, ◌∙◌, subst, append_assoc}
-use Rattle.ssb_trees.proofs.InOrder.{made, Made, all_made, of_layer}
+use Rattle.ssb_trees.proofs.InOrder.{made, Made, of_layer}
 use Rattle.ssb_trees.proofs.Mapping.{mapped_same, same}
 use Rattle.ssb_trees.specs.Conditions.{each_in_order, in_order, in_order_layer, mapped, mapped_layer, operands, operands_layer}
 use Rattle.ssb_trees.specs.Lists.{concat}

@@ -7,10 +7,16 @@ use Rattle.ssb_trees.specs.declared.condition.Condition.TheVariants as condition
 use Rattle.ssb_trees.specs.declared.condition.Condition.TheOpen.{Condition-F}
 use Rattle.ssb_trees.specs.declared.condition.Condition.TheFolds.{fold-Condition}
 use Rattle.ssb_trees.specs.declared.operand.Operand.{Operand}
+use Rattle.ssb_trees.specs.declared.operand.Operand.TheVariants as operand
 
 -- a condition over columns and literals, as WHERE has one
 abbrev pub Filter : Type 0 → Type 0
 Filter C = Condition (Operand C)
+
+-- the same operand with f of its column
+abbrev pub mapped_operand : (C D : Type 0) → (C → D) → Operand C → Operand D
+mapped_operand C D f (operand.Column c) = operand.Column (f c)
+mapped_operand C D f (operand.Literal l) = operand.Literal l
 
 -- one form of condition, with f of each operand
 abbrev pub mapped_layer : (O P : Type 0) → (O → P) → Condition-F O (Condition P) → Condition P

@@ -5,6 +5,9 @@ ghost use Rattle.std.specs.Option.{option_copied};
 
 use std::alloc::{AllocError, Global};
 
+/// What was made, or an `Err` where a growth was refused.
+pub type Made<B> = Result<B, AllocError>;
+
 /// What each leaf of a tree becomes.
 pub trait Leaves<A, B> {
     /// What a leaf becomes.
@@ -15,7 +18,7 @@ pub trait Leaves<A, B> {
     /// # Errors
     ///
     /// Only where a growth was refused.
-    fn leaf(&self, alloc: Global, leaf: &A) -> Result<B, AllocError>
+    fn leaf(&self, alloc: Global, leaf: &A) -> Made<B>
         ensures { IfOk result (λ b. b ≡ given self.now leaf.now) };
 }
 
@@ -32,7 +35,7 @@ pub trait LeavesInOrder<A, B> {
     /// # Errors
     ///
     /// Only where a growth was refused.
-    fn leaf(&mut self, alloc: Global, leaf: &A) -> Result<B, AllocError>
+    fn leaf(&mut self, alloc: Global, leaf: &A) -> Made<B>
         ensures { IfOk result (λ b. (b ≡ given self.old leaf.now) × (self.new ≡ next self.old leaf.now)) };
 }
 
@@ -47,7 +50,7 @@ impl<A, B, M: Leaves<A, B>> LeavesInOrder<A, B> for Whatever<'_, M> {
 
     ghost next = { λ whatever a. whatever };
 
-    fn leaf(&mut self, alloc: Global, leaf: &A) -> Result<B, AllocError> {
+    fn leaf(&mut self, alloc: Global, leaf: &A) -> Made<B> {
         self.leaves.leaf(alloc, leaf)
     }
 }

@@ -4,17 +4,17 @@ ghost use Rattle.std.specs.Prelude.{◌≡◌, IfOk, map};
 ghost use Rattle.ssb_trees.specs.Conditions.{each_in_order, in_order, mapped};
 
 use crate::condition::Condition;
-use crate::leaf::{Leaves, LeavesInOrder, Whatever};
+use crate::leaf::{Leaves, LeavesInOrder, Made, Whatever};
 use sqlite_items::{Boxed, Items};
 use ssb_terms::{Literal, copy_literals};
-use std::alloc::{AllocError, Global};
+use std::alloc::Global;
 
 fn mapped_two<O, P: Drop, M: LeavesInOrder<O, P>>(
     alloc: Global,
     operands: &mut M,
     a: &O,
     b: &O,
-) -> Result<(P, P), AllocError>
+) -> Made<(P, P)>
     ensures { let t = M.next operands.old a.now in IfOk result (λ two. (two ≡ (M.given operands.old a.now, M.given t b.now)) × (operands.new ≡ M.next t b.now)) }
 {
     let a = operands.leaf(alloc, a)?;
@@ -28,7 +28,7 @@ fn mapped_three<O, P: Drop, M: LeavesInOrder<O, P>>(
     x: &O,
     a: &O,
     b: &O,
-) -> Result<(P, P, P), AllocError>
+) -> Made<(P, P, P)>
     ensures { let t = M.next operands.old x.now in let u = M.next t a.now in IfOk result (λ three. (three ≡ (M.given operands.old x.now, M.given t a.now, M.given u b.now)) × (operands.new ≡ M.next u b.now)) }
 {
     let x = operands.leaf(alloc, x)?;
@@ -42,7 +42,7 @@ fn mapped_test<O, P: Drop, M: LeavesInOrder<O, P>>(
     operands: &mut M,
     x: &O,
     literals: &[Literal],
-) -> Result<(P, Items<Literal>), AllocError>
+) -> Made<(P, Items<Literal>)>
     ensures { IfOk result (λ test. (test ≡ (M.given operands.old x.now, literals.now)) × (operands.new ≡ M.next operands.old x.now)) }
 {
     let literals = copy_literals(alloc, literals)?;
@@ -55,7 +55,7 @@ fn mapped_parts<O, P: Drop, M: LeavesInOrder<O, P>>(
     alloc: Global,
     operands: &mut M,
     parts: &[Condition<O>],
-) -> Result<Items<Condition<P>>, AllocError>
+) -> Made<Items<Condition<P>>>
     ensures { let r = each_in_order (map (in_order _ _ _ M.given M.next) parts.now) operands.old in IfOk result (λ all. (all ≡ r.0) × (operands.new ≡ r.1)) }
 {
     let mut all = Items::new(alloc);
@@ -70,7 +70,7 @@ fn mapped_condition<O, P: Drop, M: LeavesInOrder<O, P>>(
     alloc: Global,
     operands: &mut M,
     condition: &Condition<O>,
-) -> Result<Condition<P>, AllocError>
+) -> Made<Condition<P>>
     ensures { let r = in_order _ _ _ M.given M.next condition.now operands.old in IfOk result (λ c. (c ≡ r.0) × (operands.new ≡ r.1)) }
 {
     match condition {
@@ -121,7 +121,7 @@ impl<O> Condition<O> {
         &self,
         alloc: Global,
         operands: &M,
-    ) -> Result<Condition<P>, AllocError>
+    ) -> Made<Condition<P>>
         ensures { IfOk result (λ c. c ≡ mapped _ _ (M.given operands.now) self.now) }
     {
         mapped_condition(alloc, &mut Whatever { leaves: operands }, self)
@@ -136,7 +136,7 @@ impl<O> Condition<O> {
         &self,
         alloc: Global,
         operands: &mut M,
-    ) -> Result<Condition<P>, AllocError>
+    ) -> Made<Condition<P>>
         ensures { let r = in_order _ _ _ M.given M.next self.now operands.old in IfOk result (λ c. (c ≡ r.0) × (operands.new ≡ r.1)) }
     {
         mapped_condition(alloc, operands, self)

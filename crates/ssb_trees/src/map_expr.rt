@@ -4,16 +4,16 @@ ghost use Rattle.std.specs.Prelude.{◌≡◌, IfOk, map};
 ghost use Rattle.ssb_trees.specs.Expressions.{mapped, mapped_step};
 
 use crate::expr::{Expr, Step};
-use crate::leaf::Leaves;
+use crate::leaf::{Leaves, Made};
 use sqlite_items::{Boxed, Items};
-use std::alloc::{AllocError, Global};
+use std::alloc::Global;
 
 #[cycle(expr)]
 fn mapped_steps<C, D: Drop, M: Leaves<C, D>>(
     alloc: Global,
     columns: &M,
     steps: &[Step<C>],
-) -> Result<Items<Step<D>>, AllocError>
+) -> Made<Items<Step<D>>>
     ensures { IfOk result (λ all. all ≡ map (mapped_step _ _ (M.given columns.now)) steps.now) }
 {
     let mut all = Items::new(alloc);
@@ -30,7 +30,7 @@ fn mapped_factors<C, D: Drop, M: Leaves<C, D>>(
     alloc: Global,
     columns: &M,
     factors: &[Expr<C>],
-) -> Result<Items<Expr<D>>, AllocError>
+) -> Made<Items<Expr<D>>>
     ensures { IfOk result (λ all. all ≡ map (mapped _ _ (M.given columns.now)) factors.now) }
 {
     let mut all = Items::new(alloc);
@@ -45,7 +45,7 @@ fn mapped_expr<C, D: Drop, M: Leaves<C, D>>(
     alloc: Global,
     columns: &M,
     expr: &Expr<C>,
-) -> Result<Expr<D>, AllocError>
+) -> Made<Expr<D>>
     ensures { IfOk result (λ e. e ≡ mapped _ _ (M.given columns.now) expr.now) }
 {
     match expr {
@@ -78,11 +78,7 @@ impl<C> Expr<C> {
     /// # Errors
     ///
     /// Only where a growth was refused.
-    pub fn mapped<D: Drop, M: Leaves<C, D>>(
-        &self,
-        alloc: Global,
-        columns: &M,
-    ) -> Result<Expr<D>, AllocError>
+    pub fn mapped<D: Drop, M: Leaves<C, D>>(&self, alloc: Global, columns: &M) -> Made<Expr<D>>
         ensures { IfOk result (λ e. e ≡ mapped _ _ (M.given columns.now) self.now) }
     {
         mapped_expr(alloc, columns, self)

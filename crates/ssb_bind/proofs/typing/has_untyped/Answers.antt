@@ -1,4 +1,4 @@
-use Rattle.std.proofs.Common.{◌≡◌, is_some, ap, ◌∙◌, sym, rules}
+use Rattle.std.proofs.Common.{◌≡◌, is_some, ap, ◌∙◌, rules}
 use Rattle.std.specs.Option.{option_copied}
 use Rattle.ssb_trees.specs.Conditions.{operands}
 use Rattle.ssb_bind.specs.Typing.{is_untyped_operand}

@@ -1,0 +1,14 @@
+//! What the program `ssb` does: words, files, one run, and one line and a status for a fault.
+//!
+//! [`status_of_program`] is the whole program over a handle; `ssb_program` calls it with that of the system.
+#![tactic(auto)]
+
+mod check;
+mod fault;
+mod files;
+mod program;
+mod report;
+mod sections;
+mod spans;
+
+pub use program::status_of_program;

@@ -71,14 +71,14 @@ fn settings_of(workers: Option<u32>, morsel: Option<u32>, parts: Option<u32>) ->
     )
 }
 
-// Answers a text over files, into a sink.
+// Answers a text over sources, and writes the answer to a writer that tells what it took.
 fn answer_into<R: AllocGlobal + Threads + Wait + Sync, S: Source + Send, W: Write + Drop>(
     rt: &R,
+    out: &mut Out<W>,
     catalog: Catalog,
     sources: &mut [Joined<S>],
     text: &str,
     settings: Settings,
-    out: &mut Out<W>,
 ) -> Result<(), RunFault>
     requires { length sources.old ≡ length catalog }
 {
@@ -106,7 +106,7 @@ fn write_answer<R: AllocGlobal + Threads + Wait + Sync, S: Source + Send, W: Wri
     requires { length sources.old ≡ length catalog }
 {
     let mut out = Out::new(writer);
-    let answered = answer_into(rt, catalog, sources, text, settings, &mut out);
+    let answered = answer_into(rt, &mut out, catalog, sources, text, settings);
     let writer = out.into_writer();
     match answered {
         Ok(()) => flush(writer),

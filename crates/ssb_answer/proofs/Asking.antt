@@ -1,8 +1,8 @@
 -- From a text to what is answered.
 use Rattle.std.proofs.Common.{◌≡◌, ◌<◌, List, length, Result, Ok, Err, subst}
 use Rattle.std.proofs.lemmas.List.Quantifiers.{position-Some}
-use Rattle.ssb_load.specs.Catalog.{IsCatalog}
-use Rattle.ssb_load.specs.Shapes.{TableShape}
+use Rattle.ssb_catalog.specs.Catalog.{IsCatalog}
+use Rattle.ssb_catalog.specs.Shapes.{TableShape}
 use Rattle.ssb_sql.specs.declared.fault.SqlFault.TheVariants as sql
 use Rattle.ssb_query.specs.Star.{IsStar}
 use Rattle.ssb_query.specs.declared.query.QueryParts.{QueryParts}

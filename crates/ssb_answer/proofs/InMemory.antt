@@ -1,7 +1,7 @@
 -- A run over files in memory, whose answer is kept in memory.
 use Rattle.std.proofs.Common.{◌≡◌, ◌++◌, ◌⊎◌, inl, inr, ◌∙◌, [], ◌∷◌, List, ℕ, Some, Err, Bor, map, refl, sym, ap}
-use Rattle.ssb_load.specs.Shapes.{TableShape}
-use Rattle.ssb_load.specs.declared.fault.LoadFault.TheVariants as load
+use Rattle.ssb_catalog.specs.Shapes.{TableShape}
+use Rattle.ssb_records.specs.declared.fault.LoadFault.TheVariants as load
 use Rattle.ssb_sql.specs.declared.fault.SqlFault.TheVariants as sql
 use Rattle.ssb_load.specs.Files.{Bytes}
 use Rattle.ssb_reply.specs.Reply.{IsOfContent, Replies}

@@ -1,7 +1,7 @@
 -- What reading and binding a text answers, and answering its query.
 -- For the contracts inside this crate.
 use Rattle.std.specs.Prelude.{List, Result, Ok, Err, ⊤}
-use Rattle.ssb_load.specs.Shapes.{TableShape}
+use Rattle.ssb_catalog.specs.Shapes.{TableShape}
 use Rattle.ssb_sql.specs.Spells.{ReadsText}
 use Rattle.ssb_sql.specs.declared.fault.SqlFault.TheVariants as sql
 use Rattle.ssb_query.specs.declared.query.QueryParts.{QueryParts}

@@ -4,7 +4,8 @@ ghost use Rattle.std.specs.Prelude.{◌≡◌, ◌⊎◌, [], IfErr, IfOk, Ok, E
 ghost use Rattle.ssb_reply.specs.Reply.{IsOfContent, Replies};
 
 use crate::readers::run_alone;
-use ssb_load::{Catalog, LoadFault};
+use ssb_catalog::Catalog;
+use ssb_records::LoadFault;
 use ssb_reply::{DEFAULT_MORSEL_SIZE, Out, RunFault};
 use ssb_rows::AnswerFault;
 use std::alloc::Global;

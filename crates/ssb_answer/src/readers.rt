@@ -6,8 +6,10 @@ ghost use Rattle.ssb_reply.specs.Reply.{Replies};
 ghost use Rattle.ssb_reply.specs.Running.{LeavesSink};
 
 use crate::whole::{run_alone_from, run_from};
-use ssb_load::{Catalog, In, Joined, PIECE_SIZE, Source};
+use ssb_catalog::Catalog;
+use ssb_load::Joined;
 use ssb_pipeline::Gate;
+use ssb_records::{In, PIECE_SIZE, Source};
 use ssb_reply::{RunFault, Settings};
 use ssb_rows::Sink;
 use std::alloc::{AllocError, Global};

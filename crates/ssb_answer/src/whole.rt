@@ -2,7 +2,7 @@
 
 ghost use Rattle.std.specs.Prelude.{◌≡◌, ◌<◌, Err, IfErr, IfOk, length};
 ghost use Rattle.std.specs.Arc.{arc_value};
-ghost use Rattle.ssb_load.specs.Catalog.{IsCatalog};
+ghost use Rattle.ssb_catalog.specs.Catalog.{IsCatalog};
 ghost use Rattle.ssb_answer.specs.Asking.{Asked, AnswersText};
 ghost use Rattle.ssb_groups.specs.Stands.{Stands};
 ghost use Rattle.ssb_job.specs.Kept.{AreOneJob};
@@ -14,12 +14,14 @@ ghost use Rattle.ssb_reply.specs.Running.{LeavesSink, RunsFrom};
 
 use crate::grouping::{group_alone, group_shared};
 use ssb_bind::bind;
+use ssb_catalog::Catalog;
 use ssb_cells::Table;
 use ssb_groups::Groups;
 use ssb_job::Job;
-use ssb_load::{Catalog, Joined, PIECE_SIZE, Source, load_all, load_all_with};
+use ssb_load::{Joined, load_all, load_all_with};
 use ssb_pipeline::Gate;
 use ssb_query::Query;
+use ssb_records::{PIECE_SIZE, Source};
 use ssb_reply::{RunFault, Settings};
 use ssb_rows::{Answer, AnswerFault, Sink, rows, write_answer};
 use ssb_sql::read;

@@ -3,7 +3,9 @@
 ghost use Rattle.std.specs.Prelude.{◌≡◌, [], All, IfSome, length, vec_len};
 
 use crate::probe::{catalog_in, micros_since};
-use ssb_load::{Catalog, In, Joined, PIECE_SIZE, TableDef, load_all_with};
+use ssb_catalog::{Catalog, TableDef};
+use ssb_load::{Joined, load_all_with};
+use ssb_records::{In, PIECE_SIZE};
 use std::fs;
 use std::fs::{File, OpenFile};
 use std::io::{Read, Seek, SeekFrom, Take};

@@ -1,7 +1,7 @@
 // The records of a file, read bare.
 
 use csv::{ByteRecord, Error};
-use ssb_load::bar_reader;
+use ssb_records::bar_reader;
 use std::alloc::Global;
 use std::io::Read;
 

@@ -1,6 +1,6 @@
 -- Counting what a name or a key fits.
 use Rattle.std.proofs.Common.{◌≡◌, ℕ, ◌+◌, ◌<◌, List, [], ◌∷◌, ◌++◌, length, drop, get_or, fold, slice_get, refl, sym, ap, ◌∙◌}
-use Rattle.ssb_load.specs.Shapes.{TableShape}
+use Rattle.ssb_catalog.specs.Shapes.{TableShape}
 use Rattle.ssb_sql.specs.declared.named.ColumnName.{ColumnName}
 use Rattle.ssb_bind.specs.Binding.{and_one}
 use Rattle.ssb_bind.specs.Columns.{fit_of, fitting_in, fitting_from}

@@ -4,9 +4,9 @@ use Rattle.std.proofs.lemmas.Bool.{ltb-false}
 use Rattle.std.proofs.lemmas.List.{length-map}
 use Rattle.std.proofs.lemmas.List.Quantifiers.{position-Some}
 use Rattle.std.specs.List.{All}
-use Rattle.ssb_load.proofs.Choices.{cond-none, cond-passes}
-use Rattle.ssb_load.specs.Catalog.{IsCatalog, is_table_named}
-use Rattle.ssb_load.specs.Shapes.{TableShape, rules_of}
+use Rattle.ssb_catalog.proofs.Choices.{cond-none, cond-passes}
+use Rattle.ssb_catalog.specs.Catalog.{IsCatalog, is_table_named}
+use Rattle.ssb_catalog.specs.Shapes.{TableShape, rules_of}
 use Rattle.ssb_sql.specs.declared.select.Select.{Select}
 use Rattle.ssb_trees.specs.Conditions.{Filter}
 use Rattle.ssb_trees.specs.Lists.{concat}

@@ -2,7 +2,7 @@
 -- Source: SQL-92, 7.9 <query specification>, cut down to the language.
 use Rattle.std.specs.Prelude.{ℕ, nat_eq, Bool, ◌&&◌, List, [], Option, Some, None}
 use Rattle.std.specs.List.{filter_map, position}
-use Rattle.ssb_load.specs.Shapes.{TableShape}
+use Rattle.ssb_catalog.specs.Shapes.{TableShape}
 use Rattle.ssb_sql.specs.declared.named.ColumnName.{ColumnName}
 use Rattle.ssb_trees.specs.declared.operand.Operand.TheVariants as operand
 use Rattle.ssb_sql.specs.declared.select.Item.{Item}

@@ -2,9 +2,9 @@
 -- Source: SQL-92, 6.4 <column reference>. Names are in lower case on both sides.
 use Rattle.std.specs.Prelude.{ℕ, ◌+◌, Bool, true, false, if◌then◌else◌, List, [], ◌∷◌, ◌++◌, map, Option, Some, None, slice_get, unwrap_or}
 use Rattle.std.specs.List.{position}
-use Rattle.ssb_load.specs.Catalog.{is_table_named, is_column_named}
-use Rattle.ssb_load.specs.Shapes.{TableShape}
-use Rattle.ssb_load.specs.declared.catalog.ColumnDef.{ColumnDef}
+use Rattle.ssb_catalog.specs.Catalog.{is_table_named, is_column_named}
+use Rattle.ssb_catalog.specs.Shapes.{TableShape}
+use Rattle.ssb_catalog.specs.declared.catalog.ColumnDef.{ColumnDef}
 use Rattle.ssb_sql.specs.declared.named.ColumnName.{ColumnName}
 use Rattle.ssb_query.specs.declared.column.BoundColumn.{BoundColumn}
 use Rattle.ssb_bind.specs.declared.fit.Fit.{Fit}

@@ -4,7 +4,7 @@
 use Rattle.std.specs.Prelude.{◌≡◌, ◌⊎◌, ℕ, Bool, true, false, ◌++◌, if◌then◌else◌, List, [], ◌∷◌, length, nat_lt, Option, Some, None, Result, Ok, Err, find, is_none, map, unwrap_or, All}
 use Rattle.std.specs.List.{list_any}
 use Rattle.std.specs.Str.{bytes_eq}
-use Rattle.ssb_load.specs.Shapes.{TableShape}
+use Rattle.ssb_catalog.specs.Shapes.{TableShape}
 use Rattle.ssb_sql.specs.declared.named.ColumnName.{ColumnName}
 use Rattle.ssb_sql.specs.declared.select.Select.{Select}
 use Rattle.ssb_bind.specs.Bound.{bound_where, group_place, having_aggregates}

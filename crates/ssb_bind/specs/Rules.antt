@@ -1,7 +1,7 @@
 -- What a query keeps of its catalog.
 -- Source: own.
 use Rattle.std.specs.Prelude.{List, map}
-use Rattle.ssb_load.specs.Shapes.{TableShape, rules_of}
+use Rattle.ssb_catalog.specs.Shapes.{TableShape, rules_of}
 use Rattle.ssb_query.specs.declared.query.TableRules.{TableRules}
 
 -- what the columns of each table of the catalog take

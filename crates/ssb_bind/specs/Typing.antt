@@ -2,7 +2,7 @@
 -- Source: SQL-92, 6.5 <set function specification>, 8.2 <comparison predicate>.
 use Rattle.std.specs.Prelude.{Bool, false, ◌||◌, List, Option, Some, None, is_none}
 use Rattle.std.specs.List.{list_any}
-use Rattle.ssb_load.specs.Shapes.{TableShape}
+use Rattle.ssb_catalog.specs.Shapes.{TableShape}
 use Rattle.ssb_sql.specs.declared.named.ColumnName.{ColumnName}
 use Rattle.ssb_sql.specs.declared.select.Output.{Output}
 use Rattle.ssb_sql.specs.declared.select.Output.TheVariants as output

@@ -14,7 +14,7 @@ use crate::orders::{bound_orders, name_of};
 use crate::resolve::{Scope, bound_name};
 use crate::star::fact_place;
 use sqlite_items::Items;
-use ssb_load::{ColumnDef, TableDef};
+use ssb_catalog::{ColumnDef, TableDef};
 use ssb_query::{BoundColumn, BoundItem, Origin, QueryParts, TableRules};
 use ssb_sql::{ColumnName, Item, Output, Select};
 use ssb_terms::{Name, Rule};

@@ -9,7 +9,7 @@ use crate::bind_select::bound_query;
 use crate::fault::BindFault;
 use crate::judge::check;
 use crate::resolve::table_numbers;
-use ssb_load::{Catalog, TableDef};
+use ssb_catalog::{Catalog, TableDef};
 use ssb_query::{Query, QueryParts};
 use ssb_sql::Select;
 use std::alloc::Global;

@@ -8,7 +8,7 @@ ghost use Rattle.ssb_bind.specs.Names.{own_columns};
 
 use crate::resolve::bound_name;
 use crate::search::{Search, in_filter, in_items};
-use ssb_load::TableDef;
+use ssb_catalog::TableDef;
 use ssb_query::BoundColumn;
 use ssb_sql::{ColumnName, Output, Select};
 

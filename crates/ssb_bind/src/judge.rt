@@ -18,7 +18,7 @@ use crate::orders::bad_order;
 use crate::resolve::table_number;
 use crate::star::{fact_place, unjoined};
 use crate::typing::has_mismatch;
-use ssb_load::TableDef;
+use ssb_catalog::TableDef;
 use ssb_query::QueryParts;
 use ssb_sql::Select;
 use ssb_terms::Name;

@@ -4,7 +4,7 @@ ghost use Rattle.std.specs.Prelude.{◌≡◌, List};
 ghost use Rattle.ssb_bind.specs.Faults.{Means};
 ghost use Rattle.ssb_bind.specs.Types.{TextsAreColumns};
 ghost use Rattle.ssb_query.specs.declared.query.QueryParts.{QueryParts};
-ghost use Rattle.ssb_load.specs.Shapes.{TableShape};
+ghost use Rattle.ssb_catalog.specs.Shapes.{TableShape};
 ghost use Rattle.ssb_sql.specs.declared.select.Select.{Select};
 
 /// A law: a select means at most one query over a catalog.

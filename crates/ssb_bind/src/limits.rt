@@ -3,7 +3,7 @@
 ghost use Rattle.std.specs.Prelude.{◌≡◌, ◌++◌, ℕ, List, length};
 ghost use Rattle.ssb_bind.specs.Bound.{aggregates_of, having_aggregates};
 ghost use Rattle.ssb_bind.specs.Faults as spec;
-ghost use Rattle.ssb_load.specs.Shapes.{TableShape};
+ghost use Rattle.ssb_catalog.specs.Shapes.{TableShape};
 
 use crate::bind_select::is_aggregate;
 use crate::fault::TooMany;

@@ -9,7 +9,7 @@ ghost use Rattle.ssb_bind.specs.Names as names;
 use crate::fit::{Fit, Wrong};
 use crate::resolve::fit_of;
 use crate::search::{Search, in_filter, in_items};
-use ssb_load::TableDef;
+use ssb_catalog::TableDef;
 use ssb_sql::{ColumnName, Output, Select};
 use ssb_trees::{Aggregate, Test};
 

@@ -6,7 +6,7 @@ ghost use Rattle.ssb_bind.specs.Columns as columns;
 
 use crate::fit::Fit;
 use sqlite_items::Items;
-use ssb_load::{ColumnDef, TableDef};
+use ssb_catalog::{ColumnDef, TableDef};
 use ssb_query::BoundColumn;
 use ssb_sql::ColumnName;
 use ssb_terms::Name;

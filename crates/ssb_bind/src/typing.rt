@@ -6,7 +6,7 @@ ghost use Rattle.ssb_bind.specs.Typing as spec;
 
 use crate::resolve::bound_name;
 use crate::types::{Kinds, aggregate_type, has_mixed};
-use ssb_load::TableDef;
+use ssb_catalog::TableDef;
 use ssb_query::QueryParts;
 use ssb_sql::{ColumnName, Item, Output, Select};
 use ssb_terms::ColType;

@@ -5,21 +5,21 @@ use Rattle.std.proofs.lemmas.Grind.{flat_map-append}
 use Rattle.std.proofs.lemmas.List.{append-nil, map-append}
 use Rattle.ssb_cells.specs.Cell.{Filled}
 use Rattle.ssb_load.specs.Assembly.{IsAssembled, IsHeld, all_in, subject_in}
-use Rattle.ssb_load.specs.Intake.{Refuses, table}
-use Rattle.ssb_load.specs.Lines.{IsPartOfLine}
+use Rattle.ssb_load.specs.Subject.{Refuses, table}
+use Rattle.ssb_records.specs.Lines.{IsPartOfLine}
 use Rattle.ssb_load.specs.Moved.{moved}
-use Rattle.ssb_load.specs.Records.{Fields}
+use Rattle.ssb_records.specs.Records.{Fields}
 use Rattle.ssb_terms.specs.Roles.{key_place}
 use Rattle.ssb_load.specs.Rules.{columns_of}
 use Rattle.ssb_load.specs.TableIntake.{IsLoading, subject_of}
 use Rattle.ssb_load.specs.Tables.{first_fault}
 use Rattle.ssb_load.specs.declared.assembly.Assembly.{Assembly}
-use Rattle.ssb_load.specs.declared.fault.LoadFault.{LoadFault}
-use Rattle.ssb_load.specs.declared.fault.LoadFault.TheVariants as load
-use Rattle.ssb_load.specs.declared.fault.RecordFault.TheVariants as faults
+use Rattle.ssb_records.specs.declared.fault.LoadFault.{LoadFault}
+use Rattle.ssb_records.specs.declared.fault.LoadFault.TheVariants as load
+use Rattle.ssb_records.specs.declared.fault.RecordFault.TheVariants as faults
 use Rattle.ssb_terms.specs.declared.rule.Rule.{Rule}
 use Rattle.ssb_load.specs.declared.table_intake.TableIntake.{TableIntake}
-use Rattle.ssb_load.proofs.Blocks.{no-records}
+use Rattle.ssb_records.proofs.Blocks.{no-records}
 use Rattle.ssb_load.proofs.FaultFacts.{fault-append, fault-none}
 use Rattle.ssb_load.proofs.TableTaking.{limit-is, rules-are}
 use Rattle.ssb_load.proofs.MovedFacts.{first-moved, number-of, past-all}

@@ -5,22 +5,22 @@ use Rattle.std.proofs.lemmas.Grind.{flat_map-append}
 use Rattle.std.proofs.lemmas.List.{append-nil, map-append}
 use Rattle.ssb_cells.specs.Cell.{Filled}
 use Rattle.ssb_load.specs.Assembly.{AreParts, Begins, Halts, IsAssembled, IsHeld, IsWhole, RefusesAll, all_in, lead, subject_in}
-use Rattle.ssb_load.specs.CutShort.{IsCutShort}
-use Rattle.ssb_load.specs.Intake.{AreGood, Refuses, Subject}
-use Rattle.ssb_load.specs.Lines.{AreLines, EndsInLf, IsPartOfLine}
+use Rattle.ssb_records.specs.CutShort.{IsCutShort}
+use Rattle.ssb_load.specs.Subject.{AreGood, Refuses, Subject}
+use Rattle.ssb_records.specs.Lines.{AreLines, EndsInLf, IsPartOfLine}
 use Rattle.ssb_load.specs.Moved.{moved}
 use Rattle.ssb_load.specs.Part.{IsBrokenOff, IsPart, IsRefused}
-use Rattle.ssb_load.specs.Records.{Fields, records_of}
+use Rattle.ssb_records.specs.Records.{Fields, records_of}
 use Rattle.ssb_load.specs.Rules.{columns_of}
 use Rattle.ssb_load.specs.TableIntake.{subject_of}
 use Rattle.ssb_load.specs.Tables.{first_fault}
 use Rattle.ssb_load.specs.declared.assembly.Assembly.{Assembly}
-use Rattle.ssb_load.specs.declared.fault.LoadFault.{LoadFault}
-use Rattle.ssb_load.specs.declared.fault.LoadFault.TheVariants as load
+use Rattle.ssb_records.specs.declared.fault.LoadFault.{LoadFault}
+use Rattle.ssb_records.specs.declared.fault.LoadFault.TheVariants as load
 use Rattle.ssb_load.specs.declared.part.Part.{Part}
 use Rattle.ssb_load.proofs.AssemblyFacts.{clean-few, held-after, refuses-moved}
-use Rattle.ssb_load.proofs.Blocks.{no-records, records-of-append}
-use Rattle.ssb_load.proofs.LineRecords.{ends-lf, first-records, lf-behind}
+use Rattle.ssb_records.proofs.Blocks.{no-records, records-of-append}
+use Rattle.ssb_records.proofs.LineRecords.{ends-lf, first-records, lf-behind}
 use Rattle.ssb_load.proofs.PartTaking.{led-lines, part-append}
 
 pub begin-lines : (b : Bool) (lines : List ℕ) → Begins b lines → AreLines lines

@@ -5,17 +5,17 @@ use Rattle.std.specs.List.{list_all}
 use Rattle.std.specs.Str.{is_utf8}
 use Rattle.std.proofs.lemmas.List.{append-nil}
 use Rattle.std.proofs.lemmas.Bool.{or_parts}
-use Rattle.ssb_load.proofs.Choices.{cond-none}
-use Rattle.ssb_load.specs.Records.{Fields, field}
+use Rattle.ssb_catalog.proofs.Choices.{cond-none}
+use Rattle.ssb_records.specs.Records.{Fields, field}
 use Rattle.ssb_load.specs.Rules.{any_from, any_field, key_of}
 use Rattle.ssb_load.specs.Loader.{fails}
 use Rattle.ssb_load.specs.Tables.{repeats, fault_of, first_fault, or_later}
 use Rattle.ssb_load.specs.Loader.{fault_by}
-use Rattle.ssb_load.specs.Width.{has_width}
+use Rattle.ssb_records.specs.Width.{has_width}
 use Rattle.ssb_load.specs.Loader.{fails_some}
 use Rattle.ssb_terms.specs.declared.rule.Rule.{Rule}
 use Rattle.ssb_load.specs.declared.value.Test.TheVariants as tests
-use Rattle.ssb_load.specs.declared.fault.RecordFault.{RecordFault}
+use Rattle.ssb_records.specs.declared.fault.RecordFault.{RecordFault}
 
 -- a record that passes each test
 pub record Passes (rules : List Rule) (max_rows count : ℕ) (has : ℤ → Bool) (r : Fields) : Type 0 where

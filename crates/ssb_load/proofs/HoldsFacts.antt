@@ -5,7 +5,7 @@ use Rattle.std.proofs.lemmas.List.{length-map, map-append}
 use Rattle.ssb_cells.specs.Cell.{Filled}
 use Rattle.ssb_cells.specs.Tables.{AreLong, rows_in}
 use Rattle.ssb_load.proofs.RuleFacts.{sized-len}
-use Rattle.ssb_load.specs.Records.{Fields}
+use Rattle.ssb_records.specs.Records.{Fields}
 use Rattle.ssb_load.specs.Rules.{has_key, key_of, is_value, columns_from, columns_of}
 use Rattle.ssb_load.specs.Tables.{repeats, fault_of}
 use Rattle.ssb_load.specs.Loader.{fault_by}

@@ -6,13 +6,13 @@ use Rattle.std.proofs.lemmas.List.{append-nil, drop-drop, drop-set-lt, drop_all,
 use Rattle.std.proofs.lemmas.List.Concat.{flat_map-append}
 use Rattle.std.proofs.lemmas.List.Elements.{All-drop, All-head, All-nil, All-push, All-same, All-tail, All-take}
 use Rattle.std.specs.List.{All, flat_map}
-use Rattle.ssb_load.specs.Giving.{ends_at}
+use Rattle.ssb_records.specs.Giving.{ends_at}
 use Rattle.ssb_load.specs.Joined.{IsJoined, all_of, given_upto, sources_in, unread}
 use Rattle.ssb_load.specs.JoinedLaws.{joined_settled}
 use Rattle.ssb_load.specs.declared.joined.Joined.{Joined}
 use Rattle.ssb_load.specs.declared.lane.Lane.{Lane}
-use Rattle.ssb_load.specs.declared.source.Source.{Ghosts as Source}
-use Rattle.ssb_load.proofs.Cutting.{ended-more}
+use Rattle.ssb_records.specs.declared.source.Source.{Ghosts as Source}
+use Rattle.ssb_records.proofs.Cutting.{ended-more}
 
 -- a read that gave no byte into some room met an end
 pub at-end : (before after n : ℕ) (room : List ℕ) → n ≤ 0 → 0 < length room → after ≡ before + ends_at n room → 0 < after

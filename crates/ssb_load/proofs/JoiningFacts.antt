@@ -6,11 +6,11 @@ use Rattle.std.proofs.lemmas.List.{append-nil, length-map, map-append}
 use Rattle.ssb_cells.specs.Cell.{Filled}
 use Rattle.ssb_cells.specs.Tables.{AreLong, rows_in}
 use Rattle.ssb_load.specs.Assembly.{AreParts, all_in}
-use Rattle.ssb_load.specs.Intake.{table}
+use Rattle.ssb_load.specs.Subject.{table}
 use Rattle.ssb_load.specs.Joining.{AreColumnsOf, FitBehind, behind_each}
 use Rattle.ssb_cells.specs.Lawful.{HasOneKey, IsLawful}
 use Rattle.ssb_load.specs.Loading.{Loads}
-use Rattle.ssb_load.specs.Records.{Fields}
+use Rattle.ssb_records.specs.Records.{Fields}
 use Rattle.ssb_load.specs.Rules.{columns_from, columns_of}
 use Rattle.ssb_load.specs.TableIntake.{subject_of}
 use Rattle.ssb_terms.specs.declared.rule.Rule.{Rule}

@@ -12,9 +12,9 @@ use Rattle.ssb_cells.specs.declared.value.Value.{Value}
 use Rattle.ssb_cells.specs.declared.value.Value.TheVariants as values
 use Rattle.ssb_load.specs.Loader.{fails_some, is_place, key_among, number_told}
 use Rattle.ssb_load.specs.Numbers.{number_of}
-use Rattle.ssb_load.specs.Records.{Fields, field}
+use Rattle.ssb_records.specs.Records.{Fields, field, is_empty}
 use Rattle.ssb_terms.specs.Roles.{is_key, key_from, key_place}
-use Rattle.ssb_load.specs.Rules.{cell_in, is_empty, key_of, number_at}
+use Rattle.ssb_load.specs.Rules.{cell_in, key_of, number_at}
 use Rattle.ssb_terms.specs.declared.rule.Role.{Role}
 use Rattle.ssb_terms.specs.declared.rule.Rule.{Rule}
 

@@ -10,7 +10,7 @@ use Rattle.ssb_load.specs.Joined.{sources_in}
 use Rattle.ssb_load.specs.Lane.{IsLaneRead}
 use Rattle.ssb_load.specs.Lanes.{StopsAt}
 use Rattle.ssb_load.specs.declared.assembly.Assembly.{Assembly}
-use Rattle.ssb_load.specs.declared.fault.LoadFault.{LoadFault}
+use Rattle.ssb_records.specs.declared.fault.LoadFault.{LoadFault}
 use Rattle.ssb_load.specs.declared.lane.Lane.{Lane}
 use Rattle.ssb_load.proofs.JoinedFacts.{source-here}
 

@@ -12,10 +12,11 @@ use Rattle.std.proofs.lemmas.List.Elements.{All-cons, All-nil}
 use Rattle.ssb_cells.specs.Cell.{Cell, Filled, null, number}
 use Rattle.ssb_terms.specs.declared.rule.ColType.{ColType}
 use Rattle.ssb_terms.specs.declared.rule.ColType.TheVariants as kinds
-use Rattle.ssb_load.specs.Records.{Fields, field}
+use Rattle.ssb_catalog.specs.Shapes.{is_int}
+use Rattle.ssb_records.specs.Records.{Fields, field, is_empty}
 use Rattle.ssb_load.specs.Numbers.{number_of}
 use Rattle.ssb_terms.specs.Roles.{needs_value, is_key, key_place}
-use Rattle.ssb_load.specs.Rules.{any_from, is_int, is_empty, key_of, is_value, has_key, value_in, cell_in, columns_from, columns_of}
+use Rattle.ssb_load.specs.Rules.{any_from, key_of, is_value, has_key, value_in, cell_in, columns_from, columns_of}
 use Rattle.ssb_load.specs.Loader.{fails}
 use Rattle.ssb_load.specs.Tables.{fault_of, first_fault}
 use Rattle.ssb_cells.specs.Lawful.{FitsType, EachObeys, HasOneKey, IsGiven, IsInt64, IsLawful}

@@ -4,21 +4,21 @@ use Rattle.std.specs.Prelude.{slice_get, slice_index, slice_set, unwrap_or, Vec}
 use Rattle.std.specs.declared.alloc.Global.{Global}
 use Rattle.std.proofs.Math.Seq.{drop-length, take-add}
 use Rattle.std.proofs.lemmas.List.{append-nil, drop-drop, length-append, take_all}
-use Rattle.ssb_load.specs.CutShort.{IfRead, IsCutShort}
+use Rattle.ssb_records.specs.CutShort.{IfRead, IsCutShort}
 use Rattle.ssb_load.specs.Files.{AreLawful, Bytes, Columns, FailedAt, FailsAt, GrewEach, LoadsAll, RoseEach, file_table, given_each, loaded_from}
-use Rattle.ssb_load.specs.Giving.{given_since}
+use Rattle.ssb_records.specs.Giving.{given_since}
 use Rattle.ssb_cells.specs.Lawful.{most_rows}
 use Rattle.ssb_load.specs.Loading.{AreGoodRows, rules_at}
 use Rattle.ssb_load.specs.Runs.{AreLoaded, ArePutTogether, FailedRead, Grew, IsLoaded, Ran, RanFrom, Stops}
 use Rattle.ssb_load.specs.Runs.AreLoaded.{none, more}
 use Rattle.ssb_load.specs.Runs.Stops.{here, behind, refused}
-use Rattle.ssb_load.specs.Shapes.{TableShape, rules_of}
-use Rattle.ssb_load.specs.declared.fault.CatalogFault.{CatalogFault}
+use Rattle.ssb_catalog.specs.Shapes.{TableShape, rules_of}
+use Rattle.ssb_records.specs.declared.fault.CatalogFault.{CatalogFault}
 use Rattle.ssb_load.specs.declared.fault.FileFault.{FileFault}
-use Rattle.ssb_load.specs.declared.fault.LoadFault.{LoadFault}
-use Rattle.ssb_load.specs.declared.fault.LoadFault.TheVariants as load
-use Rattle.ssb_load.specs.declared.fault.RecordFault.{RecordFault}
-use Rattle.ssb_load.specs.declared.source.Source.{Ghosts as Source}
+use Rattle.ssb_records.specs.declared.fault.LoadFault.{LoadFault}
+use Rattle.ssb_records.specs.declared.fault.LoadFault.TheVariants as load
+use Rattle.ssb_records.specs.declared.fault.RecordFault.{RecordFault}
+use Rattle.ssb_records.specs.declared.source.Source.{Ghosts as Source}
 
 -- what two states of sources give, file by file
 abbrev between : {S : Type 0} → Source S → List S → List S → List Bytes

@@ -6,15 +6,15 @@ use Rattle.std.specs.List.{list_all}
 use Rattle.std.specs.Str.{is_utf8}
 use Rattle.ssb_load.specs.Loader.{fails}
 use Rattle.ssb_load.specs.Moved.{comes_after_limit, moved_first, moved_record}
-use Rattle.ssb_load.specs.Records.{Fields}
+use Rattle.ssb_records.specs.Records.{Fields}
 use Rattle.ssb_terms.specs.Roles.{key_place}
 use Rattle.ssb_load.specs.Rules.{any_field, has_key, number_at}
 use Rattle.ssb_load.specs.Tables.{fault_of, first_fault, or_later, repeats}
-use Rattle.ssb_load.specs.Width.{has_width}
+use Rattle.ssb_records.specs.Width.{has_width}
 use Rattle.ssb_terms.specs.declared.rule.Rule.{Rule}
 use Rattle.ssb_load.specs.declared.value.Test.TheVariants as tests
-use Rattle.ssb_load.specs.declared.fault.RecordFault.{RecordFault}
-use Rattle.ssb_load.specs.declared.fault.RecordFault.TheVariants as faults
+use Rattle.ssb_records.specs.declared.fault.RecordFault.{RecordFault}
+use Rattle.ssb_records.specs.declared.fault.RecordFault.TheVariants as faults
 use Rattle.ssb_load.proofs.FaultFacts.{fault-append}
 
 -- the fault of a record of no key, after so many good ones: of what is tested before the limit, and of what is tested behind it

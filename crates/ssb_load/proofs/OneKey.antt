@@ -2,12 +2,12 @@
 use Rattle.std.proofs.Common.{◌≡◌, ◌∙◌, ◌+◌, ◌<◌, ◌≤◌, ℕ, zero, suc, Bool, true, false, cond, List, [], ◌∷◌, length, map, slice_get, Option, Some, refl, sym, ap, arith, get_or}
 use Rattle.std.specs.Prelude.{Result, Ok, Err, IfOk}
 use Rattle.std.specs.List.{filter}
-use Rattle.ssb_load.specs.Catalog.{IsTable, IsCatalog, is_key_column}
+use Rattle.ssb_catalog.specs.Catalog.{IsTable, IsCatalog, is_key_column}
 use Rattle.ssb_cells.specs.Lawful.{HasOneKey}
 use Rattle.ssb_load.specs.Loading.{rules_at}
 use Rattle.ssb_terms.specs.Roles.{is_key, key_from}
-use Rattle.ssb_load.specs.Shapes.{TableShape, rules_of}
-use Rattle.ssb_load.specs.declared.catalog.ColumnDef.{ColumnDef}
+use Rattle.ssb_catalog.specs.Shapes.{TableShape, rules_of}
+use Rattle.ssb_catalog.specs.declared.catalog.ColumnDef.{ColumnDef}
 use Rattle.ssb_terms.specs.declared.rule.Rule.{Rule}
 
 abbrev pub rule_list : List ColumnDef → List Rule

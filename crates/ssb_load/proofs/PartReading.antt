@@ -2,17 +2,17 @@
 use Rattle.std.proofs.Common.{◌≡◌, ◌++◌, ◌∙◌, ◌<◌, ℕ, Bool, true, false, List, [], ◌⊎◌, inl, inr, length, sym, ap, subst, append_assoc, Option}
 use Rattle.std.proofs.lemmas.Bool.{false≢true}
 use Rattle.std.proofs.lemmas.List.{append-nil}
-use Rattle.ssb_load.specs.CutShort.{IfRead}
-use Rattle.ssb_load.specs.Giving.{given_since}
-use Rattle.ssb_load.specs.Lines.{EndsInLf}
+use Rattle.ssb_records.specs.CutShort.{IfRead}
+use Rattle.ssb_records.specs.Giving.{given_since}
+use Rattle.ssb_records.specs.Lines.{EndsInLf}
 use Rattle.ssb_load.specs.Part.{HaltsAt, IsBrokenOff, IsPart, RefusesPart}
-use Rattle.ssb_load.specs.Pieces.{Follows, Hands, IsBroken, IsOver, handed, piece_of, rest_of}
+use Rattle.ssb_records.specs.Pieces.{Follows, Hands, IsBroken, IsOver, handed, piece_of, rest_of}
 use Rattle.ssb_load.specs.TableIntake.{subject_of}
-use Rattle.ssb_load.specs.declared.fault.LoadFault.{LoadFault}
-use Rattle.ssb_load.specs.declared.fault.LoadFault.TheVariants as load
+use Rattle.ssb_records.specs.declared.fault.LoadFault.{LoadFault}
+use Rattle.ssb_records.specs.declared.fault.LoadFault.TheVariants as load
 use Rattle.ssb_load.specs.declared.part.Part.{Part}
-use Rattle.ssb_load.specs.declared.pieces.Pieces.{Pieces}
-use Rattle.ssb_load.proofs.TakingAll.{never-over, since-is}
+use Rattle.ssb_records.specs.declared.pieces.Pieces.{Pieces}
+use Rattle.ssb_records.proofs.TakingAll.{never-over, since-is}
 
 -- The pieces handed out so far were taken; only behind the last a part of a line waits.
 pub record IsReadingPart {S : Type 0} (given : S → List ℕ) (failures ends : S → ℕ) (all : S → Option (List ℕ)) (pieces : Pieces S) (source_then source_now : S) (old now : Part) : Type 0 where

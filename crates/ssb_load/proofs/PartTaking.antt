@@ -4,16 +4,16 @@ use Rattle.std.specs.Prelude.{IfErr, OnOk, Result, Ok, Err}
 use Rattle.std.proofs.Common.{◌==◌, ◌||◌, ◌≡◌, ◌++◌, ◌∙◌, ℕ, Bool, true, false, List, [], ◌∷◌, ◌⊎◌, inl, inr, refl, sym, ap, subst, append_assoc}
 use Rattle.std.proofs.lemmas.Bool.{false≢true, or_parts}
 use Rattle.std.proofs.lemmas.List.{append-nil}
-use Rattle.ssb_load.specs.Intake.{Refuses}
-use Rattle.ssb_load.specs.Lines.{AreLines, EndsInLf, IsCutAtLf, IsPartOfLine}
+use Rattle.ssb_load.specs.Subject.{Refuses}
+use Rattle.ssb_records.specs.Lines.{AreLines, EndsInLf, IsCutAtLf, IsPartOfLine}
 use Rattle.ssb_load.specs.Part.{RefusesPart, IsPart}
-use Rattle.ssb_load.specs.Records.{Fields, records_of}
+use Rattle.ssb_records.specs.Records.{Fields, records_of}
 use Rattle.ssb_load.specs.TableIntake.{IsLoading, subject_of}
-use Rattle.ssb_load.specs.declared.fault.LoadFault.{LoadFault}
-use Rattle.ssb_load.specs.declared.fault.LoadFault.TheVariants as load
+use Rattle.ssb_records.specs.declared.fault.LoadFault.{LoadFault}
+use Rattle.ssb_records.specs.declared.fault.LoadFault.TheVariants as load
 use Rattle.ssb_load.specs.declared.part.Part.{Part}
-use Rattle.ssb_load.proofs.Blocks.{EndsLf, no-lines, records-of-append}
-use Rattle.ssb_load.proofs.LineRecords.{ends-lf, lf-behind}
+use Rattle.ssb_records.proofs.Blocks.{EndsLf, no-lines, records-of-append}
+use Rattle.ssb_records.proofs.LineRecords.{ends-lf, lf-behind}
 
 -- a line feed before some lines, or before none, ends in a line feed
 pub led-lines : (lines : List ℕ) → AreLines lines → EndsInLf (10 ∷ lines)

@@ -4,7 +4,7 @@ use Rattle.std.proofs.Math.ListN.{set}
 use Rattle.ssb_cells.specs.Cell.{Filled}
 use Rattle.ssb_cells.specs.Values.{IsOfType, cell_of}
 use Rattle.ssb_cells.specs.declared.value.Value.{Value}
-use Rattle.ssb_load.specs.Records.{Fields, field}
+use Rattle.ssb_records.specs.Records.{Fields, field}
 use Rattle.ssb_terms.specs.Roles.{key_from, is_key}
 use Rattle.ssb_load.specs.Rules.{any_from, cell_in}
 use Rattle.ssb_load.specs.Loader.{AreSized, with_cell, with_front}

@@ -1,24 +1,24 @@
 -- A table on its way: a record that is refused, and what the end says.
 use Rattle.std.proofs.Common.{◌≡◌, ◌∙◌, ◌++◌, ◌<◌, ℕ, List, [], ◌∷◌, Option, None, Some, Ok, Err, IfSome, refl, sym, ap}
 use Rattle.ssb_cells.specs.Cell.{Filled}
-use Rattle.ssb_load.specs.Intake as intake
+use Rattle.ssb_load.specs.Subject as intake
 use Rattle.ssb_cells.specs.Lawful.{HasOneKey, IsLawful}
 use Rattle.ssb_load.specs.Loader.{IsFaultBy}
-use Rattle.ssb_load.specs.Giving.{given_since}
+use Rattle.ssb_records.specs.Giving.{given_since}
 use Rattle.ssb_load.specs.Loading.{AreGoodRows, Fails, IsTableFault, Loads, LoadsFrom}
-use Rattle.ssb_load.specs.CutShort.{IfRead, IsCutShort}
-use Rattle.ssb_load.specs.Records.{Fields, records_of}
+use Rattle.ssb_records.specs.CutShort.{IfRead, IsCutShort}
+use Rattle.ssb_records.specs.Records.{Fields, records_of}
 use Rattle.ssb_load.specs.Rules.{columns_of}
 use Rattle.ssb_load.specs.TableIntake.{IsLoading, subject_of}
-use Rattle.ssb_load.specs.declared.fault.LoadFault.{LoadFault}
-use Rattle.ssb_load.specs.declared.fault.LoadFault.TheVariants as load
+use Rattle.ssb_records.specs.declared.fault.LoadFault.{LoadFault}
+use Rattle.ssb_records.specs.declared.fault.LoadFault.TheVariants as load
 use Rattle.ssb_terms.specs.declared.rule.Rule.{Rule}
 use Rattle.ssb_load.specs.declared.table_intake.TableIntake.{TableIntake}
 use Rattle.ssb_load.proofs.FaultFacts.{fault-here}
 use Rattle.ssb_load.proofs.HoldsFacts.{same-fault}
 use Rattle.ssb_load.proofs.LawfulFacts.{lawful}
-use Rattle.ssb_load.proofs.LineRecords.{good-lines}
-use Rattle.ssb_load.proofs.TakingAll.{of-all, refused-fails, refused-in}
+use Rattle.ssb_records.proofs.LineRecords.{good-lines}
+use Rattle.ssb_records.proofs.TakingAll.{of-all, refused-fails, refused-in}
 
 -- a faulty record behind good ones is refused for its fault
 pub refuses-here : (t : TableIntake) (good rest : List Fields) (r : Fields) (e : LoadFault) → IsLoading t good → IsFaultBy t.rules.items t.max_rows t.accepted t.loader.seen.keys r e
@@ -30,27 +30,16 @@ refuses-here t good rest r load.Memory h is = tt
 refuses-here t good rest r (load.Read n) h is = absurd is
 refuses-here t good rest r (load.BadCatalog f n) h is = absurd is
 
--- what a subject is of
-rules_in : intake.Subject → List Rule
-rules_in (intake.table rules m) = rules
-rules_in intake.catalog = []
-
-limit_in : intake.Subject → ℕ
-limit_in (intake.table rules m) = m
-limit_in intake.catalog = 0
-
 pub rules-are : (t : TableIntake) (rules : List Rule) (m : ℕ) → subject_of t ≡ intake.table rules m → t.rules.items ≡ rules
-unfolding rules_in
-rules-are t rules m e = ap rules_in e
+rules-are t rules m e = ap (λ s. s.rules) e
 
 pub limit-is : (t : TableIntake) (rules : List Rule) (m : ℕ) → subject_of t ≡ intake.table rules m → t.max_rows ≡ m
-unfolding limit_in
-limit-is t rules m e = ap limit_in e
+limit-is t rules m e = ap (λ s. s.max_rows) e
 
 -- why no table came, of the bytes given
 pub fails-given : (s : intake.Subject) (rules : List Rule) (m : ℕ) (bytes : List ℕ) (e : LoadFault) → s ≡ intake.table rules m → intake.StopsBy s bytes e → Fails rules m (records_of bytes) e
 fails-given s rules m bytes (load.Record f n) is h = let k : intake.StopsBy (intake.table rules m) bytes (load.Record f n) = rw is at h in rw k refl
-fails-given s rules m bytes (load.BadCatalog f n) is h = let k : intake.StopsBy (intake.table rules m) bytes (load.BadCatalog f n) = rw is at h in absurd k
+fails-given s rules m bytes (load.BadCatalog f n) is h = absurd h
 fails-given s rules m bytes (load.Read n) is h = good-lines (AreGoodRows rules m) bytes n (rw is at h)
 fails-given s rules m bytes load.Memory is h = tt
 
@@ -62,14 +51,14 @@ cut-short s rules m bytes load.Memory is h = tt
 
 pub fault-kind : (s : intake.Subject) (rules : List Rule) (m : ℕ) (bytes : List ℕ) (e : LoadFault) → s ≡ intake.table rules m → intake.StopsBy s bytes e → IsTableFault e
 fault-kind s rules m bytes (load.Record f n) is h = tt
-fault-kind s rules m bytes (load.BadCatalog f n) is h = let k : intake.StopsBy (intake.table rules m) bytes (load.BadCatalog f n) = rw is at h in absurd k
+fault-kind s rules m bytes (load.BadCatalog f n) is h = absurd h
 fault-kind s rules m bytes (load.Read n) is h = tt
 fault-kind s rules m bytes load.Memory is h = tt
 
 -- why a table is refused, said of all bytes of a source, where they are known
 fails-in : (s : intake.Subject) (rules : List Rule) (m : ℕ) (bytes : List ℕ) (e : LoadFault) → s ≡ intake.table rules m → intake.StopsIn s bytes e → Fails rules m (records_of bytes) e
 fails-in s rules m bytes (load.Record f n) is h = let k : intake.StopsIn (intake.table rules m) bytes (load.Record f n) = rw is at h in rw k refl
-fails-in s rules m bytes (load.BadCatalog f n) is h = let k : intake.StopsIn (intake.table rules m) bytes (load.BadCatalog f n) = rw is at h in absurd k
+fails-in s rules m bytes (load.BadCatalog f n) is h = absurd h
 fails-in s rules m bytes (load.Read n) is h = rw is at h
 fails-in s rules m bytes load.Memory is h = tt
 
@@ -111,8 +100,8 @@ loads-stopped given failures ends known s rules m before after e is grows whole 
 pub refused-stops : {S : Type 0} (given : S → List ℕ) (known : S → Option (List ℕ)) (s : intake.Subject) (before after : S) (e : LoadFault) → known after ≡ known before → IfSome (known after) (λ all. given after ≡ all)
     → intake.Refuses s (records_of (given_since (given before) (given after))) e → intake.Stops given known s before after e
 refused-stops given known s before after e same settled refused = record {
-  fails = refused-fails s e (given_since (given before) (given after)) refused;
-  told = of-all (known before) (known after) (given after) (λ all. intake.StopsIn s (given_since (given before) all) e) same settled (refused-in s e (given_since (given before) (given after)) refused);
+  fails = refused-fails (intake.judge s) e (given_since (given before) (given after)) refused;
+  told = of-all (known before) (known after) (given after) (λ all. intake.StopsIn s (given_since (given before) all) e) same settled (refused-in (intake.judge s) e (given_since (given before) (given after)) refused);
 }
 
 -- the table of bytes that are all of a source's, where these are known

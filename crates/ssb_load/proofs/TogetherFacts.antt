@@ -5,16 +5,16 @@ use Rattle.std.specs.Prelude.{Vec}
 use Rattle.std.specs.declared.alloc.Global.{Global}
 use Rattle.std.proofs.lemmas.List.{append-nil, drop_all, get_or-map, length-map, take_all}
 use Rattle.ssb_load.specs.Assembly.{Halts}
-use Rattle.ssb_load.specs.CutShort.{IfRead}
-use Rattle.ssb_load.specs.Giving.{given_since}
-use Rattle.ssb_load.specs.Intake.{Refuses, RefusesRow, StopsBy, StopsIn, Subject}
+use Rattle.ssb_records.specs.CutShort.{IfRead}
+use Rattle.ssb_records.specs.Giving.{given_since}
+use Rattle.ssb_load.specs.Subject.{Refuses, RefusesRow, StopsBy, StopsIn, Subject}
 use Rattle.ssb_load.specs.Joined.{failures_with, sources_in}
-use Rattle.ssb_load.specs.Records.{Fields, records_of}
-use Rattle.ssb_load.specs.declared.fault.LoadFault.{LoadFault}
-use Rattle.ssb_load.specs.declared.fault.LoadFault.TheVariants as load
+use Rattle.ssb_records.specs.Records.{Fields, records_of}
+use Rattle.ssb_records.specs.declared.fault.LoadFault.{LoadFault}
+use Rattle.ssb_records.specs.declared.fault.LoadFault.TheVariants as load
 use Rattle.ssb_load.specs.declared.lane.Lane.{Lane}
-use Rattle.ssb_load.proofs.LineRecords.{first-records}
-use Rattle.ssb_load.proofs.TakingAll.{grows, since-is}
+use Rattle.ssb_records.proofs.LineRecords.{first-records}
+use Rattle.ssb_records.proofs.TakingAll.{grows, since-is}
 
 -- a list that was written over by one as long
 written : {A : Type 0} (n : ℕ) (old new : List A) → length old ≡ n → length new ≡ n → take n (new ++ drop (length new) old) ≡ new

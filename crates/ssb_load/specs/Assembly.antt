@@ -3,17 +3,17 @@
 use Rattle.std.specs.Prelude.{◌≡◌, ◌+◌, ◌++◌, ◌≤◌, ◌<◌, ◌^◌, ◌∷◌, [], ℕ, Bool, true, false, List, length, map, None, ⊤}
 use Rattle.std.specs.List.{flat_map}
 use Rattle.ssb_cells.specs.Cell.{Filled}
-use Rattle.ssb_load.specs.CutShort.{IsCutShort}
-use Rattle.ssb_load.specs.Intake.{AreGood, Refuses, RefusesRow, Subject}
-use Rattle.ssb_load.specs.Lines.{EndsInLf, IsPartOfLine}
-use Rattle.ssb_load.specs.Records.{Fields, records_of}
+use Rattle.ssb_records.specs.CutShort.{IsCutShort}
+use Rattle.ssb_load.specs.Subject.{AreGood, Refuses, RefusesRow, Subject}
+use Rattle.ssb_records.specs.Lines.{EndsInLf, IsPartOfLine}
+use Rattle.ssb_records.specs.Records.{Fields, records_of}
 use Rattle.ssb_terms.specs.Roles.{key_place}
 use Rattle.ssb_load.specs.Rules.{columns_of}
 use Rattle.ssb_load.specs.TableIntake.{IsLoading, subject_of}
 use Rattle.ssb_load.specs.Tables.{first_fault}
 use Rattle.ssb_load.specs.declared.assembly.Assembly.{Assembly}
-use Rattle.ssb_load.specs.declared.fault.LoadFault.{LoadFault}
-use Rattle.ssb_load.specs.declared.fault.LoadFault.TheVariants as load
+use Rattle.ssb_records.specs.declared.fault.LoadFault.{LoadFault}
+use Rattle.ssb_records.specs.declared.fault.LoadFault.TheVariants as load
 use Rattle.ssb_terms.specs.declared.rule.Rule.{Rule}
 use Rattle.ssb_load.specs.declared.table_intake.TableIntake.{TableIntake}
 

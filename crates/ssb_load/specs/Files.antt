@@ -3,17 +3,17 @@
 use Rattle.std.specs.Prelude.{◌≡◌, ◌+◌, ◌<◌, ◌++◌, ◌∷◌, ℕ, List, [], take, slice_get, slice_index, unwrap_or, Result, Ok, Err, ⊤, Vec}
 use Rattle.std.specs.declared.alloc.Global.{Global}
 use Rattle.ssb_cells.specs.Cell.{Filled}
-use Rattle.ssb_load.specs.CutShort.{IsCutShort}
-use Rattle.ssb_load.specs.Giving.{given_since}
+use Rattle.ssb_records.specs.CutShort.{IsCutShort}
+use Rattle.ssb_records.specs.Giving.{given_since}
 use Rattle.ssb_cells.specs.Lawful.{IsLawful, most_rows}
 use Rattle.ssb_load.specs.Loading.{AreGoodRows, rules_at}
-use Rattle.ssb_load.specs.Records.{records_of}
-use Rattle.ssb_load.specs.Shapes.{TableShape, rules_of}
+use Rattle.ssb_records.specs.Records.{records_of}
+use Rattle.ssb_catalog.specs.Shapes.{TableShape, rules_of}
 use Rattle.ssb_load.specs.Tables.{table_of}
 use Rattle.ssb_load.specs.declared.fault.FileFault.{FileFault}
-use Rattle.ssb_load.specs.declared.fault.LoadFault.{LoadFault}
-use Rattle.ssb_load.specs.declared.fault.LoadFault.TheVariants as load
-use Rattle.ssb_load.specs.declared.fault.RecordFault.{RecordFault}
+use Rattle.ssb_records.specs.declared.fault.LoadFault.{LoadFault}
+use Rattle.ssb_records.specs.declared.fault.LoadFault.TheVariants as load
+use Rattle.ssb_records.specs.declared.fault.RecordFault.{RecordFault}
 
 abbrev pub Bytes : Type 0
 Bytes = List ℕ

@@ -3,8 +3,8 @@
 use Rattle.std.specs.Prelude.{◌≡◌, ◌+◌, ◌≤◌, ◌<◌, [], ◌∷◌, ℕ, List, length, map, take, drop, Bool, false, Option, None, Some}
 use Rattle.std.specs.List.{All, flat_map}
 use Rattle.std.specs.Fmt.{option_append}
-use Rattle.ssb_load.specs.declared.fault.LoadFault.{LoadFault}
-use Rattle.ssb_load.specs.declared.fault.LoadFault.TheVariants as load
+use Rattle.ssb_records.specs.declared.fault.LoadFault.{LoadFault}
+use Rattle.ssb_records.specs.declared.fault.LoadFault.TheVariants as load
 use Rattle.ssb_load.specs.declared.lane.Lane.{Lane}
 
 -- a source of which no thread has read

@@ -3,7 +3,7 @@
 use Rattle.std.specs.Prelude.{length, map}
 use Rattle.ssb_load.specs.Joined.{all_of, given_upto, sources_in}
 use Rattle.ssb_load.specs.declared.joined.Joined.{Joined}
-use Rattle.ssb_load.specs.declared.source.Source.{Ghosts as Source}
+use Rattle.ssb_records.specs.declared.source.Source.{Ghosts as Source}
 
 -- sources one after the other, told as one source
 abbrev pub joined_source : {S : Type 0} {s : Source S} → Source (Joined S s)

@@ -1,10 +1,10 @@
 -- What a thread read of a source.
 -- For the contracts inside this crate.
 use Rattle.std.specs.Prelude.{◌≡◌, ◌<◌, ℕ, List, Option, None, Some, ⊤}
-use Rattle.ssb_load.specs.Intake.{Subject}
+use Rattle.ssb_load.specs.Subject.{Subject}
 use Rattle.ssb_load.specs.Part.{HaltsAt, IsPart}
 use Rattle.ssb_load.specs.TableIntake.{subject_of}
-use Rattle.ssb_load.specs.declared.fault.LoadFault.{LoadFault}
+use Rattle.ssb_records.specs.declared.fault.LoadFault.{LoadFault}
 use Rattle.ssb_load.specs.declared.lane.Lane.{Lane}
 use Rattle.ssb_load.specs.declared.lane.Reading.{Reading}
 

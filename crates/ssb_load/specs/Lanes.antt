@@ -3,7 +3,7 @@
 use Rattle.std.specs.Prelude.{◌+◌, ◌<◌, ℕ, List, length, take}
 use Rattle.std.specs.List.{All, flat_map}
 use Rattle.ssb_load.specs.Assembly.{Halts, IsAssembled}
-use Rattle.ssb_load.specs.Intake.{Subject}
+use Rattle.ssb_load.specs.Subject.{Subject}
 use Rattle.ssb_load.specs.declared.assembly.Assembly.{Assembly}
 use Rattle.ssb_load.specs.declared.lanes.Stop.{Stop}
 

@@ -8,17 +8,17 @@ use Rattle.ssb_cells.specs.Cell.{Cell, Filled}
 use Rattle.ssb_cells.specs.declared.value.Value.{Value}
 use Rattle.ssb_cells.specs.declared.value.Value.TheVariants as values
 use Rattle.ssb_load.specs.Numbers.{number_of}
-use Rattle.ssb_load.specs.Records.{Fields, field}
+use Rattle.ssb_records.specs.Records.{Fields, field}
 use Rattle.ssb_load.specs.Rules.{any_field, cell_in, columns_of, has_key, is_bad_number, is_missing, is_too_long, key_of}
 use Rattle.ssb_load.specs.Tables.{repeats}
-use Rattle.ssb_load.specs.Width.{has_width}
+use Rattle.ssb_records.specs.Width.{has_width}
 use Rattle.ssb_terms.specs.declared.rule.Rule.{Rule}
 use Rattle.ssb_load.specs.declared.value.Test.{Test}
 use Rattle.ssb_load.specs.declared.value.Test.TheVariants as tests
-use Rattle.ssb_load.specs.declared.fault.RecordFault.{RecordFault}
-use Rattle.ssb_load.specs.declared.fault.RecordFault.TheVariants as faults
-use Rattle.ssb_load.specs.declared.fault.LoadFault.{LoadFault}
-use Rattle.ssb_load.specs.declared.fault.LoadFault.TheVariants as load
+use Rattle.ssb_records.specs.declared.fault.RecordFault.{RecordFault}
+use Rattle.ssb_records.specs.declared.fault.RecordFault.TheVariants as faults
+use Rattle.ssb_records.specs.declared.fault.LoadFault.{LoadFault}
+use Rattle.ssb_records.specs.declared.fault.LoadFault.TheVariants as load
 
 -- a field fails a test of its column's rule
 abbrev pub fails : Test → Rule → List ℕ → Bool

@@ -2,15 +2,15 @@
 -- Source: own.
 use Rattle.std.specs.Prelude.{◌≡◌, ◌<◌, ◌++◌, ℕ, List, [], slice_get, Result, Ok, Err, Option, None, Some, ⊤, IfErr, IfOk, IfSome, OnOk}
 use Rattle.ssb_cells.specs.Cell.{Filled}
-use Rattle.ssb_load.specs.CutShort.{IsCutShort, IsGoodBefore, IfRead}
-use Rattle.ssb_load.specs.Giving.{given_since}
+use Rattle.ssb_records.specs.CutShort.{IsCutShort, IsGoodBefore, IfRead}
+use Rattle.ssb_records.specs.Giving.{given_since}
 use Rattle.ssb_cells.specs.Lawful.{IsLawful}
-use Rattle.ssb_load.specs.Records.{Fields, records_of}
-use Rattle.ssb_load.specs.Shapes.{TableShape, rules_of}
+use Rattle.ssb_records.specs.Records.{Fields, records_of}
+use Rattle.ssb_catalog.specs.Shapes.{TableShape, rules_of}
 use Rattle.ssb_load.specs.Tables.{first_fault, table_of}
 use Rattle.ssb_terms.specs.declared.rule.Rule.{Rule}
-use Rattle.ssb_load.specs.declared.fault.LoadFault.{LoadFault}
-use Rattle.ssb_load.specs.declared.fault.LoadFault.TheVariants as load
+use Rattle.ssb_records.specs.declared.fault.LoadFault.{LoadFault}
+use Rattle.ssb_records.specs.declared.fault.LoadFault.TheVariants as load
 
 abbrev pub rules_in : Option TableShape → List Rule
 rules_in None = []

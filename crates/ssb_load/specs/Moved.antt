@@ -1,10 +1,10 @@
 -- The first fault of records that come behind others: its number, and whether the limit of rows comes before it.
 -- For the contracts inside this crate.
 use Rattle.std.specs.Prelude.{◌+◌, ◌==◌, ◌&&◌, ℕ, Bool, true, false, not, nat_le, Option, Some, None, if◌then◌else◌}
-use Rattle.ssb_load.specs.declared.fault.LoadFault.{LoadFault}
-use Rattle.ssb_load.specs.declared.fault.LoadFault.TheVariants as load
-use Rattle.ssb_load.specs.declared.fault.RecordFault.{RecordFault}
-use Rattle.ssb_load.specs.declared.fault.RecordFault.TheVariants as faults
+use Rattle.ssb_records.specs.declared.fault.LoadFault.{LoadFault}
+use Rattle.ssb_records.specs.declared.fault.LoadFault.TheVariants as load
+use Rattle.ssb_records.specs.declared.fault.RecordFault.{RecordFault}
+use Rattle.ssb_records.specs.declared.fault.RecordFault.TheVariants as faults
 
 -- a fault that a record too many is not told of
 abbrev pub comes_after_limit : RecordFault → Bool

@@ -1,12 +1,12 @@
 -- What a thread keeps of the bytes that a source gave, which may begin and end in the middle of a line.
 -- For the contracts inside this crate.
 use Rattle.std.specs.Prelude.{◌≡◌, ◌++◌, ◌∷◌, [], ℕ, List, true, false, ⊤, ◌⊎◌}
-use Rattle.ssb_load.specs.Intake.{Refuses}
-use Rattle.ssb_load.specs.Lines.{AreLines, EndsInLf, IsPartOfLine}
-use Rattle.ssb_load.specs.Records.{Fields, records_of}
+use Rattle.ssb_load.specs.Subject.{Refuses}
+use Rattle.ssb_records.specs.Lines.{AreLines, EndsInLf, IsPartOfLine}
+use Rattle.ssb_records.specs.Records.{Fields, records_of}
 use Rattle.ssb_load.specs.TableIntake.{IsLoading, subject_of}
-use Rattle.ssb_load.specs.declared.fault.LoadFault.{LoadFault}
-use Rattle.ssb_load.specs.declared.fault.LoadFault.TheVariants as load
+use Rattle.ssb_records.specs.declared.fault.LoadFault.{LoadFault}
+use Rattle.ssb_records.specs.declared.fault.LoadFault.TheVariants as load
 use Rattle.ssb_load.specs.declared.part.Part.{Part}
 
 -- before the first line feed nothing is known but that none has come

@@ -1,22 +1,16 @@
 -- What a column takes of a field, and what it then holds.
 -- Source: own. An empty field is null; `int` is a number of 64 bits; a text has at most 4,096 bytes; `key` and `need` are not null.
-use Rattle.std.specs.Prelude.{◌+◌, ◌∷◌, ◌==◌, ◌&&◌, ◌||◌, ℕ, ℤ, pos, Bool, true, false, List, [], length, map, not, nat_lt, is_none, Option, Some, None, unwrap_or, if◌then◌else◌}
+use Rattle.std.specs.Prelude.{◌+◌, ◌∷◌, ◌&&◌, ◌||◌, ℕ, ℤ, pos, Bool, true, false, List, [], length, map, not, nat_lt, is_none, Option, Some, None, unwrap_or, if◌then◌else◌}
 use Rattle.std.specs.List.{list_any}
 use Rattle.std.specs.Ordering.{int_eq}
 use Rattle.ssb_cells.specs.Cell.{Cell, Filled, null, number, text}
 use Rattle.ssb_terms.specs.declared.rule.ColType.{ColType}
 use Rattle.ssb_terms.specs.declared.rule.ColType.TheVariants as kinds
-use Rattle.ssb_load.specs.Records.{Fields, field}
+use Rattle.ssb_catalog.specs.Shapes.{is_int}
+use Rattle.ssb_records.specs.Records.{Fields, field, is_empty}
 use Rattle.ssb_load.specs.Numbers.{number_of}
 use Rattle.ssb_terms.specs.Roles.{needs_value, key_place}
 use Rattle.ssb_terms.specs.declared.rule.Rule.{Rule}
-
-abbrev pub is_empty : List ℕ → Bool
-is_empty bytes = length bytes == 0
-
-abbrev pub is_int : ColType → Bool
-is_int kinds.Int = true
-is_int kinds.Text = false
 
 -- a field of an `int` column that is not empty and spells no number of 64 bits
 abbrev pub is_bad_number : Rule → List ℕ → Bool

@@ -2,16 +2,16 @@
 -- Source: own.
 use Rattle.std.specs.Prelude.{◌≡◌, ◌+◌, ◌++◌, ◌<◌, ◌≤◌, ◌∷◌, ℕ, List, [], drop, length, map, take, Result, Ok, Err, Vec}
 use Rattle.std.specs.declared.alloc.Global.{Global}
-use Rattle.ssb_load.specs.CutShort.{IfRead}
+use Rattle.ssb_records.specs.CutShort.{IfRead}
 use Rattle.ssb_load.specs.Files.{Columns, FailedAt, GrewEach, given_each}
 use Rattle.ssb_cells.specs.Lawful.{most_rows}
 use Rattle.ssb_load.specs.Loading.{LoadsFrom}
-use Rattle.ssb_load.specs.Shapes.{TableShape, rules_of}
+use Rattle.ssb_catalog.specs.Shapes.{TableShape, rules_of}
 use Rattle.ssb_load.specs.declared.fault.FileFault.{FileFault}
-use Rattle.ssb_load.specs.declared.fault.LoadFault.{LoadFault}
-use Rattle.ssb_load.specs.declared.fault.LoadFault.TheVariants as load
+use Rattle.ssb_records.specs.declared.fault.LoadFault.{LoadFault}
+use Rattle.ssb_records.specs.declared.fault.LoadFault.TheVariants as load
 use Rattle.ssb_terms.specs.declared.rule.Rule.{Rule}
-use Rattle.ssb_load.specs.declared.source.Source.{Ghosts as Source}
+use Rattle.ssb_records.specs.declared.source.Source.{Ghosts as Source}
 
 -- a file's source was loaded, from its state before to that after
 abbrev pub IsLoaded : {S : Type 0} → Source S → List Rule → S → S → Result Columns LoadFault → Type 0

@@ -1,9 +1,9 @@
 -- What a table on its way stands for.
 -- For the contracts inside this crate.
 use Rattle.std.specs.Prelude.{◌≡◌, ◌≤◌, ◌<◌, ◌^◌, List, [], length, None}
-use Rattle.ssb_load.specs.Intake.{Subject, table}
+use Rattle.ssb_load.specs.Subject.{Subject, table}
 use Rattle.ssb_load.specs.Loader.{Holds}
-use Rattle.ssb_load.specs.Records.{Fields}
+use Rattle.ssb_records.specs.Records.{Fields}
 use Rattle.ssb_terms.specs.Roles.{key_place}
 use Rattle.ssb_load.specs.Tables.{first_fault}
 use Rattle.ssb_load.specs.declared.table_intake.TableIntake.{TableIntake}

@@ -4,12 +4,12 @@ use Rattle.std.specs.Prelude.{◌+◌, ◌++◌, ◌∷◌, ℕ, ℤ, Bool, fals
 use Rattle.std.specs.List.{list_all}
 use Rattle.std.specs.Str.{is_utf8}
 use Rattle.ssb_cells.specs.Cell.{Filled}
-use Rattle.ssb_load.specs.Records.{Fields}
+use Rattle.ssb_records.specs.Records.{Fields}
 use Rattle.ssb_load.specs.Rules.{any_field, is_bad_number, is_missing, is_too_long, key_of, has_key, columns_of}
-use Rattle.ssb_load.specs.Width.{has_width}
+use Rattle.ssb_records.specs.Width.{has_width}
 use Rattle.ssb_terms.specs.declared.rule.Rule.{Rule}
-use Rattle.ssb_load.specs.declared.fault.RecordFault.{RecordFault}
-use Rattle.ssb_load.specs.declared.fault.RecordFault.TheVariants as faults
+use Rattle.ssb_records.specs.declared.fault.RecordFault.{RecordFault}
+use Rattle.ssb_records.specs.declared.fault.RecordFault.TheVariants as faults
 
 -- a record's key is one that came before
 abbrev pub repeats : Option ℤ → (ℤ → Bool) → Bool

@@ -2,24 +2,24 @@
 
 ghost use Rattle.std.specs.Prelude.{◌≡◌, ◌<◌, ◌∷◌, [], IfErr, IfOk, List, OnOk, Some, length, map};
 ghost use Rattle.std.specs.Thread.{IsSend, IsSync};
-ghost use Rattle.ssb_load.specs.Catalog.{IsCatalog};
+ghost use Rattle.ssb_catalog.specs.Catalog.{IsCatalog};
 ghost use Rattle.ssb_load.specs.Files.{AreLawful, Bytes, GrewEach, LoadsAll, RoseEach, given_each};
 ghost use Rattle.ssb_load.specs.JoinedSource.{joined_source};
 ghost use Rattle.ssb_load.specs.Runs.{ArePutTogether, FailedRead, HaveTables, RanFrom};
 
-use crate::catalog::Catalog;
-use crate::fault::{FileFault, LoadFault};
+use crate::fault::FileFault;
 use crate::joined::Joined;
 use crate::read_joined::load_with;
-use crate::source::Source;
+use ssb_catalog::Catalog;
 use ssb_cells::Table;
+use ssb_records::{LoadFault, Source};
 use std::alloc::Global;
 use std::thread::{Threads, join_mut};
 
-// What tables are loaded, and how: with which allocator, and in pieces of how many bytes. It stands
+// Which catalog's tables are loaded, with which allocator, and in pieces of how many bytes. It stands
 // behind one reference, since the borrow checker does not cover two closures that share a value.
 #[derive(Clone, Copy)]
-struct Plan<'a> {
+struct Loading<'a> {
     alloc: Global,
     catalog: &'a Catalog,
     piece_size: usize,
@@ -48,25 +48,19 @@ fn put_together(
 // The table of this number alone.
 fn load_one<S: Source + Send, R: Threads + Sync>(
     rt: &R,
-    plan: &Plan<'_>,
+    loading: &Loading<'_>,
     number: u32,
     source: &mut Joined<S>,
 ) -> Result<Vec<Table>, FileFault>
-    requires { number < length plan.now.catalog.now }
-    ensures { RanFrom joined_source plan.now.catalog.now number (source.old ∷ []) (source.new ∷ []) result }
+    requires { number < length loading.now.catalog.now }
+    ensures { RanFrom joined_source loading.now.catalog.now number (source.old ∷ []) (source.new ∷ []) result }
 {
-    let size = plan.piece_size;
-    match load_with(
-        rt,
-        plan.alloc,
-        plan.catalog,
-        number as usize,
-        u32::MAX,
-        source,
-        size,
-    ) {
+    let alloc = loading.alloc;
+    let place = number as usize;
+    let size = loading.piece_size;
+    match load_with(rt, alloc, loading.catalog, place, u32::MAX, source, size) {
         Ok(table) => {
-            let mut tables = Vec::new(plan.alloc);
+            let mut tables = Vec::new(alloc);
             match tables.push(table) {
                 Ok(()) => Ok(tables),
                 Err(_) => Err(FileFault {
@@ -87,25 +81,25 @@ fn load_one<S: Source + Send, R: Threads + Sync>(
 #[cycle(tables)]
 fn load_both<S: Source + Send, R: Threads + Sync>(
     rt: &R,
-    plan: &Plan<'_>,
+    loading: &Loading<'_>,
     number: u32,
     middle: u32,
     front: &mut [Joined<S>],
     back: &mut [Joined<S>],
 ) -> (Result<Vec<Table>, FileFault>, Result<Vec<Table>, FileFault>)
-    requires front { HaveTables plan.now.catalog.now number front.old }
-    requires back { HaveTables plan.now.catalog.now middle back.old }
-    ensures front { RanFrom joined_source plan.now.catalog.now number front.old front.new result.0 }
-    ensures back { RanFrom joined_source plan.now.catalog.now middle back.old back.new result.1 }
+    requires front { HaveTables loading.now.catalog.now number front.old }
+    requires back { HaveTables loading.now.catalog.now middle back.old }
+    ensures front { RanFrom joined_source loading.now.catalog.now number front.old front.new result.0 }
+    ensures back { RanFrom joined_source loading.now.catalog.now middle back.old back.new result.1 }
 {
     let mut first = || -> Result<Vec<Table>, FileFault>
-        requires { IsSync R.row × IsSend S.row × HaveTables plan.now.catalog.now number front.now }
-        ensures { RanFrom joined_source plan.entry.now.catalog.now number front.entry.now front.exit.now result }
-    { load_tables(rt, plan, number, front) };
+        requires { IsSync R.row × IsSend S.row × HaveTables loading.now.catalog.now number front.now }
+        ensures { RanFrom joined_source loading.entry.now.catalog.now number front.entry.now front.exit.now result }
+    { load_tables(rt, loading, number, front) };
     let mut second = || -> Result<Vec<Table>, FileFault>
-        requires { IsSync R.row × IsSend S.row × HaveTables plan.now.catalog.now middle back.now }
-        ensures { RanFrom joined_source plan.entry.now.catalog.now middle back.entry.now back.exit.now result }
-    { load_tables(rt, plan, middle, back) };
+        requires { IsSync R.row × IsSend S.row × HaveTables loading.now.catalog.now middle back.now }
+        ensures { RanFrom joined_source loading.entry.now.catalog.now middle back.entry.now back.exit.now result }
+    { load_tables(rt, loading, middle, back) };
     join_mut(rt, &mut first, &mut second)
 }
 
@@ -113,20 +107,20 @@ fn load_both<S: Source + Send, R: Threads + Sync>(
 #[cycle(tables)]
 fn load_tables<S: Source + Send, R: Threads + Sync>(
     rt: &R,
-    plan: &Plan<'_>,
+    loading: &Loading<'_>,
     number: u32,
     sources: &mut [Joined<S>],
 ) -> Result<Vec<Table>, FileFault>
-    requires { HaveTables plan.now.catalog.now number sources.old }
-    ensures { RanFrom joined_source plan.now.catalog.now number sources.old sources.new result }
+    requires { HaveTables loading.now.catalog.now number sources.old }
+    ensures { RanFrom joined_source loading.now.catalog.now number sources.old sources.new result }
 {
     let half = sources.len() / 2;
     if half == 0 {
-        return load_one(rt, plan, number, &mut sources[0]);
+        return load_one(rt, loading, number, &mut sources[0]);
     }
     let middle = number + half as u32;
     let (front, back) = sources.split_at_mut(half);
-    let (first, second) = load_both(rt, plan, number, middle, front, back);
+    let (first, second) = load_both(rt, loading, number, middle, front, back);
     put_together(middle, first, second)
 }
 
@@ -154,10 +148,10 @@ pub fn load_all_with<S: Source + Send, R: Threads + Sync>(
 {
     // A catalog has 1 to 16 tables.
     let _lawful = catalog.tables();
-    let plan = Plan {
+    let loading = Loading {
         alloc,
         catalog,
         piece_size,
     };
-    load_tables(rt, &plan, 0, sources)
+    load_tables(rt, &loading, 0, sources)
 }

@@ -1,15 +1,15 @@
 // Loading the tables of a catalog, each of what its source gives.
 
 ghost use Rattle.std.specs.Prelude.{◌≡◌, IfErr, IfOk, List, OnOk, Some, length, map};
-ghost use Rattle.ssb_load.specs.Catalog.{IsCatalog};
-ghost use Rattle.ssb_load.specs.CutShort.{IfRead};
+ghost use Rattle.ssb_catalog.specs.Catalog.{IsCatalog};
+ghost use Rattle.ssb_records.specs.CutShort.{IfRead};
 ghost use Rattle.ssb_load.specs.Files.{AreLawful, Bytes, FailedAt, GrewEach, LoadsAll, RoseEach, given_each};
 
-use crate::catalog::Catalog;
-use crate::fault::{FileFault, LoadFault};
+use crate::fault::FileFault;
 use crate::read_table::load_in_pieces;
-use crate::source::Source;
+use ssb_catalog::Catalog;
 use ssb_cells::Table;
+use ssb_records::{LoadFault, Source};
 use std::alloc::Global;
 
 /// The tables of a catalog in its order, each of what its source gives to the end, or the first fault.

@@ -2,24 +2,23 @@
 
 ghost use Rattle.std.specs.Prelude.{◌≡◌, ◌≢◌, ◌++◌, ◌+◌, ◌<◌, ◌≤◌, ◌∷◌, [], List, ℕ, IfErr, IfOk, OnOk, OnErr, None, map, true};
 ghost use Rattle.ssb_load.specs.Assembly.{AreParts, Halts, IsAssembled, IsHeld, IsWhole, RefusesAll, RefusesBehind, RefusesRows, all_in, lead, subject_in};
-ghost use Rattle.ssb_load.specs.Intake.{Refuses, Subject, table};
-ghost use Rattle.ssb_load.specs.Lines.{EndsInLf};
+ghost use Rattle.ssb_load.specs.Subject.{Refuses, Subject, table};
+ghost use Rattle.ssb_records.specs.Lines.{EndsInLf};
 ghost use Rattle.ssb_load.specs.Part.{HaltsAt, IsBrokenOff, IsPart, IsRefused};
-ghost use Rattle.ssb_load.specs.Records.{Fields, records_of};
+ghost use Rattle.ssb_records.specs.Records.{Fields, records_of};
 ghost use Rattle.ssb_terms.specs.Roles.{key_place};
 ghost use Rattle.ssb_load.specs.Rules.{columns_of};
 ghost use Rattle.ssb_load.specs.TableIntake.{IsLoading, subject_of};
 ghost use Rattle.ssb_load.specs.Tables.{first_fault};
-ghost use Rattle.ssb_load.specs.declared.fault.LoadFault.TheVariants as load;
-ghost use Rattle.ssb_load.specs.declared.fault.RecordFault.TheVariants as faults;
+ghost use Rattle.ssb_records.specs.declared.fault.LoadFault.TheVariants as load;
+ghost use Rattle.ssb_records.specs.declared.fault.RecordFault.TheVariants as faults;
 
-use crate::fault::{LoadFault, RecordFault};
-use crate::intake::take_text;
 use crate::moved::moved;
 use crate::part::{Part, keep};
 use crate::table_intake::TableIntake;
 use csv::ByteRecord;
 use ssb_cells::Column;
+use ssb_records::{LoadFault, RecordFault, take_text};
 use ssb_terms::Rule;
 use std::alloc::{AllocError, Global};
 use std::mem;

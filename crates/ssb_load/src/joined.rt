@@ -3,18 +3,16 @@
 ghost use Rattle.std.specs.Prelude.{◌≡◌, ◌↔◌, ◌++◌, ◌<◌, [], false, length, map, IfErr, IfOk, IsTrue, OnOk};
 ghost use Rattle.std.specs.List.{All};
 ghost use Rattle.ssb_load.specs.Assembly.{IsAssembled, subject_in};
-ghost use Rattle.ssb_load.specs.CutShort.{IfRead};
-ghost use Rattle.ssb_load.specs.Giving.{given_since};
-ghost use Rattle.ssb_load.specs.Intake.{Stops};
+ghost use Rattle.ssb_records.specs.CutShort.{IfRead};
+ghost use Rattle.ssb_records.specs.Giving.{given_since};
+ghost use Rattle.ssb_load.specs.Subject.{Stops};
 ghost use Rattle.ssb_load.specs.Joined.{IsJoined, all_of, failures_with, given_upto, sources_in, unread};
 ghost use Rattle.ssb_load.specs.JoinedLaws.{joined_begins, joined_settled};
 
 use crate::assembly::Assembly;
-use crate::fault::LoadFault;
-use crate::history::History;
 use crate::lane::Lane;
 use crate::lanes::{Stop, read_together};
-use crate::source::{Source, SourceFault};
+use ssb_records::{History, LoadFault, Source, SourceFault};
 use std::alloc::{AllocError, Global};
 use std::thread::Threads;
 

@@ -3,7 +3,7 @@
 ghost use Rattle.std.specs.Prelude.{◌≡◌, ◌<◌, [], List, IfOk, OnOk, length, map};
 ghost use Rattle.ssb_load.specs.Assembly.{all_in};
 ghost use Rattle.ssb_load.specs.Joining.{AreColumnsOf, FitBehind, behind_each};
-ghost use Rattle.ssb_load.specs.Records.{Fields};
+ghost use Rattle.ssb_records.specs.Records.{Fields};
 ghost use Rattle.ssb_load.specs.Rules.{columns_of};
 
 use ssb_cells::{Column, ColumnParts, Table};

@@ -10,11 +10,10 @@ ghost use Rattle.ssb_load.specs.Tables.{repeats};
 ghost use Rattle.ssb_load.specs.Loader.{fault_by};
 ghost use Rattle.ssb_load.specs.Loader.{fails, seen_in, IsFaultBy};
 
-use crate::fault::{LoadFault, RecordFault};
-use crate::field::{field_text, is_all_text, is_wide};
 use crate::number::number;
 use crate::value::{Test, fails_test};
 use csv::ByteRecord;
+use ssb_records::{LoadFault, RecordFault, field_text, is_all_text, is_wide};
 use ssb_terms::Rule;
 use std::collections::HashSet;
 

@@ -2,13 +2,12 @@
 
 ghost use Rattle.std.specs.Prelude.{◌≡◌, [], map};
 ghost use Rattle.std.specs.List.{All};
-ghost use Rattle.ssb_load.specs.Intake.{table};
+ghost use Rattle.ssb_load.specs.Subject.{table};
 ghost use Rattle.ssb_load.specs.Joined.{sources_in};
 ghost use Rattle.ssb_load.specs.Lane.{IsLaneRead};
 
-use crate::fault::LoadFault;
 use crate::part::Part;
-use crate::source::Source;
+use ssb_records::{LoadFault, Source};
 use ssb_terms::Rule;
 use std::alloc::Global;
 use std::thread;

@@ -8,9 +8,8 @@ ghost use Rattle.ssb_load.specs.Lane.{IsLaneRead};
 ghost use Rattle.ssb_load.specs.Lanes.{AreAdded, StopsAt};
 
 use crate::assembly::Assembly;
-use crate::fault::LoadFault;
 use crate::lane::{Lane, Reading, read_each};
-use crate::source::Source;
+use ssb_records::{LoadFault, Source};
 use std::alloc::Global;
 use std::mem;
 use std::thread::Threads;

@@ -10,13 +10,12 @@ ghost use Rattle.ssb_load.specs.Rules.{any_from, key_of, columns_of};
 ghost use Rattle.ssb_load.specs.Tables.{repeats};
 ghost use Rattle.ssb_load.specs.Loader.{seen_in, AddsKey, AreSized, IsFaultBy, fails_some, fault_by, is_place, number_told, with_record};
 
-use crate::fault::LoadFault;
-use crate::field::{field_text, is_all_text, is_wide};
 use crate::judge::refuse;
 use crate::number::number;
 use crate::value::value_of;
 use csv::ByteRecord;
 use ssb_cells::{Column, Table, Value};
+use ssb_records::{LoadFault, field_text, is_all_text, is_wide};
 use ssb_terms::Rule;
 use std::alloc::{AllocError, Global};
 use std::collections::HashSet;

@@ -3,7 +3,7 @@
 ghost use Rattle.std.specs.Prelude.{◌≡◌, ◌+◌, ◌≤◌};
 ghost use Rattle.ssb_load.specs.Moved.{comes_after_limit, moved, moved_record, of_record};
 
-use crate::fault::{LoadFault, RecordFault};
+use ssb_records::{LoadFault, RecordFault};
 
 // Whether a record past the most that a table may have is told of before this fault of it.
 fn comes_after_limit(fault: RecordFault) -> bool

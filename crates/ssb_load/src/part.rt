@@ -1,16 +1,13 @@
 // What a thread reads of a source that may begin and end in the middle of a line.
 
 ghost use Rattle.std.specs.Prelude.{◌≡◌, ◌<◌, ◌++◌, [], List, ℕ, true, IfErr, IfNone, IfOk, IfSome, OnOk};
-ghost use Rattle.ssb_load.specs.Lines.{AreLines, EndsInLf, IsPartOfLine};
-ghost use Rattle.ssb_load.specs.declared.fault.LoadFault.TheVariants as load;
+ghost use Rattle.ssb_records.specs.Lines.{AreLines, EndsInLf, IsPartOfLine};
+ghost use Rattle.ssb_records.specs.declared.fault.LoadFault.TheVariants as load;
 
-use crate::fault::LoadFault;
-use crate::intake::take_text;
-use crate::pieces::{Pieces, split_lines};
-use crate::source::Source;
 use crate::table_intake::TableIntake;
 use csv::ByteRecord;
 use memchr::memchr;
+use ssb_records::{LoadFault, Pieces, Source, split_lines, take_text};
 use ssb_terms::Rule;
 use std::alloc::{AllocError, Global};
 
@@ -51,9 +48,9 @@ pub(crate) fn keep(buffer: &mut Vec<u8>, bytes: &[u8]) -> Result<(), LoadFault>
 }
 
 impl Part {
-    ghost use Rattle.ssb_load.specs.CutShort.{IfRead};
-    ghost use Rattle.ssb_load.specs.Giving.{given_since};
-    ghost use Rattle.ssb_load.specs.Intake.{table};
+    ghost use Rattle.ssb_records.specs.CutShort.{IfRead};
+    ghost use Rattle.ssb_records.specs.Giving.{given_since};
+    ghost use Rattle.ssb_load.specs.Subject.{table};
     ghost use Rattle.ssb_load.specs.Part.{HaltsAt, IsAtLine, IsPart, RefusesPart};
     ghost use Rattle.ssb_load.specs.TableIntake.{subject_of};
 

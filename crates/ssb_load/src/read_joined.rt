@@ -4,14 +4,13 @@ ghost use Rattle.std.specs.Prelude.{◌≡◌, ◌<◌, length};
 ghost use Rattle.ssb_load.specs.Loading.{LoadsFrom, rules_at};
 
 use crate::assembly::Assembly;
-use crate::catalog::Catalog;
-use crate::fault::LoadFault;
 use crate::joined::Joined;
 use crate::joining::join_parts;
 use crate::judge::key_place;
 use crate::read_table::{load_in_pieces, rules_at};
-use crate::source::Source;
+use ssb_catalog::Catalog;
 use ssb_cells::Table;
+use ssb_records::{LoadFault, Source};
 use std::alloc::Global;
 use std::thread::Threads;
 

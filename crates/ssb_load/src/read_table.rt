@@ -3,21 +3,15 @@
 ghost use Rattle.std.specs.Prelude.{◌≡◌, ◌<◌, ℕ, List, IfSome, IfOk, IfErr, length, map};
 ghost use Rattle.ssb_cells.specs.Lawful.{HasOneKey, IsLawful};
 ghost use Rattle.ssb_load.specs.Loading.{IsTableFault, Loads, LoadsFrom, rules_at};
-ghost use Rattle.ssb_load.specs.Records.{records_of};
+ghost use Rattle.ssb_records.specs.Records.{records_of};
 
-use crate::catalog::{Catalog, ColumnDef};
-use crate::fault::LoadFault;
-use crate::intake::take_all;
-use crate::reader::In;
-use crate::source::Source;
 use crate::table_intake::TableIntake;
+use ssb_catalog::{Catalog, ColumnDef};
 use ssb_cells::{Memory, Table};
+use ssb_records::{In, LoadFault, PIECE_SIZE, Source, take_all};
 use ssb_terms::Rule;
 use std::alloc::Global;
 use std::io::Read;
-
-/// How many bytes of a source are taken at once, where no line is longer.
-pub const PIECE_SIZE: usize = 262_144;
 
 // What these columns take.
 fn rules_of(alloc: Global, columns: &[ColumnDef]) -> Result<Vec<Rule>, Memory>

@@ -2,12 +2,11 @@
 
 ghost use Rattle.std.specs.Prelude.{◌≡◌, ◌<◌, [], List, IfOk, length, vec_len};
 
-use crate::fault::LoadFault;
-use crate::intake::Intake;
 use crate::judge::key_place;
 use crate::loader::Loader;
 use csv::ByteRecord;
 use ssb_cells::{Column, Table};
+use ssb_records::{Intake, LoadFault};
 use ssb_terms::Rule;
 use std::alloc::{AllocError, Global};
 
@@ -22,9 +21,9 @@ pub(crate) struct TableIntake {
 }
 
 impl TableIntake {
-    ghost use Rattle.ssb_load.specs.Intake.{Subject, table};
+    ghost use Rattle.ssb_load.specs.Subject.{Subject, table};
     ghost use Rattle.ssb_cells.specs.Lawful.{HasOneKey, IsLawful};
-    ghost use Rattle.ssb_load.specs.Records.{Fields};
+    ghost use Rattle.ssb_records.specs.Records.{Fields};
     ghost use Rattle.ssb_load.specs.Rules.{columns_of};
     ghost use Rattle.ssb_load.specs.TableIntake.{IsLoading, subject_of};
 
@@ -73,9 +72,14 @@ impl TableIntake {
 }
 
 impl Intake for TableIntake {
+    ghost use Rattle.ssb_load.specs.Subject.{Subject, judge};
     ghost use Rattle.ssb_load.specs.TableIntake.{IsLoading, subject_of};
 
+    ghost Subject = { Subject };
+
     ghost subject = { subject_of };
+
+    ghost judge = { judge };
 
     ghost stands = { IsLoading };
 

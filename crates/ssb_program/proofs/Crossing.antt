@@ -5,8 +5,8 @@ use Rattle.std.proofs.Crossing.{crosses}
 use Rattle.std.specs.contracts.fs.File as File
 use Rattle.std.specs.contracts.io.traits.Take as Take
 use Rattle.std.specs.contracts.snapshot.Snapshot as Snapshot
-use Rattle.ssb_load.specs.contracts.history.History as History
-use Rattle.ssb_load.specs.contracts.reader.In as In
+use Rattle.ssb_records.specs.contracts.history.History as History
+use Rattle.ssb_records.specs.contracts.reader.In as In
 
 pub file_send : IsSend File.the_row
 file_send = search (crosses, sendable) depth 20

@@ -1,7 +1,7 @@
 -- What checking a query answers: its text is read, and then bound to a catalog.
 -- Source: own.
 use Rattle.std.specs.Prelude.{ℕ, List, Result, Ok, Err}
-use Rattle.ssb_load.specs.Shapes.{TableShape}
+use Rattle.ssb_catalog.specs.Shapes.{TableShape}
 use Rattle.ssb_sql.specs.Spells.{ReadsText}
 use Rattle.ssb_sql.specs.declared.select.Select.{Select}
 use Rattle.ssb_bind.specs.Faults.{BindsTo}

@@ -1,8 +1,8 @@
 -- With which status the program ends after a fault.
 -- Source: own.
 use Rattle.std.specs.Prelude.{◌≡◌, ℕ, ⊤}
-use Rattle.ssb_load.specs.declared.fault.LoadFault.{LoadFault}
-use Rattle.ssb_load.specs.declared.fault.LoadFault.TheVariants as load
+use Rattle.ssb_records.specs.declared.fault.LoadFault.{LoadFault}
+use Rattle.ssb_records.specs.declared.fault.LoadFault.TheVariants as load
 use Rattle.ssb_sql.specs.declared.fault.SqlFault.{SqlFault}
 use Rattle.ssb_sql.specs.declared.fault.SqlFault.TheVariants as sql
 use Rattle.ssb_bind.specs.declared.fault.BindFault.{BindFault}

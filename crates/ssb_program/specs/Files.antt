@@ -3,7 +3,7 @@
 use Rattle.std.specs.Prelude.{◌*◌, ℕ, Bool, List, if◌then◌else◌}
 use Rattle.std.specs.List.{list_any}
 use Rattle.ssb_terms.specs.Roles.{is_key}
-use Rattle.ssb_load.specs.declared.catalog.ColumnDef.{ColumnDef}
+use Rattle.ssb_catalog.specs.declared.catalog.ColumnDef.{ColumnDef}
 
 -- the most bytes that a query's file may have
 abbrev pub longest_query : ℕ

@@ -2,7 +2,7 @@
 -- Source: own.
 use Rattle.std.specs.Prelude.{◌≡◌, ◌+◌, ◌<◌, ◌≤◌, ◌++◌, ◌⊎◌, [], ◌∷◌, ℕ, List, length, map, true}
 use Rattle.std.specs.List.{AllZip}
-use Rattle.ssb_load.specs.Shapes.{TableShape}
+use Rattle.ssb_catalog.specs.Shapes.{TableShape}
 use Rattle.ssb_program.specs.Files.{has_key}
 use Rattle.ssb_program.specs.declared.spans.Span.{Span}
 

@@ -4,7 +4,7 @@ ghost use Rattle.ssb_program.specs.Checking.{Checks};
 
 use crate::fault::RunFault;
 use ssb_bind::bind;
-use ssb_load::Catalog;
+use ssb_catalog::Catalog;
 use ssb_sql::read;
 use std::alloc::Global;
 

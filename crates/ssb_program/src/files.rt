@@ -2,7 +2,7 @@
 
 ghost use Rattle.std.specs.Prelude.{◌≡◌, ◌≤◌, ◌<◌, ◌+◌, IfOk, IfErr, IsNone, IsOk, IsErrAnd, IsUtf8, length, map, vec_len, string_bytes};
 ghost use Rattle.std.specs.Io.Take.{take_limit};
-ghost use Rattle.ssb_load.specs.BuiltIn.{ssb_tables};
+ghost use Rattle.ssb_catalog.specs.BuiltIn.{ssb_tables};
 ghost use Rattle.ssb_load.specs.Joined.{sources_in};
 ghost use Rattle.ssb_program.specs.Faults.{IsOpenFault, IsQueryFault};
 ghost use Rattle.ssb_program.specs.Files.{has_key, longest_query, section_count};
@@ -10,7 +10,8 @@ ghost use Rattle.ssb_program.specs.Sections.{AreOpened, AreSectionsOf, AreSizes,
 
 use crate::fault::{ProgramFault, RunFault, SqlFault};
 use crate::sections::{Section, sections_of};
-use ssb_load::{Catalog, ColumnDef, Joined, TableDef};
+use ssb_catalog::{Catalog, ColumnDef, TableDef};
+use ssb_load::Joined;
 use std::alloc::{AllocError, Global};
 use std::io::Read;
 use std::rt::Files;

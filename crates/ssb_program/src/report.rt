@@ -4,7 +4,7 @@ ghost use Rattle.std.specs.Prelude.{◌≡◌};
 ghost use Rattle.ssb_program.specs.Faults.{load_status, sql_status, bind_status, answer_status, status, program_status};
 
 use crate::fault::{AnswerFault, BindFault, ProgramFault, RunFault, SqlFault};
-use ssb_load::LoadFault;
+use ssb_records::LoadFault;
 use ssb_reply::{MEMORY_LINE, load_line, run_line, words_line};
 use std::alloc::{AllocError, Global};
 

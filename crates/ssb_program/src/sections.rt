@@ -6,7 +6,7 @@ ghost use Rattle.std.specs.Io.Take.{take_inner, take_limit};
 ghost use Rattle.ssb_program.specs.Sections.{AreSizes};
 
 use crate::spans::{ENDLESS, Span, spans_of};
-use ssb_load::In;
+use ssb_records::In;
 use std::alloc::{AllocError, Global};
 use std::fs;
 use std::fs::{Metadata, OpenFile};

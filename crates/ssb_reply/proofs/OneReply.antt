@@ -1,8 +1,8 @@
 -- Files and a text have one reply: each stage of a run has one outcome.
 use Rattle.std.proofs.Common.{◌≡◌, ◌∙◌, ◌++◌, ◌<◌, ◌≤◌, ℕ, List, refl, sym, ap, subst, arith, Result, Ok, Err, Some, None, true, false}
 use Rattle.std.specs.Prelude.{OnOk}
-use Rattle.ssb_load.specs.Shapes.{TableShape}
-use Rattle.ssb_load.specs.declared.fault.LoadFault.TheVariants as load
+use Rattle.ssb_catalog.specs.Shapes.{TableShape}
+use Rattle.ssb_records.specs.declared.fault.LoadFault.TheVariants as load
 use Rattle.ssb_sql.specs.Spells.{ReadsText}
 use Rattle.ssb_sql.specs.declared.fault.SqlFault.{SqlFault}
 use Rattle.ssb_sql.specs.declared.fault.SqlFault.TheVariants as sql
@@ -14,7 +14,7 @@ use Rattle.ssb_bind.specs.declared.fault.BindFault.{BindFault}
 use Rattle.ssb_query.specs.declared.query.QueryParts.{QueryParts}
 use Rattle.ssb_groups.specs.Rows.{SeenRow}
 use Rattle.ssb_load.specs.Files.{Bytes, Columns, FirstFault, loaded}
-use Rattle.ssb_load.specs.declared.fault.RecordFault.{RecordFault}
+use Rattle.ssb_records.specs.declared.fault.RecordFault.{RecordFault}
 use Rattle.ssb_rows.specs.Order.{Row}
 use Rattle.ssb_reply.specs.Reply.{Replies, Asks, IsUnbound, AreTables, seen_rows}
 use Rattle.ssb_rows.specs.Result.{Answers, bag}

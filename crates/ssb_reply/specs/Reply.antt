@@ -2,8 +2,8 @@
 -- Source: own; the order is that of the work.
 use Rattle.std.specs.Prelude.{◌≡◌, ◌++◌, ℕ, List, map, Some, Result, Ok, Err, ⊤}
 use Rattle.ssb_load.specs.Files.{Bytes, Columns, loaded}
-use Rattle.ssb_load.specs.Shapes.{TableShape}
-use Rattle.ssb_load.specs.declared.fault.LoadFault.TheVariants as load
+use Rattle.ssb_catalog.specs.Shapes.{TableShape}
+use Rattle.ssb_records.specs.declared.fault.LoadFault.TheVariants as load
 use Rattle.ssb_sql.specs.Spells.{IsRead, ReadsText}
 use Rattle.ssb_sql.specs.declared.fault.SqlFault.TheVariants as sql
 use Rattle.ssb_sql.specs.declared.select.Select.{Select}

@@ -2,7 +2,7 @@
 -- Source: own.
 use Rattle.std.specs.Prelude.{◌≡◌, ◌<◌, ℕ, List, Option, Some, Result, IfErr, OnOk, map}
 use Rattle.ssb_load.specs.Files.{Bytes, FailedAt, GrewEach, RoseEach, given_each}
-use Rattle.ssb_load.specs.Shapes.{TableShape}
+use Rattle.ssb_catalog.specs.Shapes.{TableShape}
 use Rattle.ssb_reply.specs.Reply.{IfLoaded, IfReadOf, IsSilentBut, Replies}
 use Rattle.ssb_rows.specs.Taking.{GrewAlike}
 use Rattle.ssb_reply.specs.declared.run_fault.RunFault.{RunFault}

@@ -1,8 +1,8 @@
 -- That files and a text have one reply.
 -- Source: own.
 use Rattle.std.specs.Prelude.{◌≡◌, List, OnOk, Result, Ok, Err, ⊤}
-use Rattle.ssb_load.specs.Shapes.{TableShape}
-use Rattle.ssb_load.specs.declared.fault.LoadFault.TheVariants as load
+use Rattle.ssb_catalog.specs.Shapes.{TableShape}
+use Rattle.ssb_records.specs.declared.fault.LoadFault.TheVariants as load
 use Rattle.ssb_sql.specs.declared.fault.SqlFault.TheVariants as sql
 use Rattle.ssb_load.specs.Files.{Bytes}
 use Rattle.ssb_reply.specs.Reply.{Replies}

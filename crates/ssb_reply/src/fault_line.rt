@@ -6,7 +6,7 @@ ghost use Rattle.ssb_reply.specs.FaultLine.{IsAnswerLine, IsBindLine, IsLoadLine
 use crate::run_fault::RunFault;
 use itoa::Buffer;
 use ssb_bind::BindFault;
-use ssb_load::LoadFault;
+use ssb_records::LoadFault;
 use ssb_rows::AnswerFault;
 use ssb_sql::SqlFault;
 use std::alloc::{AllocError, Global};

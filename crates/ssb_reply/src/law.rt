@@ -2,8 +2,8 @@
 
 ghost use Rattle.std.specs.Prelude.{List};
 ghost use Rattle.ssb_load.specs.Files.{AreLawful};
-ghost use Rattle.ssb_load.specs.Catalog.{IsCatalog};
-ghost use Rattle.ssb_load.specs.Shapes.{TableShape};
+ghost use Rattle.ssb_catalog.specs.Catalog.{IsCatalog};
+ghost use Rattle.ssb_catalog.specs.Shapes.{TableShape};
 ghost use Rattle.ssb_sql.specs.declared.select.Select.{Select};
 ghost use Rattle.ssb_query.specs.declared.query.QueryParts.{QueryParts};
 ghost use Rattle.ssb_bind.specs.Faults.{Means};

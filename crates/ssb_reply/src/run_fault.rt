@@ -3,7 +3,8 @@
 ghost use Rattle.std.specs.Prelude.{◌≡◌};
 
 use ssb_bind::BindFault;
-use ssb_load::{FileFault, LoadFault};
+use ssb_load::FileFault;
+use ssb_records::LoadFault;
 use ssb_rows::AnswerFault;
 use ssb_sql::SqlFault;
 use thiserror::Error;

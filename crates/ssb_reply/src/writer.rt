@@ -2,7 +2,7 @@
 ghost use Rattle.std.specs.Prelude.{◌≡◌, [], length};
 ghost use Rattle.std.specs.Io.KnownBytes.{Appends};
 
-use ssb_load::History;
+use ssb_records::History;
 use ssb_rows::{Sink, SinkFault};
 use std::io::Write;
 use std::mem;

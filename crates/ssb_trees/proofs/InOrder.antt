@@ -10,17 +10,17 @@ use Rattle.ssb_trees.specs.declared.condition.Condition.TheFolds.{fold-roll-Cond
 use Rattle.ssb_trees.specs.declared.condition.Condition.TheViews.{roll-Condition}
 
 module _ (O P S : Type 0) (given : S → O → P) (next : S → O → S) where
-  abbrev pub Made : Type 0
-  Made = Condition P × S
+  abbrev pub Outcome : Type 0
+  Outcome = Condition P × S
 
-  abbrev pub made : Condition O → S → Made
+  abbrev pub made : Condition O → S → Outcome
   made = in_order O P S given next
 
   abbrev pub all_made : List (Condition O) → S → List (Condition P) × S
   all_made cs s = each_in_order (map made cs) s
 
-  pub of_layer : (x : Condition-F O (Condition O)) (s : S) → made (roll-Condition O x) s ≡ in_order_layer O P S given next (map-Condition O (Condition O) (S → Made) made x) s
-  of_layer x s = ap (λ make. make s) (fold-roll-Condition O (S → Made) (in_order_layer O P S given next) x)
+  pub of_layer : (x : Condition-F O (Condition O)) (s : S) → made (roll-Condition O x) s ≡ in_order_layer O P S given next (map-Condition O (Condition O) (S → Outcome) made x) s
+  of_layer x s = ap (λ make. make s) (fold-roll-Condition O (S → Outcome) (in_order_layer O P S given next) x)
 
   -- ---- parts that AND or OR joins
 

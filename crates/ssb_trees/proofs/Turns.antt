@@ -1,6 +1,6 @@
 -- What becomes of a condition whose operands are taken in their turn: where the state tells of the operands that are left, and in general.
 use Rattle.std.proofs.Common.{◌≡◌, List, [], ◌∷◌, ◌++◌, map, fold, refl, sym, ap, ap₂, ◌∙◌, subst, append_assoc}
-use Rattle.ssb_trees.proofs.InOrder.{made, Made, of_layer}
+use Rattle.ssb_trees.proofs.InOrder.{made, Outcome, of_layer}
 use Rattle.ssb_trees.proofs.Mapping.{mapped_same, same}
 use Rattle.ssb_trees.specs.Conditions.{each_in_order, in_order, in_order_layer, mapped, mapped_layer, operands, operands_layer}
 use Rattle.ssb_trees.specs.Lists.{concat}
@@ -14,7 +14,7 @@ use Rattle.ssb_trees.specs.declared.condition.Condition.TheViews.{roll-Condition
 
 module _ (A O P S : Type 0) (g : A → O) (f : A → P) (given : S → O → P) (next : S → O → S) (at : List A → S)
     (gives : (x : A) (xs : List A) → given (at (x ∷ xs)) (g x) ≡ f x) (moves : (x : A) (xs : List A) → next (at (x ∷ xs)) (g x) ≡ at xs) where
-  abbrev F : Condition O → S → Made O P S given next
+  abbrev F : Condition O → S → Outcome O P S given next
   F = made O P S given next
 
   abbrev Turns : Condition A → Type 0
@@ -115,7 +115,7 @@ turned given next s [] = []
 turned given next s (x ∷ xs) = given s x ∷ turned given next (next s x) xs
 
 module _ (O P S Q : Type 0) (given : S → O → P) (next : S → O → S) (h : P → Q) (k : O → Q) (alike : (s : S) (o : O) → h (given s o) ≡ k o) where
-  abbrev G : Condition O → S → Made O P S given next
+  abbrev G : Condition O → S → Outcome O P S given next
   G = made O P S given next
 
   -- the condition keeps its form, its operands are what each makes in its turn, and the state is the last

@@ -19,5 +19,5 @@ pub mod operand;
 pub use aggregate::{Aggregate, SetFunction};
 pub use condition::Condition;
 pub use expr::{Expr, Step};
-pub use leaf::{Leaves, LeavesInOrder, Test};
+pub use leaf::{Leaves, LeavesInOrder, Made, Test};
 pub use operand::{Filter, Operand};

@@ -1,6 +1,6 @@
 // Why the program has no answer.
 
-use ssb_load::LoadFault;
+use ssb_records::LoadFault;
 use ssb_reply::RunFault;
 use std::alloc::AllocError;
 

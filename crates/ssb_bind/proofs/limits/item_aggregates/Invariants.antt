@@ -1,5 +1,5 @@
 use Rattle.std.proofs.Common.{◌≡◌, ◌≤◌, ◌+◌, ℕ, List, drop, length}
-use Rattle.ssb_load.specs.Shapes.{TableShape}
+use Rattle.ssb_catalog.specs.Shapes.{TableShape}
 use Rattle.ssb_bind.specs.Bound.{aggregates_of}
 use Rattle.ssb_bind.proofs.limits.item_aggregates.Given as goal
 

@@ -1,6 +1,6 @@
 use Rattle.std.proofs.Common.{List, map}
 use Rattle.ssb_load.specs.Joining.{AreColumnsOf}
-use Rattle.ssb_load.specs.Records.{Fields}
+use Rattle.ssb_records.specs.Records.{Fields}
 use Rattle.ssb_load.proofs.JoiningFacts.{AreStacked}
 use Rattle.ssb_load.proofs.joining.stack_all.Given as goal
 

@@ -1,5 +1,5 @@
 use Rattle.std.proofs.Common.{arith}
-use Rattle.ssb_load.proofs.LineFacts.{no-lf}
+use Rattle.ssb_records.proofs.LineFacts.{no-lf}
 use Rattle.ssb_load.proofs.part.split_first_line.Goals as goal
 
 pub returns-in-None-clause-none : goal.returns-in-None-clause-none

@@ -1,7 +1,7 @@
 use Rattle.std.proofs.Common.{◌∙◌, ap, arith, map, subst, sym}
 use Rattle.std.proofs.lemmas.Result.{err_from_is_err_and}
 use Rattle.ssb_load.specs.Assembly.{all_in, subject_in}
-use Rattle.ssb_load.specs.Intake.{table}
+use Rattle.ssb_load.specs.Subject.{table}
 use Rattle.ssb_load.specs.JoinedSource.{joined_source}
 use Rattle.ssb_load.specs.Joining.{AreColumnsOf}
 use Rattle.ssb_cells.specs.Lawful.{HasOneKey}

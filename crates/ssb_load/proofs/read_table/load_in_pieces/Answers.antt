@@ -1,6 +1,6 @@
 use Rattle.std.proofs.Common.{◌<◌, ◌∙◌, ap, subst, arith}
 use Rattle.std.proofs.lemmas.Result.{err_from_is_err_and}
-use Rattle.ssb_load.specs.Intake.{table}
+use Rattle.ssb_load.specs.Subject.{table}
 use Rattle.ssb_cells.specs.Lawful.{HasOneKey}
 use Rattle.ssb_load.proofs.TableTaking.{all-lawful, gives-table, loads-stopped, loads-table}
 use Rattle.ssb_load.proofs.read_table.load_in_pieces.Goals as goal

@@ -1,8 +1,8 @@
 use Rattle.std.proofs.Common.{◌++◌, ◌∷◌, ◌∙◌, ap, refl, subst}
 use Rattle.std.proofs.lemmas.Result.{err_from_is_err_and}
 use Rattle.ssb_load.specs.Assembly.{all_in, subject_in}
-use Rattle.ssb_load.specs.Intake.{Refuses}
-use Rattle.ssb_load.specs.Records.{records_of}
+use Rattle.ssb_load.specs.Subject.{Refuses}
+use Rattle.ssb_records.specs.Records.{records_of}
 use Rattle.ssb_load.proofs.AssemblyFacts.{held-after}
 use Rattle.ssb_load.proofs.AssemblyLines.{added, added-refuses, refuses-on, waits-on}
 use Rattle.ssb_load.proofs.PartTaking.{on-ok}

@@ -1,7 +1,7 @@
 use Rattle.std.proofs.Common.{◌++◌, append_assoc, refl, subst}
 use Rattle.ssb_load.specs.Assembly.{all_in, lead, subject_in}
-use Rattle.ssb_load.specs.Intake.{Refuses}
-use Rattle.ssb_load.specs.Records.{records_of}
+use Rattle.ssb_load.specs.Subject.{Refuses}
+use Rattle.ssb_records.specs.Records.{records_of}
 use Rattle.ssb_load.proofs.AssemblyFacts.{held-many, held-refuses}
 use Rattle.ssb_load.proofs.PartTaking.{if-err}
 use Rattle.ssb_load.proofs.TableTaking.{limit-is}

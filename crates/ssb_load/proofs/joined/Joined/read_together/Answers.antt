@@ -2,11 +2,11 @@
 use Rattle.std.proofs.Common.{◌≡◌, ◌∙◌, length, map, drop, take, [], ap, arith, rules, subst, sym}
 use Rattle.std.specs.List.{All}
 use Rattle.ssb_load.specs.Assembly.{IsAssembled, subject_in}
-use Rattle.ssb_load.specs.Intake.{StopsBy, StopsIn}
+use Rattle.ssb_load.specs.Subject.{StopsBy, StopsIn}
 use Rattle.ssb_load.specs.Joined.{all_of, given_upto, sources_in}
 use Rattle.ssb_load.specs.JoinedLaws.{joined_begins}
 use Rattle.ssb_load.proofs.JoinedFacts.{given-all, joined-over, joined-stopped, none-given}
-use Rattle.ssb_load.proofs.TakingAll.{always, holds-of, later-is}
+use Rattle.ssb_records.proofs.TakingAll.{always, holds-of, later-is}
 use Rattle.ssb_load.proofs.TogetherFacts.{came-back, grows-none, halts-fails, halts-in, silent-lanes, since-none}
 use Rattle.ssb_load.proofs.joined.Joined.read_together.Goals as goal
 

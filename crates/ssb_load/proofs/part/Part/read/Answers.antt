@@ -1,7 +1,8 @@
 use Rattle.std.proofs.Common.{◌++◌, ◌∙◌, Bool, ap, subst, sym}
 use Rattle.std.proofs.lemmas.Result.{err_from_is_err_and}
 use Rattle.ssb_load.specs.Part.{IsPart}
-use Rattle.ssb_load.specs.Pieces.{Hands, handed, rest_of}
+use Rattle.ssb_records.specs.Pieces.{Hands, handed}
+use Rattle.ssb_records.proofs.TakingAll.{told-of}
 use Rattle.ssb_load.proofs.PartReading.{broken-off, halts-given, read-never, tail-next}
 use Rattle.ssb_load.proofs.part.Part.read.Goals as goal
 
@@ -9,8 +10,7 @@ pub returns-in_err-take_piece-clause-halts : goal.returns-in_err-take_piece-clau
 returns-in_err-take_piece-clause-halts g c =
     let inv = c.loop.invariant in
     let q = c.fill.new.self in
-    let begun = ap (λ s. s.value) c.fill.ensures.begun ∙ inv.begun in
-    let told = c.fill.ensures.follows.told ∙ ap (λ s. g.S.Source.given s ++ (handed q ++ rest_of q)) begun in
+    let told = told-of g.S.Source.given g.S.Source.failures g.S.Source.ends q c.fill.new.source c.args.source.now c.fill.ensures.follows (c.fill.ensures.begun ∙ inv.begun) in
     let out = err_from_is_err_and c.from_residual.result c.from_residual.ensures.1 in
     rw (out.1, out.2) (halts-given _ c.loop.pieces q _ _ _ c.fill.ensures.handed told (rw c.piece.ensures at (c.in_err-take_piece.ensures.refused (handed c.loop.pieces) inv.part)))
 
@@ -27,7 +27,7 @@ loop-preserved g c =
     record {
       follows = c.fill.ensures.follows;
       whole = c.fill.ensures.whole ∙ inv.whole;
-      begun = ap (λ s. s.value) c.fill.ensures.begun ∙ inv.begun;
+      begun = c.fill.ensures.begun ∙ inv.begun;
       same = c.take_piece.ensures.subject ∙ inv.same;
       part = subst (IsPart c.take_piece.new.self) (sym c.fill.ensures.handed) (rw c.piece.ensures at (c.in_ok-take_piece.ensures.taken (handed c.loop.pieces) inv.part));
       tail = tail-next c.take_piece.new.self q hands (rw c.piece.ensures at c.in_ok-take_piece.ensures.lines);
@@ -36,10 +36,9 @@ loop-preserved g c =
 pub returns-in-Ok-false-clause-halts : goal.returns-in-Ok-false-clause-halts
 returns-in-Ok-false-clause-halts g c =
     let q = c.fill.new.self in
-    let base = ap (λ s. s.value) c.fill.ensures.begun ∙ c.loop.invariant.begun in
     broken-off c.loop.self c.loop.pieces q _ _
     (sym c.has_failed.ensures ∙ c.if-has_failed.true)
     (let P : Bool → Type 0 = λ b. Hands b q in subst P c.in-Ok-false.field-0-test c.in-Ok-false.ensures.hands)
     c.fill.ensures.handed
-    (c.fill.ensures.follows.told ∙ ap (λ s. g.S.Source.given s ++ (handed q ++ rest_of q)) base)
+    (told-of g.S.Source.given g.S.Source.failures g.S.Source.ends q c.fill.new.source c.args.source.now c.fill.ensures.follows (c.fill.ensures.begun ∙ c.loop.invariant.begun))
     c.fill.ensures.stays c.loop.invariant.tail c.loop.invariant.part

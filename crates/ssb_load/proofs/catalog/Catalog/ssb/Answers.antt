@@ -1,5 +1,0 @@
-use Rattle.ssb_load.proofs.BuiltInFacts.{built-in-catalog}
-use Rattle.ssb_load.proofs.catalog.Catalog.ssb.Goals as goal
-
-pub new-requires : goal.new-requires
-new-requires c = rw c.in_ok-tables.ensures built-in-catalog

@@ -1,5 +1,0 @@
-use Rattle.std.proofs.Common.{◌≡◌, ◌++◌, take}
-use Rattle.ssb_load.proofs.history.History+u8.and_all.Given as goal
-
-abbrev pub invariant-loop-byte : goal.invariant-loop-byte
-invariant-loop-byte l = l.noted.items ≡ l.fn.self.items ++ take l.byte-index l.bytes

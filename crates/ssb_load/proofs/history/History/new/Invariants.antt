@@ -1,5 +1,0 @@
-use Rattle.std.proofs.Common.{[]}
-use Rattle.ssb_load.proofs.history.History.new.Given as goal
-
-abbrev pub ghost-told_by : goal.ghost-told_by
-ghost-told_by g a = []

@@ -1,5 +1,0 @@
-use Rattle.ssb_load.proofs.Cutting.{cut-at}
-use Rattle.ssb_load.proofs.pieces.Pieces.hand_out.Goals as goal
-
-pub returns-clause-split : goal.returns-clause-split
-returns-clause-split g c = cut-at _ _ _ _ c.requires.cut c.requires.end

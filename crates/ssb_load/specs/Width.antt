@@ -1,9 +1,0 @@
--- How many fields a record has.
--- Source: the benchmark's generator closes each line with a bar.
-use Rattle.std.specs.Prelude.{◌+◌, ◌==◌, ◌&&◌, ◌||◌, ℕ, Bool, length}
-use Rattle.ssb_load.specs.Records.{Fields, field}
-use Rattle.ssb_load.specs.Rules.{is_empty}
-
--- a record has so many fields, or one more, which is empty
-abbrev pub has_width : ℕ → Fields → Bool
-has_width n r = (length r == n) || ((length r == n + 1) && is_empty (field r n))

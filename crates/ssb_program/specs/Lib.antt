@@ -1,4 +1,1 @@
 pub mod Checking
-pub mod Faults
-pub mod Files
-pub mod Sections

@@ -2,9 +2,9 @@
 
 ghost use Rattle.ssb_program.specs.Checking.{Checks};
 
-use crate::fault::RunFault;
 use ssb_bind::bind;
 use ssb_catalog::Catalog;
+use ssb_reply::RunFault;
 use ssb_sql::read;
 use std::alloc::Global;
 

@@ -4,11 +4,6 @@
 #![tactic(auto)]
 
 mod check;
-mod fault;
-mod files;
 mod program;
-mod report;
-mod sections;
-mod spans;
 
 pub use program::status_of_program;

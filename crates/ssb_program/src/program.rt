@@ -4,18 +4,21 @@
 
 ghost use Rattle.std.specs.Prelude.{◌≡◌, ◌⊎◌, IfSome, IsNone, length, unwrap_or, vec_len};
 ghost use Rattle.ssb_reply.specs.Settings.{AreInRange};
-ghost use Rattle.ssb_program.specs.Faults.{out_of_memory, program_status};
+ghost use Rattle.ssb_files.specs.Faults.{IsStatus, out_of_memory, program_status};
 
 use crate::check::check_text;
-use crate::fault::{AnswerFault, ProgramFault, RunFault};
-use crate::files::{catalog_of, names_of, open_all, read_query};
-use crate::report::{OUT_OF_MEMORY, program_line, program_status_of};
-use crate::sections::Section;
 use ssb_answer::{NoGate, run_from};
 use ssb_catalog::Catalog;
+use ssb_files::{
+    OUT_OF_MEMORY, ProgramFault, Section, catalog_of, names_of, open_all, program_line,
+    program_status_of, read_query,
+};
 use ssb_load::Joined;
 use ssb_records::Source;
-use ssb_reply::{DEFAULT_MORSEL_SIZE, DEFAULT_PARTS, DEFAULT_WORKERS, MEMORY_LINE, Out, Settings};
+use ssb_reply::{
+    DEFAULT_MORSEL_SIZE, DEFAULT_PARTS, DEFAULT_WORKERS, MEMORY_LINE, Out, RunFault, Settings,
+};
+use ssb_rows::AnswerFault;
 use ssb_words::{QuerySource, Task, WordsFault, task_of};
 use std::alloc::{AllocError, Global};
 use std::fs::File;
@@ -358,7 +361,9 @@ fn tell<R: Eprint + AllocGlobal>(rt: &R, fault: &ProgramFault) -> u8
 /// Does what the words of the command line ask, and gives the exit status.
 pub fn status_of_program<
     R: Files<File = File> + Print + Eprint + Env + AllocGlobal + Threads + Wait + Sync,
->(rt: &R) -> u8 {
+>(rt: &R) -> u8
+    ensures { IsStatus result }
+{
     match act(rt) {
         Ok(()) => 0,
         Err(fault) => {

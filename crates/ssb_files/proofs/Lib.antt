@@ -1,0 +1,3 @@
+pub mod Crossing
+mod OpenFacts
+mod SpanFacts

@@ -1,0 +1,207 @@
+// Files that are opened and read.
+
+ghost use Rattle.std.specs.Prelude.{◌≡◌, ◌≤◌, ◌<◌, ◌+◌, IfOk, IfErr, IsNone, IsOk, IsErrAnd, IsUtf8, length, map, vec_len, string_bytes};
+ghost use Rattle.std.specs.Io.Take.{take_limit};
+ghost use Rattle.ssb_catalog.specs.BuiltIn.{ssb_tables};
+ghost use Rattle.ssb_load.specs.Joined.{sources_in};
+ghost use Rattle.ssb_files.specs.Faults.{IsOpenFault, IsQueryFault};
+ghost use Rattle.ssb_files.specs.Files.{has_key, longest_query, section_count};
+ghost use Rattle.ssb_files.specs.Sections.{AreOpened, AreSectionsOf, AreSizes, GainsTable};
+
+use crate::fault::ProgramFault;
+use crate::sections::{Section, sections_of};
+use ssb_catalog::{Catalog, ColumnDef, TableDef};
+use ssb_load::Joined;
+use ssb_reply::RunFault;
+use ssb_sql::SqlFault;
+use std::alloc::{AllocError, Global};
+use std::io::Read;
+use std::rt::Files;
+use std::{fs, io};
+
+// A query has at most 65,536 bytes.
+const MAX_QUERY_BYTES: usize = 65536;
+
+// The fault of a file that is not opened, or not read where that counts as not opened.
+fn open_fault(alloc: Global, path: &str, error: &io::Error) -> ProgramFault
+    ensures { IsOpenFault result }
+{
+    if error.kind() == io::ErrorKind::OutOfMemory {
+        return ProgramFault::Memory;
+    }
+    match String::from_str(alloc, path) {
+        Ok(path) => ProgramFault::CannotOpen(path),
+        Err(_) => ProgramFault::Memory,
+    }
+}
+
+fn open<R: Files + AllocGlobal>(rt: &R, path: &str) -> Result<R::File, ProgramFault>
+    ensures { IfErr result IsOpenFault }
+{
+    match fs::open(rt, path) {
+        Ok(file) => Ok(file),
+        Err(error) => Err(open_fault(rt.alloc(), path, &error)),
+    }
+}
+
+fn read_catalog<R: Files + AllocGlobal>(rt: &R, path: &str) -> Result<Catalog, ProgramFault> {
+    let file = open(rt, path)?;
+    match Catalog::read(rt.alloc(), file) {
+        Ok(catalog) => Ok(catalog),
+        Err(fault) => Err(ProgramFault::Catalog(fault)),
+    }
+}
+
+/// The catalog of a file, or the built-in one where no file is given.
+pub fn catalog_of<R: Files + AllocGlobal>(
+    rt: &R,
+    path: Option<&str>,
+) -> Result<Catalog, ProgramFault>
+    ensures built_in { IsNone path.entry → IfOk result (λ c. c ≡ ssb_tables) }
+{
+    match path {
+        Some(path) => read_catalog(rt, path),
+        None => Ok(Catalog::ssb(rt.alloc())?),
+    }
+}
+
+fn query_fault(alloc: Global, fault: SqlFault) -> ProgramFault
+    ensures { IsQueryFault fault result }
+{
+    ProgramFault::Run {
+        names: Vec::new(alloc),
+        fault: RunFault::Sql(fault),
+    }
+}
+
+// The text that the bytes of a query are.
+fn text_of(alloc: Global, bytes: Vec<u8>) -> Result<String, ProgramFault>
+    ensures text { IfOk result (λ text. string_bytes text ≡ bytes.items) }
+    ensures succeeds { IsUtf8 bytes.items → vec_len bytes ≤ longest_query → IsOk result }
+    ensures too_long { longest_query < vec_len bytes → IsErrAnd result (IsQueryFault SqlFault.TooLong) }
+    ensures no_text { vec_len bytes ≤ longest_query → IfErr result (IsQueryFault SqlFault.Syntax) }
+{
+    if bytes.len() > MAX_QUERY_BYTES {
+        return Err(query_fault(alloc, SqlFault::TooLong));
+    }
+    match String::from_utf8(bytes) {
+        Ok(text) => Ok(text),
+        Err(_) => Err(query_fault(alloc, SqlFault::Syntax)),
+    }
+}
+
+/// The query of a file, of which no more is read than shows that it is too long.
+pub fn read_query<R: Files + AllocGlobal>(rt: &R, path: &str) -> Result<String, ProgramFault> {
+    let file = open(rt, path)?;
+    let mut bytes = Vec::new(rt.alloc());
+    match file.take(65537).read_to_end(&mut bytes) {
+        Ok(_) => text_of(rt.alloc(), bytes),
+        Err(error) => Err(open_fault(rt.alloc(), path, &error)),
+    }
+}
+
+/// The names of the tables, in the catalog's order.
+pub fn names_of(alloc: Global, catalog: &Catalog) -> Result<Vec<String>, AllocError>
+    ensures { IfOk result (λ names. vec_len names ≡ length catalog.now) }
+{
+    let mut names = Vec::new(alloc);
+    for table in catalog.tables() {
+        names.push(String::from_str(alloc, table.name())?)?;
+    }
+    Ok(names)
+}
+
+fn path_of(alloc: Global, data: &str, table: &str) -> Result<String, AllocError> {
+    format!(in alloc; "{data}/{table}.tbl")
+}
+
+// Whether one of these columns is its table's key.
+fn has_key(columns: &[ColumnDef]) -> bool
+    ensures { result ≡ has_key columns.now }
+{
+    columns.iter().any(|column| column.rule.role.is_key())
+}
+
+// How often the file of a table is opened: four times for each worker, where the table has no key.
+fn section_count(columns: &[ColumnDef], workers: u32) -> u64
+    ensures { result ≡ section_count columns.now workers }
+{
+    if has_key(columns) {
+        1
+    } else {
+        4 * u64::from(workers)
+    }
+}
+
+// The sections of a file, one after the other as one source.
+fn open_sections<R: Files + AllocGlobal>(
+    rt: &R,
+    path: &str,
+    count: u64,
+) -> Result<Joined<Section<R::File>>, ProgramFault>
+    ensures sizes { IfOk result (λ source. AreSizes (map (λ s. take_limit s.begun.value) (sources_in source.lanes.items))) }
+    ensures alone { count ≤ 1 → IfOk result (λ source. length (map (λ s. take_limit s.begun.value) (sources_in source.lanes.items)) ≡ 1) }
+    ensures fault { IfErr result IsOpenFault }
+{
+    let file = open(rt, path)?;
+    let sections = sections_of(rt, path, file, count)?;
+    Ok(Joined::new(rt.alloc(), sections)?)
+}
+
+fn open_table<R: Files + AllocGlobal>(
+    rt: &R,
+    data: &str,
+    table: &TableDef,
+    workers: u32,
+) -> Result<Joined<Section<R::File>>, ProgramFault>
+    ensures sections { IfOk result (λ source. AreSectionsOf table.now (map (λ s. take_limit s.begun.value) (sources_in source.lanes.items))) }
+    ensures fault { IfErr result IsOpenFault }
+{
+    let path = path_of(rt.alloc(), data, table.name())?;
+    let count = section_count(table.columns(), workers);
+    let opened = open_sections(rt, path.as_str(), count);
+    drop(path);
+    opened
+}
+
+// Opens the file of a table, and puts it behind the sources.
+fn add_source<R: Files + AllocGlobal>(
+    rt: &R,
+    data: &str,
+    table: &TableDef,
+    workers: u32,
+    sources: &mut Vec<Joined<Section<R::File>>>,
+) -> Result<(), ProgramFault>
+    ensures added { IfOk result (λ u. vec_len sources.new ≡ vec_len sources.old + 1) }
+    ensures sections { IfOk result (λ u. GainsTable (λ source. map (λ s. take_limit s.begun.value) (sources_in source.lanes.items)) table.now sources.old.items sources.new.items) }
+    ensures fault { IfErr result IsOpenFault }
+{
+    let source = open_table(rt, data, table, workers)?;
+    let Ok(()) = sources.push(source) else {
+        return Err(ProgramFault::Memory);
+    };
+    Ok(())
+}
+
+/// The files of the tables as sources, in the catalog's order. The file of the table without a key is
+/// opened in sections, four for each worker, where [`sections_of`] can have them; so each may be read by a
+/// thread of its own.
+pub fn open_all<R: Files + AllocGlobal>(
+    rt: &R,
+    data: &str,
+    catalog: &Catalog,
+    workers: u32,
+) -> Result<Vec<Joined<Section<R::File>>>, ProgramFault>
+    ensures sources { IfOk result (λ sources. vec_len sources ≡ length catalog.now) }
+    ensures sections { IfOk result (λ sources. AreOpened (λ source. map (λ s. take_limit s.begun.value) (sources_in source.lanes.items)) catalog.now sources.items) }
+    ensures fault { IfErr result IsOpenFault }
+{
+    let mut sources = Vec::new(rt.alloc());
+    for table in catalog.tables() {
+        if let Err(fault) = add_source(rt, data, table, workers, &mut sources) {
+            drop(sources);
+            return Err(fault);
+        }
+    }
+    Ok(sources)
+}

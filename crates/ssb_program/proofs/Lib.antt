@@ -1,3 +1,0 @@
-mod Crossing
-mod OpenFacts
-mod SpanFacts

@@ -1,4 +1,2 @@
-pub mod Alone
 pub mod Asking
-pub mod Fresh
-pub mod InMemory
+mod Keyed

@@ -1,5 +1,5 @@
 -- What reading and binding a text answers, and answering its query.
--- For the contracts inside this crate.
+-- For the contracts of what answers a text.
 use Rattle.std.specs.Prelude.{List, Result, Ok, Err, ⊤}
 use Rattle.ssb_catalog.specs.Shapes.{TableShape}
 use Rattle.ssb_sql.specs.Spells.{ReadsText}

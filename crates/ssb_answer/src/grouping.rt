@@ -1,6 +1,6 @@
-// The groups over all rows that a query keeps, by one thread or by many.
+// The groups over all rows that a query keeps, by workers.
 
-ghost use Rattle.std.specs.Prelude.{◌≡◌, ◌<◌, IfOk};
+ghost use Rattle.std.specs.Prelude.{IfOk};
 ghost use Rattle.std.specs.Arc.{arc_value};
 ghost use Rattle.ssb_job.specs.Kept.{AreOneJob};
 ghost use Rattle.ssb_groups.specs.Stands.{Stands};
@@ -8,7 +8,7 @@ ghost use Rattle.ssb_reply.specs.Reply.{seen_rows};
 
 use ssb_groups::Groups;
 use ssb_job::Job;
-use ssb_pipeline::{Gate, Part, Parts, every_run, finish, run_workers};
+use ssb_pipeline::{Gate, Parts, finish, run_workers};
 use ssb_reply::Settings;
 use std::alloc::{AllocError, Global};
 use std::sync::{Arc, Wait};
@@ -35,22 +35,4 @@ pub(crate) fn group_shared<R: Threads + Wait + Sync, G: Gate + Sync>(
     let (parts, mut passes) = Parts::open(rt, alloc, shared, morsel_size, parts, workers as usize)?;
     run_workers(rt, &parts, passes.as_mut_slice(), gate);
     finish(rt, parts, &mut passes[0])
-}
-
-// One part of all morsels, worked off in this thread.
-pub(crate) fn group_alone(
-    alloc: Global,
-    job: &Arc<Job, Global>,
-    morsel_size: u32,
-) -> Result<Groups, AllocError>
-    requires { 0 < morsel_size }
-    ensures stands { IfOk result (λ g. Stands g (seen_rows (arc_value job.now))) }
-    ensures job { IfOk result (λ g. AreOneJob g.job (arc_value job.now)) }
-{
-    // For the prover: the law of parts, and that the fact table is one of the query's.
-    every_run();
-    let _query = job.query();
-    let mut part = Part::open(alloc, Arc::try_clone(job)?, morsel_size, 0, 1)?;
-    part.work_off()?;
-    Ok(part.into_groups())
 }

@@ -4,12 +4,8 @@
 //! `specs/Reply.antt` of `ssb_reply` says what it owes.
 #![tactic(auto)]
 
-mod bytes;
 mod grouping;
-mod readers;
 mod whole;
 
-pub use bytes::answer_bytes;
-pub use readers::{run, run_alone};
 pub use ssb_pipeline::{Gate, NoGate};
-pub use whole::{answer_job, answer_shared, job_of_text, run_alone_from, run_from};
+pub use whole::{answer_of_groups, answer_shared, job_of_text, run_from};

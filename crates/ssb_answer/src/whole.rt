@@ -1,6 +1,6 @@
 // The whole path, from the bytes of files to the bytes of the answer.
 
-ghost use Rattle.std.specs.Prelude.{◌≡◌, ◌<◌, Err, IfErr, IfOk, length};
+ghost use Rattle.std.specs.Prelude.{◌≡◌, Err, IfErr, IfOk, length};
 ghost use Rattle.std.specs.Arc.{arc_value};
 ghost use Rattle.ssb_catalog.specs.Catalog.{IsCatalog};
 ghost use Rattle.ssb_answer.specs.Asking.{Asked, AnswersText};
@@ -12,13 +12,13 @@ ghost use Rattle.ssb_reply.specs.Reply.{Asks, seen_rows};
 ghost use Rattle.ssb_rows.specs.Result.{Answers};
 ghost use Rattle.ssb_reply.specs.Running.{LeavesSink, RunsFrom};
 
-use crate::grouping::{group_alone, group_shared};
+use crate::grouping::group_shared;
 use ssb_bind::bind;
 use ssb_catalog::Catalog;
 use ssb_cells::Table;
 use ssb_groups::Groups;
 use ssb_job::Job;
-use ssb_load::{Joined, load_all, load_all_with};
+use ssb_load::{Joined, load_all_with};
 use ssb_pipeline::Gate;
 use ssb_query::Query;
 use ssb_records::{PIECE_SIZE, Source};
@@ -38,8 +38,12 @@ fn query_of(alloc: Global, catalog: &Catalog, text: &str) -> Result<Query, RunFa
     Ok(query)
 }
 
-// The rows of a job's answer, of the groups over all that its query keeps.
-fn answer_of_groups(alloc: Global, job: &Job, groups: Groups) -> Result<Answer, AnswerFault>
+/// The rows of a job's answer, of the groups over all that its query keeps.
+///
+/// # Errors
+///
+/// As of [`rows`].
+pub fn answer_of_groups(alloc: Global, job: &Job, groups: Groups) -> Result<Answer, AnswerFault>
     requires stands { Stands groups (seen_rows job.now) }
     requires job { AreOneJob groups.job job.now }
     ensures { Answers job.now.query (seen_rows job.now) result }
@@ -47,32 +51,12 @@ fn answer_of_groups(alloc: Global, job: &Job, groups: Groups) -> Result<Answer, 
     rows(alloc, groups, job.query())
 }
 
-/// What a job's query answers: its rows are grouped in the caller's thread, in morsels of
-/// `morsel_size` rows of the fact table, from 1 on. Their size changes no answer.
-///
-/// # Errors
-///
-/// As of [`rows`]; `Memory` also where a growth was refused on the way to the groups.
-pub fn answer_job(
-    alloc: Global,
-    job: &Arc<Job, Global>,
-    morsel_size: u32,
-) -> Result<Answer, AnswerFault>
-    requires { 0 < morsel_size }
-    ensures { Answers (arc_value job.now).query (seen_rows (arc_value job.now)) result }
-{
-    match group_alone(alloc, job, morsel_size) {
-        Ok(groups) => answer_of_groups(alloc, job, groups),
-        Err(_) => Err(AnswerFault::Memory),
-    }
-}
-
 /// What a job's query answers: its rows are grouped by workers in threads of their own, which may wait
 /// for each other. How their work is cut and shared changes no answer.
 ///
 /// # Errors
 ///
-/// As of [`answer_job`].
+/// As of [`rows`]; `Memory` also where a growth was refused on the way to the groups.
 pub fn answer_shared<R: Threads + Wait + Sync, G: Gate + Sync>(
     rt: &R,
     alloc: Global,
@@ -132,28 +116,8 @@ pub fn job_of_text(
     }
 }
 
-// What a text asks of these tables, worked out in this thread. The job is let go by a call, since the
-// prover writes out all that it holds where a scope's end lets go of it.
-#[tactic(auto, using(crate::proofs::Asking::unasked, crate::proofs::Asking::answered, crate::proofs::Asking::refused))]
-fn answer_text(
-    alloc: Global,
-    catalog: &Catalog,
-    tables: Vec<Table>,
-    text: &str,
-    morsel_size: u32,
-) -> Result<Answer, RunFault>
-    requires size { 0 < morsel_size }
-    requires lawful { AreLawful catalog.now tables.items }
-    requires catalog { IsCatalog catalog.now }
-    ensures { AnswersText catalog.now tables.items text.now result }
-{
-    let job = job_of_text(alloc, catalog, tables, text)?;
-    let answer = answer_job(alloc, &job, morsel_size);
-    drop(job);
-    Ok(answer?)
-}
-
-// The same by workers.
+// What a text asks of these tables, worked out by workers. The job is let go by a call, since the prover
+// writes out all that it holds where a scope's end lets go of it.
 #[tactic(auto, using(crate::proofs::Asking::unasked, crate::proofs::Asking::answered, crate::proofs::Asking::refused))]
 fn answer_text_shared<R: Threads + Wait + Sync, G: Gate + Sync>(
     rt: &R,
@@ -174,13 +138,14 @@ fn answer_text_shared<R: Threads + Wait + Sync, G: Gate + Sync>(
     Ok(answer?)
 }
 
-/// Answers a query over the tables of a catalog, each of what its source gives, in the catalog's order,
+/// Answers a query over the tables of a catalog, each of what its sources give, in the catalog's order,
 /// and writes the answer's rows. It loads all tables, reads the query, binds it, answers and writes;
 /// the first fault ends it, and nothing is written before the answer is complete.
 ///
-/// The caller's thread does all of it. It reads each source in pieces of `piece_size` bytes, or more
-/// where a line is longer, and works through the fact table in morsels of `morsel_size` rows. Neither
-/// size changes an answer.
+/// A table without a key is read by a thread for each of the sources that stand joined for it; then
+/// workers take the morsels of the fact table from parts, and make the groups of each in threads of their
+/// own. They may wait for each other. How a table's bytes are cut into sources, how many workers and
+/// parts there are, and how large a morsel is, changes no answer.
 ///
 /// # Errors
 ///
@@ -188,34 +153,6 @@ fn answer_text_shared<R: Threads + Wait + Sync, G: Gate + Sync>(
 /// `Load` with `Read` only where a read of that table's source failed, and `Answer(Write)` only where
 /// the sink failed, and then what it took is a beginning of the answer; `Memory` where a growth was
 /// refused.
-pub fn run_alone_from<S: Source, W: Sink>(
-    alloc: Global,
-    catalog: Catalog,
-    sources: &mut [S],
-    text: &str,
-    morsel_size: u32,
-    piece_size: usize,
-    out: &mut W,
-) -> Result<(), RunFault>
-    requires sources { length sources.old ≡ length catalog }
-    requires size { 0 < morsel_size }
-    ensures runs { RunsFrom S.given S.failures S.ends S.whole catalog text.now sources.old sources.new result (W.taken out.old) (W.taken out.new) }
-    ensures sink { LeavesSink result (W.taken out.old) (W.taken out.new) (W.failures out.old) (W.failures out.new) (W.contents out.old) (W.contents out.new) }
-{
-    let tables = load_all(alloc, &catalog, sources, piece_size)?;
-    let answer = answer_text(alloc, &catalog, tables, text, morsel_size)?;
-    write_answer(&answer, out)?;
-    Ok(())
-}
-
-/// The same over threads. A table without a key is read by a thread for each of the sources that stand
-/// joined for it; then workers take the morsels of the fact table from parts, and make the groups of each
-/// in threads of their own. They may wait for each other. How a table's bytes are cut into sources, how
-/// many workers and parts there are, and how large a morsel is, changes no answer.
-///
-/// # Errors
-///
-/// As of [`run_alone_from`].
 pub fn run_from<R: Threads + Wait + Sync, S: Source + Send, G: Gate + Sync, W: Sink>(
     rt: &R,
     alloc: Global,

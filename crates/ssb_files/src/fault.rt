@@ -21,9 +21,9 @@ pub enum ProgramFault {
 
 impl From<AllocError> for ProgramFault {
     ghost use Rattle.std.specs.Prelude.{◌≡◌};
-    ghost use Rattle.ssb_files.specs.declared.fault.ProgramFault.TheVariants.{Memory};
+    ghost use Rattle.ssb_files.specs.declared.fault.ProgramFault.TheVariants as program;
 
-    ghost from_gives = { λ _ e. e ≡ Memory };
+    ghost from_gives = { λ _ fault. fault ≡ program.Memory };
 
     fn from(_error: AllocError) -> ProgramFault {
         ProgramFault::Memory

@@ -3,7 +3,7 @@ use Rattle.ssb_query.specs.declared.query.QueryParts.{QueryParts}
 use Rattle.ssb_job.specs.Kept.{kept}
 use Rattle.ssb_reply.specs.Reply.{seen_rows}
 use Rattle.ssb_rows.specs.Result.{Answers, AreKeyed}
-use Rattle.ssb_answer.proofs.Alone.{keyed}
+use Rattle.ssb_answer.proofs.Keyed.{keyed}
 use Rattle.ssb_answer.proofs.whole.answer_of_groups.Goals as goal
 
 pub returns : goal.returns

@@ -1,6 +1,6 @@
 use Rattle.std.proofs.Common.{◌≡◌, [], map}
 use Rattle.ssb_load.specs.Joined.{all_of, given_upto, sources_in}
-use Rattle.ssb_answer.proofs.readers.joined_of.Given as goal
+use Rattle.ssb_embed.proofs.readers.joined_of.Given as goal
 
 abbrev pub invariant-loop-reader : goal.invariant-loop-reader
 invariant-loop-reader g l = record {

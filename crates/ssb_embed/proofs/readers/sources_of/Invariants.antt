@@ -1,5 +1,5 @@
 use Rattle.std.proofs.Common.{◌≡◌, [], map}
-use Rattle.ssb_answer.proofs.readers.sources_of.Given as goal
+use Rattle.ssb_embed.proofs.readers.sources_of.Given as goal
 
 abbrev pub invariant-loop-reader : goal.invariant-loop-reader
 invariant-loop-reader g l = record {

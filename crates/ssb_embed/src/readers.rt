@@ -5,7 +5,8 @@ ghost use Rattle.ssb_load.specs.Files.{Bytes};
 ghost use Rattle.ssb_reply.specs.Reply.{Replies};
 ghost use Rattle.ssb_reply.specs.Running.{LeavesSink};
 
-use crate::whole::{run_alone_from, run_from};
+use crate::alone::run_alone_from;
+use ssb_answer::run_from;
 use ssb_catalog::Catalog;
 use ssb_load::Joined;
 use ssb_pipeline::Gate;
@@ -88,7 +89,7 @@ pub fn run_alone<R: Read + Drop, W: Sink>(
     )
 }
 
-/// Answers a query over readers by workers in threads of their own: [`run_from`](crate::run_from) over
+/// Answers a query over readers by workers in threads of their own: [`run_from`](ssb_answer::run_from) over
 /// the readers.
 ///
 /// # Errors

@@ -4,8 +4,8 @@ use Rattle.ssb_job.specs.Kept.{JobShape}
 use Rattle.ssb_groups.specs.Stands.{GroupMap, Stands}
 use Rattle.ssb_pipeline.specs.Part.{IsOpening}
 use Rattle.ssb_reply.specs.Reply.{seen_rows}
-use Rattle.ssb_answer.proofs.Alone.{worked-off}
-use Rattle.ssb_answer.proofs.grouping.group_alone.Goals as goal
+use Rattle.ssb_embed.proofs.WorkedOff.{worked-off}
+use Rattle.ssb_embed.proofs.alone.group_alone.Goals as goal
 
 pub returns-clause-stands : goal.returns-clause-stands
 returns-clause-stands c =

@@ -1,6 +1,6 @@
 use Rattle.ssb_reply.specs.Reply.{Replies}
-use Rattle.ssb_answer.proofs.Fresh.{told-whole}
-use Rattle.ssb_answer.proofs.readers.run_alone.Goals as goal
+use Rattle.ssb_embed.proofs.Fresh.{told-whole}
+use Rattle.ssb_embed.proofs.readers.run_alone.Goals as goal
 
 pub returns-clause-replies : goal.returns-clause-replies
 returns-clause-replies g c files e =

@@ -1,6 +1,6 @@
 use Rattle.std.proofs.Common.{◌∙◌, ap, map}
-use Rattle.ssb_answer.proofs.InMemory.{bytes-are, fault-told, slices-told}
-use Rattle.ssb_answer.proofs.bytes.answer_bytes.Goals as goal
+use Rattle.ssb_embed.proofs.InMemory.{bytes-are, fault-told, slices-told}
+use Rattle.ssb_embed.proofs.bytes.answer_bytes.Goals as goal
 
 pub returns-in-Ok-clause-answer : goal.returns-in-Ok-clause-answer
 returns-in-Ok-clause-answer c =

@@ -1,8 +1,8 @@
 use Rattle.std.proofs.Common.{map}
 use Rattle.ssb_load.specs.Joined.{all_of, given_upto, sources_in}
 use Rattle.ssb_reply.specs.Reply.{Replies}
-use Rattle.ssb_answer.proofs.Fresh.{told-whole}
-use Rattle.ssb_answer.proofs.readers.run.Goals as goal
+use Rattle.ssb_embed.proofs.Fresh.{told-whole}
+use Rattle.ssb_embed.proofs.readers.run.Goals as goal
 
 pub returns-clause-replies : goal.returns-clause-replies
 returns-clause-replies g c files e =

@@ -1,18 +1,9 @@
 -- One part of all of a job's morsels, worked off.
-use Rattle.std.proofs.Common.{◌≡◌, ◌∙◌, ◌∷◌, [], ◌<◌, ℕ, zero, suc, List, length, map, sym, ap, subst, arith, false, true≢false}
-use Rattle.std.proofs.lemmas.List.{length-map}
+use Rattle.std.proofs.Common.{◌≡◌, ◌∙◌, ◌<◌, ℕ, length, sym, ap, subst, false, true≢false}
 use Rattle.ssb_job.specs.Kept.{JobShape}
-use Rattle.ssb_groups.specs.Seen.{seen}
 use Rattle.ssb_groups.specs.Stands.{Stands}
 use Rattle.ssb_pipeline.specs.Part.{Grows, IsBack, IsLawful, IsOpening, IsWhole, OneSectionIsAll, PartState, has}
 use Rattle.ssb_reply.specs.Reply.{seen_rows}
-use Rattle.ssb_rows.specs.Result.{AreKeyed}
-
--- keys have a value for each group column
-pub keyed : (j : JobShape) (rs : List (List ℕ)) → AreKeyed j.query (map (seen j) rs)
-keyed j [] k d below = absurd (omega arith)
-keyed j (r ∷ rs) zero d below = length-map j.query.groups _
-keyed j (r ∷ rs) (suc k) d below = keyed j rs k d (omega arith)
 
 -- a part of the one section that grew to the whole stands for all that is kept
 pub worked-off : OneSectionIsAll → (j : JobShape) (size : ℕ) (o p : PartState) → 0 < size → j.query.fact < length j.query.from → IsOpening j size 0 1 o → Grows o p → IsLawful p → (IsBack o → o.gave_up ≡ false → IsWhole p) → Stands p.groups (seen_rows j)

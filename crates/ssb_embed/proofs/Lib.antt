@@ -1,0 +1,3 @@
+mod Fresh
+mod InMemory
+mod WorkedOff

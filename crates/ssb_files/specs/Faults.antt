@@ -1,6 +1,8 @@
--- With which status the program ends after a fault.
+-- The line that the program tells a fault by, and the status that it ends with.
 -- Source: own.
-use Rattle.std.specs.Prelude.{◌≡◌, ◌⊎◌, ℕ, ⊤}
+use Rattle.std.specs.Prelude.{◌≡◌, ◌⊎◌, ◌∷◌, [], ℕ, List, codes, map, slice_get, unwrap_or, ⊤, String, string_bytes}
+use Rattle.std.specs.declared.alloc.Global.{Global}
+use Rattle.ssb_catalog.specs.CatalogReading.{IsCatalogFault}
 use Rattle.ssb_records.specs.declared.fault.LoadFault.{LoadFault}
 use Rattle.ssb_records.specs.declared.fault.LoadFault.TheVariants as load
 use Rattle.ssb_sql.specs.declared.fault.SqlFault.{SqlFault}
@@ -9,6 +11,7 @@ use Rattle.ssb_bind.specs.declared.fault.BindFault.{BindFault}
 use Rattle.ssb_bind.specs.declared.fault.BindFault.TheVariants as bind
 use Rattle.ssb_rows.specs.declared.fault.AnswerFault.{AnswerFault}
 use Rattle.ssb_rows.specs.declared.fault.AnswerFault.TheVariants as answer
+use Rattle.ssb_reply.specs.FaultLine.{IsLoadLine, IsMemoryLine, IsRunLine, line_of}
 use Rattle.ssb_reply.specs.declared.run_fault.RunFault.{RunFault}
 use Rattle.ssb_reply.specs.declared.run_fault.RunFault.TheVariants as run
 use Rattle.ssb_files.specs.declared.fault.ProgramFault.{ProgramFault}
@@ -77,6 +80,22 @@ program_status (program.Catalog fault) = load_status fault
 program_status (program.Run names fault) = status fault
 program_status program.Memory = out_of_memory
 
+-- the name that the fault of a run tells: that of its table, and no name where there is none of its number
+abbrev pub name_told : List (String Global) → RunFault → List ℕ
+name_told names (run.Load table fault) = unwrap_or (slice_get (map string_bytes names) table) []
+name_told names (run.Sql fault) = []
+name_told names (run.Bind fault) = []
+name_told names (run.Answer fault) = []
+name_told names run.Memory = []
+
+-- the line of the program's fault, as far as its words are known
+abbrev pub IsProgramLine : ProgramFault → List ℕ → Type 0
+IsProgramLine program.BadWords line = line ≡ line_of (codes "U1 BadWords" ∷ [])
+IsProgramLine (program.CannotOpen path) line = line ≡ line_of (codes "F1 CannotOpen" ∷ string_bytes path ∷ [])
+IsProgramLine (program.Catalog fault) line = IsLoadLine (codes "catalog") fault line
+IsProgramLine (program.Run names fault) line = IsRunLine (name_told names.items fault) fault line
+IsProgramLine program.Memory line = IsMemoryLine line
+
 -- an exit status of the program is 0, or that of a fault
 abbrev pub IsStatus : ℕ → Type 0
 IsStatus s = (s ≡ 0) ⊎ ((fault : ProgramFault) × (s ≡ program_status fault))
@@ -89,6 +108,14 @@ IsOpenFault (program.Catalog fault) = ⊥
 IsOpenFault (program.Run names fault) = ⊥
 IsOpenFault program.Memory = ⊤
 
+-- a catalog's file can't be opened, or is no catalog, or memory ran out
+abbrev pub IsNoCatalog : ProgramFault → Type 0
+IsNoCatalog program.BadWords = ⊥
+IsNoCatalog (program.CannotOpen path) = ⊤
+IsNoCatalog (program.Catalog fault) = IsCatalogFault fault
+IsNoCatalog (program.Run names fault) = ⊥
+IsNoCatalog program.Memory = ⊤
+
 -- a run had this fault of its query
 abbrev pub IsQueryFault : SqlFault → ProgramFault → Type 0
 IsQueryFault expected program.BadWords = ⊥
@@ -96,3 +123,7 @@ IsQueryFault expected (program.CannotOpen path) = ⊥
 IsQueryFault expected (program.Catalog fault) = ⊥
 IsQueryFault expected (program.Run names fault) = fault ≡ run.Sql expected
 IsQueryFault expected program.Memory = ⊥
+
+-- a query's file can't be opened or read, or its bytes are no text of a query, or memory ran out
+abbrev pub IsNoQuery : ProgramFault → Type 0
+IsNoQuery fault = IsOpenFault fault ⊎ (IsQueryFault sql.TooLong fault ⊎ IsQueryFault sql.Syntax fault)

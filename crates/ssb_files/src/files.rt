@@ -4,7 +4,7 @@ ghost use Rattle.std.specs.Prelude.{◌≡◌, ◌≤◌, ◌<◌, ◌+◌, IfOk
 ghost use Rattle.std.specs.Io.Take.{take_limit};
 ghost use Rattle.ssb_catalog.specs.BuiltIn.{ssb_tables};
 ghost use Rattle.ssb_load.specs.Joined.{sources_in};
-ghost use Rattle.ssb_files.specs.Faults.{IsOpenFault, IsQueryFault};
+ghost use Rattle.ssb_files.specs.Faults.{IsNoCatalog, IsNoQuery, IsOpenFault, IsQueryFault};
 ghost use Rattle.ssb_files.specs.Files.{has_key, longest_query, section_count};
 ghost use Rattle.ssb_files.specs.Sections.{AreOpened, AreSectionsOf, AreSizes, GainsTable};
 
@@ -44,7 +44,9 @@ fn open<R: Files + AllocGlobal>(rt: &R, path: &str) -> Result<R::File, ProgramFa
     }
 }
 
-fn read_catalog<R: Files + AllocGlobal>(rt: &R, path: &str) -> Result<Catalog, ProgramFault> {
+fn read_catalog<R: Files + AllocGlobal>(rt: &R, path: &str) -> Result<Catalog, ProgramFault>
+    ensures { IfErr result IsNoCatalog }
+{
     let file = open(rt, path)?;
     match Catalog::read(rt.alloc(), file) {
         Ok(catalog) => Ok(catalog),
@@ -53,11 +55,17 @@ fn read_catalog<R: Files + AllocGlobal>(rt: &R, path: &str) -> Result<Catalog, P
 }
 
 /// The catalog of a file, or the built-in one where no file is given.
+///
+/// # Errors
+///
+/// `CannotOpen` where the file can't be opened; `Catalog` where it is no catalog; `Memory` where a growth
+/// was refused.
 pub fn catalog_of<R: Files + AllocGlobal>(
     rt: &R,
     path: Option<&str>,
 ) -> Result<Catalog, ProgramFault>
     ensures built_in { IsNone path.entry → IfOk result (λ c. c ≡ ssb_tables) }
+    ensures fault { IfErr result IsNoCatalog }
 {
     match path {
         Some(path) => read_catalog(rt, path),
@@ -91,7 +99,14 @@ fn text_of(alloc: Global, bytes: Vec<u8>) -> Result<String, ProgramFault>
 }
 
 /// The query of a file, of which no more is read than shows that it is too long.
-pub fn read_query<R: Files + AllocGlobal>(rt: &R, path: &str) -> Result<String, ProgramFault> {
+///
+/// # Errors
+///
+/// `CannotOpen` where the file can't be opened or read; a `Run` with `TooLong` where it has more than
+/// 65,536 bytes, and with `Syntax` where they are no UTF-8; `Memory` where a growth was refused.
+pub fn read_query<R: Files + AllocGlobal>(rt: &R, path: &str) -> Result<String, ProgramFault>
+    ensures { IfErr result IsNoQuery }
+{
     let file = open(rt, path)?;
     let mut bytes = Vec::new(rt.alloc());
     match file.take(65537).read_to_end(&mut bytes) {
@@ -101,8 +116,12 @@ pub fn read_query<R: Files + AllocGlobal>(rt: &R, path: &str) -> Result<String, 
 }
 
 /// The names of the tables, in the catalog's order.
+///
+/// # Errors
+///
+/// `AllocError` where a growth was refused.
 pub fn names_of(alloc: Global, catalog: &Catalog) -> Result<Vec<String>, AllocError>
-    ensures { IfOk result (λ names. vec_len names ≡ length catalog.now) }
+    ensures { IfOk result (λ names. map string_bytes names.items ≡ map (λ t. t.name) catalog.now) }
 {
     let mut names = Vec::new(alloc);
     for table in catalog.tables() {
@@ -184,8 +203,12 @@ fn add_source<R: Files + AllocGlobal>(
 }
 
 /// The files of the tables as sources, in the catalog's order. The file of the table without a key is
-/// opened in sections, four for each worker, where [`sections_of`] can have them; so each may be read by a
-/// thread of its own.
+/// opened in sections, four for each worker, where handles of its own can be had for each; so each may be
+/// read by a thread of its own.
+///
+/// # Errors
+///
+/// `CannotOpen` where a file can't be opened; `Memory` where a growth was refused.
 pub fn open_all<R: Files + AllocGlobal>(
     rt: &R,
     data: &str,

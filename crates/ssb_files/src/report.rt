@@ -1,7 +1,7 @@
 // What is told of a fault: one line, and the status that the program ends with.
 
-ghost use Rattle.std.specs.Prelude.{◌≡◌};
-ghost use Rattle.ssb_files.specs.Faults.{load_status, sql_status, bind_status, answer_status, status, program_status};
+ghost use Rattle.std.specs.Prelude.{◌≡◌, IfOk, string_bytes};
+ghost use Rattle.ssb_files.specs.Faults.{IsProgramLine, name_told, load_status, sql_status, bind_status, answer_status, status, program_status};
 
 use crate::fault::ProgramFault;
 use ssb_bind::BindFault;
@@ -88,7 +88,9 @@ pub fn program_status_of(fault: &ProgramFault) -> u8
 }
 
 // The name of the table that a fault tells of.
-fn name_in<'a>(names: &'a [String], fault: &RunFault) -> &'a str {
+fn name_in<'a>(names: &'a [String], fault: &RunFault) -> &'a str
+    ensures { result.now ≡ name_told names.now fault.now }
+{
     let RunFault::Load(table, _) = fault else {
         return "";
     };
@@ -99,7 +101,13 @@ fn name_in<'a>(names: &'a [String], fault: &RunFault) -> &'a str {
 }
 
 /// The line of the program's fault.
-pub fn program_line(alloc: Global, fault: &ProgramFault) -> Result<String, AllocError> {
+///
+/// # Errors
+///
+/// `AllocError` where a growth was refused.
+pub fn program_line(alloc: Global, fault: &ProgramFault) -> Result<String, AllocError>
+    ensures { IfOk result (λ line. IsProgramLine fault.now (string_bytes line)) }
+{
     match fault {
         ProgramFault::BadWords => words_line(alloc, &["U1 BadWords"]),
         ProgramFault::CannotOpen(path) => words_line(alloc, &["F1 CannotOpen", path.as_str()]),

@@ -1,2 +1,3 @@
 pub mod Asking
 mod Keyed
+pub mod Running

@@ -9,8 +9,8 @@ ghost use Rattle.ssb_job.specs.Kept.{AreOneJob};
 ghost use Rattle.ssb_job.specs.Loaded.{AreLoaded};
 ghost use Rattle.ssb_load.specs.Files.{AreLawful};
 ghost use Rattle.ssb_reply.specs.Reply.{Asks, seen_rows};
-ghost use Rattle.ssb_rows.specs.Result.{Answers};
 ghost use Rattle.ssb_reply.specs.Running.{LeavesSink, RunsFrom};
+ghost use Rattle.ssb_rows.specs.Result.{Answers};
 
 use crate::grouping::group_shared;
 use ssb_bind::bind;
@@ -96,7 +96,6 @@ fn shared_job(
 /// # Errors
 ///
 /// `Sql` and `Bind` as the text has it; `Memory` where a growth was refused.
-#[tactic(auto, using(crate::proofs::Asking::fits))]
 pub fn job_of_text(
     alloc: Global,
     catalog: &Catalog,
@@ -118,7 +117,6 @@ pub fn job_of_text(
 
 // What a text asks of these tables, worked out by workers. The job is let go by a call, since the prover
 // writes out all that it holds where a scope's end lets go of it.
-#[tactic(auto, using(crate::proofs::Asking::unasked, crate::proofs::Asking::answered, crate::proofs::Asking::refused))]
 fn answer_text_shared<R: Threads + Wait + Sync, G: Gate + Sync>(
     rt: &R,
     alloc: Global,

@@ -188,7 +188,14 @@ pub(crate) fn bound_query(
         from: numbers,
     };
     let condition = bound_where(scope, &select.condition)?;
-    let (having, aggregates) = bound_having(scope, columns, aggregates, &select.having)?;
+    let (having, aggregates) = match bound_having(scope, columns, aggregates, &select.having) {
+        Ok(bound) => bound,
+        Err(error) => {
+            // By a call, since the prover writes out all that a condition may be where a scope's end lets go of it.
+            drop(condition);
+            return Err(error);
+        }
+    };
     let fact = fact_place(tables.as_slice(), numbers).unwrap_or(0);
     Ok(QueryParts {
         tables,

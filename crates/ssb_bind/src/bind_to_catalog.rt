@@ -27,7 +27,6 @@ fn keep(query: QueryParts, checked: Result<(), BindFault>) -> Result<QueryParts,
     }
 }
 
-#[tactic(auto, using(crate::proofs::Meaning::aggregates_are, crate::proofs::Meaning::answers))]
 fn judged(alloc: Global, catalog: &[TableDef], select: &Select) -> Result<QueryParts, BindFault>
     ensures { spec.BindsTo catalog.now select.now result }
 {

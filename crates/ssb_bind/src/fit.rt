@@ -4,7 +4,7 @@ ghost use Rattle.std.specs.Prelude.{◌≡◌};
 ghost use Rattle.ssb_bind.specs.Binding.{and_one};
 
 /// How many a name or an order key fits.
-#[derive(Clone, Copy, PartialEq, Eq)]
+#[derive(Drop)]
 pub(crate) enum Fit<T> {
     /// None.
     Missing,
@@ -27,7 +27,7 @@ impl<T: Copy> Fit<T> {
 }
 
 /// What can be wrong with a column's name.
-#[derive(Clone, Copy, PartialEq, Eq)]
+#[derive(Clone, Copy)]
 pub(crate) enum Wrong {
     /// It fits no column.
     Unknown,

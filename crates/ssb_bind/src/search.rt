@@ -32,7 +32,7 @@ fn in_operand<'a, C, S: Search<C>>(search: &S, operand: &'a Operand<C>) -> Optio
 }
 
 // Whether an operand has a name that is sought.
-#[derive(Clone, Copy)]
+#[derive(Drop)]
 struct Within<'a, S> {
     search: &'a S,
 }

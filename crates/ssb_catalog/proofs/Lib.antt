@@ -1,11 +1,11 @@
-pub mod BuiltInFacts
-pub mod CatalogFaults
-pub mod CatalogLaws
-pub mod CatalogTaking
+mod BuiltInFacts
+mod CatalogFaults
+mod CatalogLaws
+mod CatalogTaking
 pub mod Choices
-pub mod DraftFacts
-pub mod EntryFacts
-pub mod GroupFacts
-pub mod ListFacts
-pub mod PlaceFacts
-pub mod ShortNames
+mod DraftFacts
+mod EntryFacts
+mod GroupFacts
+mod ListFacts
+mod PlaceFacts
+mod ShortNames

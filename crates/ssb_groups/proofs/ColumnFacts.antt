@@ -1,9 +1,11 @@
 -- How the key of a combination is read in the group columns, and spelt again.
-use Rattle.std.proofs.Common.{◌≡◌, ◌∙◌, ◌<◌, ◌≤◌, ◌+◌, ◌++◌, ℕ, zero, suc, Bool, true, false, nat_lt, bytes_eq, cond, get_or, List, [], ◌∷◌, Option, None, Some, Contains, length, drop, map, slice_get, refl, sym, ap, ap₂, subst, arith, append-nil}
+use Rattle.std.proofs.Common.{◌≡◌, ◌∙◌, ◌<◌, ◌≤◌, ◌+◌, ◌++◌, ℕ, zero, suc, Bool, true, false, nat_lt, bytes_eq, cond, get_or, List, [], ◌∷◌, Option, None, Some, Contains, length, drop, fold, map, slice_get, refl, sym, ap, ap₂, subst, arith, append-nil, append_assoc}
 use Rattle.std.specs.Prelude.{unwrap_or, option_map, if◌then◌else◌}
 use Rattle.std.specs.List.{position_or_len}
-use Rattle.std.proofs.lemmas.Bool.{ltb-true, ltb-false, lt-ltb}
-use Rattle.std.proofs.lemmas.Option.{same_Some, slice_get-map, slice_get_within, slice_get_past, get_or_from_slice_get, slice_get-get_or}
+use Rattle.std.proofs.Math.Dec.{ltb}
+use Rattle.std.proofs.lemmas.Bool.{ltb-true, ltb-false, lt-ltb, le-ltb}
+use Rattle.std.proofs.lemmas.Option.{same_Some, slice_get-map, slice_get_read, slice_get_within, slice_get_past, get_or_from_slice_get, slice_get-get_or}
+use Rattle.ssb_trees.proofs.Finding.{here}
 use Rattle.ssb_query.specs.declared.column.BoundColumn.{BoundColumn}
 use Rattle.ssb_cells.specs.Cell.{Cell, Filled, null, number, text}
 use Rattle.ssb_cells.specs.Codes.{code_of, texts_of}
@@ -15,6 +17,10 @@ use Rattle.ssb_groups.specs.Places.{HasSomeRow, IsSomePlace, cell_at_place, plac
 use Rattle.ssb_groups.specs.declared.place.Place.{Place}
 use Rattle.ssb_groups.specs.declared.kept.Kept.{Kept}
 use Rattle.ssb_groups.specs.declared.kept.Kept.TheVariants as kept
+
+-- an element that was got from a list is there in the same list by another name
+pub got-in : {X : Type 0} (xs ys : List X) (k : ℕ) (x : X) → xs ≡ ys → true ≡ ltb k (length xs) → x ≡ get_or xs k x → slice_get ys k ≡ Some x
+got-in xs ys k x same within is = rw same at (slice_get_read xs (length xs) k x refl (ltb-true k (length xs) (sym within)) is)
 
 -- ---- what stands for a value spells it
 
@@ -79,6 +85,18 @@ by-place P tables x (Some n) none short there = by (nat_lt x.column (length (tab
     by : (b : Bool) → nat_lt x.column (length (table_at tables n)) ≡ b → P (if b then Some (record { from = x.table; table = n; column = x.column }) else None)
     by true e = there n refl (ltb-true _ _ e)
     by false e = short n refl (ltb-false _ _ e)
+
+-- a column has no place where its table is none of the query's, or has no such column; else it has this one
+module _ (j : JobShape) (x : BoundColumn) where
+  pub no-table : slice_get j.query.from x.table ≡ None → place_of j x ≡ None
+  no-table none = ap (place_in j.tables x) none
+
+  module _ (n : ℕ) (number : slice_get j.query.from x.table ≡ Some n) where
+    pub no-column : length (table_at j.tables n) ≤ x.column → place_of j x ≡ None
+    no-column past = ap (place_in j.tables x) number ∙ ap (λ b. if b then Some (record { from = x.table; table = n; column = x.column }) else None) (le-ltb _ _ past)
+
+    pub is-place : x.column < length (table_at j.tables n) → place_of j x ≡ Some (record { from = x.table; table = n; column = x.column })
+    is-place lt = ap (place_in j.tables x) number ∙ ap (λ b. if b then Some (record { from = x.table; table = n; column = x.column }) else None) (lt-ltb _ _ lt)
 
 from-at : (j : JobShape) (i : ℕ) (o : Option ℕ) → slice_get j.query.from i ≡ o → slice_get (from_tables j) i ≡ option_map (table_at j.tables) o
 from-at j i o e = slice_get-map (table_at j.tables) j.query.from i ∙ ap (option_map (table_at j.tables)) e
@@ -186,15 +204,28 @@ spelt-at (u ∷ vs) (d ∷ cs) zero next v c e at here = rw e (ap₂ (λ w k. sp
 spelt-at (u ∷ vs) (d ∷ cs) (suc i) zero v c e at here = absurd (omega arith)
 spelt-at (u ∷ vs) (d ∷ cs) (suc i) (suc next) v c e at here = spelt-at vs cs i next v c (omega arith) at here
 
+none-left : {X : Type 0} (xs : List X) (i : ℕ) → length xs ≤ i → drop i xs ≡ []
+none-left [] zero le = refl
+none-left [] (suc i) le = refl
+none-left (x ∷ xs) zero le = absurd (omega arith)
+none-left (x ∷ xs) (suc i) le = none-left xs i (omega arith)
+
+-- all is folded
+pub folded : {X Y Z : Type 0} (g : Z → Y → Z) (f : X → Y) (xs : List X) (i : ℕ) (z all : Z) → length xs ≤ i → fold g z (map f (drop i xs)) ≡ all → z ≡ all
+folded {X} g f xs i z all past e = sym (ap (λ (ys : List X). fold g z (map f ys)) (none-left xs i past)) ∙ e
+
+-- one more is folded
+pub folded-more : {X Y Z : Type 0} (g : Z → Y → Z) (f : X → Y) (xs : List X) (i : ℕ) (x : X) (z w all : Z) → i < length xs → x ≡ get_or xs i x → w ≡ g z (f x) → fold g z (map f (drop i xs)) ≡ all → fold g w (map f (drop (i + 1) xs)) ≡ all
+folded-more {X} g f xs i x z w all lt is next e = ap (λ v. fold g v (map f (drop (i + 1) xs))) next ∙ sym (ap (λ (ys : List X). fold g z (map f ys)) (here xs i x lt is)) ∙ e
+
 -- what is made of all is made
 pub mapped : {X Y : Type 0} (f : X → Y) (made : List Y) (xs : List X) (i : ℕ) → length xs ≤ i → made ++ map f (drop i xs) ≡ map f xs → made ≡ map f xs
 mapped {X} {Y} f made xs i past e = sym (append-nil made) ∙ ap (λ (ys : List X). made ++ map f ys) (sym (none-left xs i past)) ∙ e
-  where
-    none-left : (ys : List X) (n : ℕ) → length ys ≤ n → drop n ys ≡ []
-    none-left [] zero le = refl
-    none-left [] (suc n) le = refl
-    none-left (y ∷ ys) zero le = absurd (omega arith)
-    none-left (y ∷ ys) (suc n) le = none-left ys n (omega arith)
+
+-- one more is made
+pub mapped-more : {X Y : Type 0} (f : X → Y) (made : List Y) (xs : List X) (i : ℕ) (x : X) (y : Y) → i < length xs → x ≡ get_or xs i x → y ≡ f x → made ++ map f (drop i xs) ≡ map f xs → (made ++ y ∷ []) ++ map f (drop (i + 1) xs) ≡ map f xs
+mapped-more {X} f made xs i x y lt is image e =
+    append_assoc made (y ∷ []) (map f (drop (i + 1) xs)) ∙ ap (λ ys. made ++ ys) (ap (λ z. z ∷ map f (drop (i + 1) xs)) image ∙ sym (ap (λ (ys : List X). map f ys) (here xs i x lt is))) ∙ e
 
 -- a key's cell at a place
 pub cell-there : (columns : List (List Cell)) (cells : List Kept) (i : ℕ) → AreKept columns cells → i < length columns → i < length cells

@@ -3,12 +3,12 @@ use Rattle.std.proofs.Common.{◌≡◌, ◌∙◌, ◌+◌, ◌<◌, ◌≤◌,
 use Rattle.std.specs.List.{All, flat_map}
 use Rattle.std.proofs.Math.Seq.{map-set_same}
 use Rattle.std.proofs.lemmas.Grind.{flat_map-append}
-use Rattle.std.proofs.lemmas.List.{append-nil, get_or-set_other, length-map, length-set, take_more}
+use Rattle.std.proofs.lemmas.List.{append-nil, get_or-set_other, length-map, length-set, take_all, take_more}
 use Rattle.std.proofs.lemmas.List.Elements.{All-more}
 use Rattle.ssb_load.specs.Assembly.{Halts, IsAssembled, subject_in}
 use Rattle.ssb_load.specs.Joined.{sources_in}
 use Rattle.ssb_load.specs.Lane.{IsLaneRead}
-use Rattle.ssb_load.specs.Lanes.{StopsAt}
+use Rattle.ssb_load.specs.Lanes.{AreAdded, StopsAt}
 use Rattle.ssb_load.specs.declared.assembly.Assembly.{Assembly}
 use Rattle.ssb_records.specs.declared.fault.LoadFault.{LoadFault}
 use Rattle.ssb_load.specs.declared.lane.Lane.{Lane}
@@ -68,6 +68,16 @@ adding-next given ends then before after lanes now at lane new inv lt here same 
 
 pub same-set : {S : Type 0} (lanes now : List (Lane S)) (at : ℕ) (lane new : Lane S) → sources_in now ≡ sources_in lanes → lane ≡ get_or now at lane → new.source ≡ lane.source → sources_in (set now at new) ≡ sources_in lanes
 same-set lanes now at lane new same here is = map-set_same (λ l. l.source) now at new lane (is ∙ ap (λ l. l.source) here) ∙ same
+
+-- all lanes were added
+pub adding-ends : {S : Type 0} (given : S → List ℕ) (ends : S → ℕ) (then now_with : Assembly) (lanes now : List (Lane S)) (at : ℕ) → IsAdding given ends then now_with lanes now at → length lanes ≤ at → AreAdded given ends now_with (sources_in now)
+adding-ends given ends then now_with lanes now at inv over =
+    let n = length-map lanes (λ l. l.source) in
+    let all = take_all at (sources_in lanes) (omega (arith, n, over)) in
+    rw inv.same (record {
+      assembled = subst (λ ss. IsAssembled now_with (flat_map given ss)) all inv.assembled;
+      met = subst (All (λ s. 0 < ends s)) all inv.met;
+    })
 
 -- at this lane all stop
 pub adding-stops : {S : Type 0} (given : S → List ℕ) (ends : S → ℕ) (then before : Assembly) (lanes now : List (Lane S)) (at : ℕ) (lane new : Lane S) (e : LoadFault) → IsAdding given ends then before lanes now at → at < length now → lane ≡ get_or now at lane

@@ -4,11 +4,10 @@ ghost use Rattle.std.specs.Prelude.{◌≡◌, ◌≢◌, ◌+◌, ◌^◌, ℤ,
 ghost use Rattle.std.specs.List.{list_all};
 ghost use Rattle.std.specs.Str.{is_utf8};
 ghost use Rattle.csv.specs.Records.{fields_of};
-ghost use Rattle.ssb_terms.specs.Roles.{key_place};
+ghost use Rattle.ssb_load.specs.Loader.{IsFaultBy, fails, fault_by, seen_in};
 ghost use Rattle.ssb_load.specs.Rules.{any_field, number_at};
 ghost use Rattle.ssb_load.specs.Tables.{repeats};
-ghost use Rattle.ssb_load.specs.Loader.{fault_by};
-ghost use Rattle.ssb_load.specs.Loader.{fails, seen_in, IsFaultBy};
+ghost use Rattle.ssb_terms.specs.Roles.{key_place};
 
 use crate::number::number;
 use crate::value::{Test, fails_test};

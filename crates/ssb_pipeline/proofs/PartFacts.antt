@@ -62,6 +62,27 @@ module _ (j : JobShape) (size s k first : ℕ) where
     after = ap (λ hs. record { job = j; size = size; section = s; sections = k; handed = hs; returned = marked first marks; gave_up = gave; groups = g }) (range-last first next (next + 1) (first + next) (omega arith) refl);
   }
 
+  -- with more of the section handed out
+  pub handed-kept : (next now back : ℕ) (marks : List Bool) (g : GroupMap) → IsKept j size s k first next marks back g → next ≤ now → now ≤ length marks → IsKept j size s k first now marks back g
+  handed-kept next now back marks g h more fits = record {
+    many = h.many;
+    begins = h.begins;
+    ends = h.ends;
+    fits = fits;
+    below = λ i set. let b = h.below i set in omega (arith, b, more);
+    came = h.came;
+    job = h.job;
+    stands = h.stands;
+    few = h.few;
+    bound = h.bound;
+    room = h.room;
+  }
+
+  -- where there is no next number, all of the section is handed out
+  pub all-handed : (next back : ℕ) (marks : List Bool) (gave : Bool) (g : GroupMap) → IsKept j size s k first next marks back g → next ≡ length marks
+      → (i : ℕ) → has (section (morsel_count (fact_rows j) size) k s) i ≡ true → has (state next marks gave g).handed i ≡ true
+  all-handed next back marks gave g h e i there = subst (λ xs. has xs i ≡ true) (ours-is next back marks g h ∙ ap (range_with_len first) (sym e)) there
+
   -- ---- a partial that comes back
 
   -- the part waits for it: its morsel was handed out, has the mark at this place, and is not back

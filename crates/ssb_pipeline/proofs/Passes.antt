@@ -3,7 +3,7 @@ use Rattle.std.proofs.Common.{◌≡◌, ◌≢◌, ◌⊎◌, inl, inr, ℕ, �
 use Rattle.std.proofs.lemmas.List.{get_or-map, map-set, map-append, length-map, length-set, get_or-set_other, take_more, take_all, get_or_append_left, get_or-append_right}
 use Rattle.std.proofs.lemmas.Grind.{get_or-set_at}
 use Rattle.std.proofs.lemmas.Bool.{cases_eq}
-use Rattle.std.proofs.lemmas.List.Elements.{All-get_or, All-set, All-push}
+use Rattle.std.proofs.lemmas.List.Elements.{All-get_or, All-nil, All-set, All-push}
 use Rattle.std.proofs.Math.Seq.{map-set_same}
 use Rattle.std.specs.List.{All}
 use Rattle.atomic_table.specs.Seated.{TableId}
@@ -31,6 +31,9 @@ state_of ps = record { queues = map pass_name ps; views = map pass_view ps }
 -- what it knows of a section is what its pass there knows
 pub known_at : (ps : List Own) (i : ℕ) (p : Own) → i < length ps → p ≡ get_or ps i p → known (state_of ps) i ≡ view p
 known_at ps i p in_ps is = get_or-map pass_view ps i p fresh in_ps ∙ ap pass_view (sym is)
+
+pub known_in : (ps : List Own) (P : PassState) (i : ℕ) (p : Own) → state_of ps ≡ P → i < length ps → p ≡ get_or ps i p → known P i ≡ view p
+known_in ps P i p same in_ps is = ap (λ q. known q i) (sym same) ∙ known_at ps i p in_ps is
 
 pub now_knows : (ps : List Own) (i : ℕ) (p q : Own) (w : Knows → Knows) → i < length ps → p ≡ get_or ps i p → q.table_id ≡ p.table_id → view q ≡ w (view p) → state_of (set ps i q) ≡ knowing (state_of ps) i (w (known (state_of ps) i))
 now_knows ps i p q w in_ps is same knows =
@@ -174,6 +177,9 @@ pub record IsOpened {Q : Type 0} (name : Q → TableId) (j : JobShape) (m k : �
   pub count : length qs ≡ n
   pub rest : All IsAtRest ps
   pub views : (s : ℕ) → s < n → IsNewView j m s k (known (state_of ps) s)
+
+pub opened_none : {Q : Type 0} (name : Q → TableId) (j : JobShape) (m k : ℕ) → IsOpened name j m k [] [] 0
+opened_none name j m k = record { names = refl; count = refl; rest = All-nil IsAtRest; views = λ s in_s. absurd (omega (arith, in_s)) }
 
 pub opened_count : {Q : Type 0} (name : Q → TableId) (j : JobShape) (m k : ℕ) (qs : List Q) (ps : List Own) (n : ℕ) → IsOpened name j m k qs ps n → length ps ≡ n
 opened_count name j m k qs ps n o = sym (length-map ps pass_name) ∙ (ap length o.names ∙ (length-map qs name ∙ o.count))

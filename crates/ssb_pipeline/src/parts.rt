@@ -1,10 +1,11 @@
 // All parts of a job, each in a queue of its own.
 
-ghost use Rattle.std.specs.Prelude.{◌≡◌, ◌<◌, ◌≤◌, ◌^◌, true, false, length, All, IfOk};
+ghost use Rattle.std.specs.Prelude.{◌≡◌, ◌<◌, ◌≤◌, ◌^◌, true, false, [], length, All, IfOk};
 ghost use Rattle.std.specs.Arc.{arc_value};
+ghost use Rattle.crossbeam_queue.specs.Passes.{view, IsPassOf, ruled_capacity};
 ghost use Rattle.ssb_job.specs.Kept.{AreOneJob, fact_rows};
-ghost use Rattle.ssb_pipeline.specs.Part.{Follows, IsLawful};
-ghost use Rattle.ssb_pipeline.specs.Rule.{taker, putter};
+ghost use Rattle.ssb_pipeline.specs.Part.{Follows, IsLawful, IsOpening};
+ghost use Rattle.ssb_pipeline.specs.Rule.{knows, taker, putter};
 ghost use Rattle.ssb_pipeline.specs.Pass.{IsPassOfParts, HoldsNone, KnowsNothing, known, knowing, newcomers};
 ghost use Rattle.std.specs.Borrow.{sem};
 ghost use Rattle.ssb_pipeline.specs.Lending.{LendsPart};
@@ -210,6 +211,26 @@ impl Parts {
         Ok(PartsPass { passes })
     }
 
+    // The queue of one section, in which its opening part lies, and the queue's first pass. On its own,
+    // since each way out of the loop below has all queues and passes to let go.
+    fn open_section<R: Wait>(
+        rt: &R,
+        alloc: Global,
+        job: &Arc<Job, Global>,
+        morsel_size: u32,
+        section: u32,
+        sections: u32,
+    ) -> Result<(Line, LinePass), AllocError>
+        requires size { 0 < morsel_size }
+        requires section { section < sections }
+        ensures queue { IfOk result (λ r. IsPassOf r.0 r.1 × (ruled_capacity r.0 ≡ 1)) }
+        ensures knows { IfOk result (λ r. view r.1 ≡ knows false (view r.1).seen []) }
+        ensures opening { IfOk result (λ r. IsOpening (arc_value job.now) morsel_size section sections (view r.1).seen) }
+    {
+        let part = Part::open(alloc, Arc::try_clone(job)?, morsel_size, section, sections)?;
+        open_one(rt, alloc, part)
+    }
+
     fn open_first<R: Wait>(
         rt: &R,
         alloc: Global,
@@ -224,8 +245,14 @@ impl Parts {
         let mut queues = Vec::new(alloc);
         let mut passes = Vec::new(alloc);
         for section in 0..sections {
-            let part = Part::open(alloc, Arc::try_clone(&job)?, morsel_size, section, sections)?;
-            let (line, pass) = open_one(rt, alloc, part)?;
+            let (line, pass) = Parts::open_section(
+                rt,
+                alloc,
+                &job,
+                morsel_size,
+                section,
+                sections,
+            )?;
             queues.push(line)?;
             passes.push(pass)?;
         }

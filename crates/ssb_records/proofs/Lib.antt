@@ -1,13 +1,13 @@
 pub mod Blocks
 pub mod Cutting
-pub mod FieldFacts
-pub mod Handing
-pub mod Left
+mod FieldFacts
+mod Handing
+mod Left
 pub mod LineFacts
 pub mod LineRecords
-pub mod Looking
-pub mod Reading
-pub mod Step
-pub mod Taking
+mod Looking
+mod Reading
+mod Step
+mod Taking
 pub mod TakingAll
-pub mod Walks
+mod Walks

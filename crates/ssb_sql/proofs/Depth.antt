@@ -9,7 +9,14 @@ use Rattle.ssb_sql.specs.declared.token.Sign.TheVariants as s
 use Rattle.ssb_sql.specs.Steps.{is_fixed, is_sign}
 use Rattle.ssb_sql.specs.Depth.{IsWithin, opened, closed}
 use Rattle.ssb_sql.specs.Room.{HasRoom, room_after}
-use Rattle.ssb_sql.proofs.StepFacts.{some_is}
+use Rattle.ssb_sql.proofs.StepFacts.{none_some, some_is}
+
+-- One proof each for what holds of every token but a parenthesis: a clause for any token is checked once for each word and mark.
+fewer : (m n : ℕ) → suc m ≤ n → m ≤ n
+fewer m n h = omega arith
+
+same_rises : (n m : ℕ) → Some n ≡ Some m → m ≤ n + 1
+same_rises n m e = let p = some_is n m e in omega arith
 
 -- as many as there are tokens are enough
 pub all_within : (ts : List Token) (n : ℕ) → length ts ≤ n → HasRoom n ts
@@ -17,7 +24,7 @@ all_within [] n h = tt
 all_within (Fixed (s.Mark marks.Open) ∷ ts) zero h = absurd (omega arith)
 all_within (Fixed (s.Mark marks.Open) ∷ ts) (suc n) h = all_within ts n (omega arith)
 all_within (Fixed (s.Mark marks.Close) ∷ ts) n h = all_within ts (suc n) (omega arith)
-all_within (t ∷ ts) n h = all_within ts n (omega arith)
+all_within (t ∷ ts) n h = all_within ts n (fewer (length ts) n h)
 
 -- two statements, each of which follows from the other
 pub record Same (P Q : Type 0) : Type 0 where
@@ -58,15 +65,16 @@ room_goes t n m ts e = same_at n m ts (some_is n m e)
 room_ends : (t : Token) (n : ℕ) (ts : List Token) → room_after n t ≡ None → HasRoom n (t ∷ ts) → ⊥
 unfolding room_after is_fixed is_sign
 room_ends (Fixed (s.Mark marks.Open)) zero ts e h = h
-room_ends (Fixed (s.Mark marks.Open)) (suc n) ts e h = absurd cc
-room_ends t n ts e h = absurd cc
+room_ends (Fixed (s.Mark marks.Open)) (suc n) ts e h = none_some n (sym e)
+room_ends (Fixed (s.Mark marks.Close)) n ts e h = none_some (n + 1) (sym e)
+room_ends t n ts e h = none_some n (sym e)
 
 room_rises : (t : Token) (n m : ℕ) → room_after n t ≡ Some m → m ≤ n + 1
 unfolding room_after is_fixed is_sign
 room_rises (Fixed (s.Mark marks.Open)) zero m e = absurd cc
 room_rises (Fixed (s.Mark marks.Open)) (suc n) m e = let p = some_is n m e in omega arith
 room_rises (Fixed (s.Mark marks.Close)) n m e = let p = some_is (n + 1) m e in omega arith
-room_rises t n m e = let p = some_is n m e in omega arith
+room_rises t n m e = same_rises n m e
 
 -- what the loop has found: as many are open as before, and what is left decides
 pub record Left (most : ℕ) (all : List Token) (room i : ℕ) : Type 0 where

@@ -146,6 +146,12 @@ pub(crate) fn expression(
         return Err(Stop::Syntax);
     }
     let (first, rest) = term(alloc, depth - 1, tokens)?;
-    let (steps, rest) = more_terms(alloc, depth - 1, rest)?;
-    Ok((sum_of(alloc, first, steps)?, rest))
+    match more_terms(alloc, depth - 1, rest) {
+        Ok((steps, rest)) => Ok((sum_of(alloc, first, steps)?, rest)),
+        Err(stop) => {
+            // By a call, since the prover writes out all that an expression may be where a scope's end lets go of it.
+            drop(first);
+            Err(stop)
+        }
+    }
 }

@@ -152,14 +152,22 @@ fn filtered(alloc: Global, depth: usize, tokens: &[Token]) -> Result<Clauses, St
     grouped(alloc, depth, rest).map(|(groups, having, orders)| (condition, groups, having, orders))
 }
 
+// The tables of FROM.
+#[tactic(auto, using(crate::proofs::PartFacts::name_shrinks))]
+fn tables(alloc: Global, tokens: &[Token]) -> Parsed<'_, Items<Name>>
+    ensures { Gives seen result (list_at name_at tokens.now) }
+{
+    chain(alloc, COMMA, tokens, |start: &[Token]| name(alloc, start))
+}
+
 // FROM, and what follows.
-#[tactic(auto, unfolding(crate::specs::ReadSelects::joined_at), using(crate::proofs::PartFacts::name_shrinks))]
+#[tactic(auto, unfolding(crate::specs::ReadSelects::joined_at))]
 fn joined(alloc: Global, depth: usize, tokens: &[Token]) -> Result<(Items<Name>, Clauses), Stop>
     requires { depth < 2 ^ 32 }
     ensures { Gives (λ x. x) result (joined_at depth tokens.now) }
 {
-    let tables = expect(tokens, Sign::Word(Keyword::From))?;
-    let (from, rest) = chain(alloc, COMMA, tables, |start: &[Token]| name(alloc, start))?;
+    let start = expect(tokens, Sign::Word(Keyword::From))?;
+    let (from, rest) = tables(alloc, start)?;
     filtered(alloc, depth, rest).map(|clauses| (from, clauses))
 }
 

@@ -1,5 +1,7 @@
 pub mod Columns
+mod ExprForms
 pub mod Finding
+pub mod Forms
 pub mod InOrder
 pub mod Mapping
 pub mod Turns

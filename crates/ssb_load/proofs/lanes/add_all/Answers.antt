@@ -1,8 +1,8 @@
-use Rattle.std.proofs.Common.{◌++◌, ◌<◌, ◌∙◌, ap, rules, subst, sym, take}
+use Rattle.std.proofs.Common.{◌++◌, ◌<◌, ◌∙◌, ap, arith, rules, subst, sym, take}
 use Rattle.std.specs.List.{flat_map}
 use Rattle.ssb_load.specs.Assembly.{Halts, IsAssembled, subject_in}
 use Rattle.ssb_load.specs.Joined.{sources_in}
-use Rattle.ssb_load.proofs.LaneFacts.{adding-next, adding-stops, same-set}
+use Rattle.ssb_load.proofs.LaneFacts.{adding-ends, adding-next, adding-stops, same-set}
 use Rattle.ssb_load.proofs.lanes.add_all.Goals as goal
 
 pub returns-in-Err-clause-sources : goal.returns-in-Err-clause-sources
@@ -26,3 +26,8 @@ loop-at-preserved g c =
     adding-next g.S.Source.given g.S.Source.ends c.args.assembly.now c.loop-at.assembly c.add_read.new.assembly c.args.lanes.now c.loop-at.lanes c.loop-at.at c.index-lanes-at.result c.add_read.new.lane inv (search (rules)) c.index-lanes-at.is
     (c.add_read.ensures.source ∙ ap (λ l. l.source) here) c.in-Ok.ensures.subject
     (subst (λ l. IsAssembled c.add_read.new.assembly (so_far ++ g.S.Source.given l.source)) here (c.in-Ok.ensures.taken so_far inv.assembled)) (subst (λ l. 0 < g.S.Source.ends l.source) here c.in-Ok.ensures.met)
+
+pub returns-clause-taken : goal.returns-clause-taken
+returns-clause-taken g c =
+    let over = c.loop-at-test.false in
+    adding-ends g.S.Source.given g.S.Source.ends c.args.assembly.now c.loop-at.assembly c.args.lanes.now c.loop-at.lanes c.loop-at.at c.loop-at.invariant (omega (arith, over))

@@ -2,7 +2,7 @@ use Rattle.std.proofs.Common.{◌++◌, ◌∙◌, subst, sym}
 use Rattle.ssb_load.specs.Assembly.{subject_in}
 use Rattle.ssb_load.specs.Lane.{EndsBy, Reads}
 use Rattle.ssb_load.proofs.AssemblyLines.{refuses-halts}
-use Rattle.ssb_load.proofs.PartTaking.{if-err}
+use Rattle.ssb_load.proofs.PartTaking.{if-err, on-ok}
 use Rattle.ssb_load.proofs.lanes.add_read.Goals as goal
 
 pub halt-requires-clause-part : goal.halt-requires-clause-part
@@ -15,3 +15,9 @@ returns-in-None-stop-clause-halts g c =
     let read = subst (Reads g.S.Source.given g.S.Source.ends (subject_in c.args.assembly.now) c.args.lane.now.source) (sym c.replace.ensures.value ∙ c.in-Some.is) c.requires.read in
     let ended = subst (EndsBy g.S.Source.given g.S.Source.ends c.args.lane.now.source c.in-Some.field-0) c.in-None-stop.is read.1 in
     if-err c.add.result _ _ (λ e refused bytes h. refuses-halts c.args.assembly.now (bytes ++ g.S.Source.given c.args.lane.now.source) e (refused bytes (g.S.Source.given c.args.lane.now.source) h ended.0)) c.add.ensures.refused
+
+pub returns-in-None-stop-clause-taken : goal.returns-in-None-stop-clause-taken
+returns-in-None-stop-clause-taken g c =
+    let read = subst (Reads g.S.Source.given g.S.Source.ends (subject_in c.args.assembly.now) c.args.lane.now.source) (sym c.replace.ensures.value ∙ c.in-Some.is) c.requires.read in
+    let ended = subst (EndsBy g.S.Source.given g.S.Source.ends c.args.lane.now.source c.in-Some.field-0) c.in-None-stop.is read.1 in
+    on-ok c.add.result (λ taken bytes h. taken bytes (g.S.Source.given c.args.lane.now.source) h ended.0) c.add.ensures.taken

@@ -1,4 +1,4 @@
-use Rattle.std.proofs.Common.{arith, sym, true≢false}
+use Rattle.std.proofs.Common.{◌∙◌, arith, sym, true≢false}
 use Rattle.ssb_pipeline.proofs.FinishFacts.{begun, ended, fit, one-more, over-all}
 use Rattle.ssb_pipeline.proofs.finishing.finish_all.Goals as goal
 
@@ -6,6 +6,9 @@ pub loop-section-init : goal.loop-section-init
 loop-section-init g c =
     let f = c.in_ok-groups.ensures in
     begun c.args.parts.now c.requires.some c.args.pass.now c.finish_section.new.pass c.in_ok-groups.groups f.only f.pass f.over (λ h. true≢false (sym (f.refused h)))
+
+pub merged-requires-clause-one_job : goal.merged-requires-clause-one_job
+merged-requires-clause-one_job g c = c.loop-section.invariant.over.job ∙ sym c.in-Ok.ensures.over.job
 
 pub merged-requires-clause-few : goal.merged-requires-clause-few
 merged-requires-clause-few g c =
@@ -26,3 +29,12 @@ returns-clause-stands g c =
     let a = l.auto.section in
     let some = c.requires.some in
     over-all c.args.parts.now.job c.args.parts.now.size l.groups c.requires.size c.fact_table.ensures.named (ended c.args.parts.now some c.args.pass.now l.pass l.section l.groups l.invariant (omega (arith, k, t, a, some)))
+
+pub returns-clause-job : goal.returns-clause-job
+returns-clause-job g c = c.loop-section.invariant.over.job
+
+pub returns-clause-refused : goal.returns-clause-refused
+returns-clause-refused g c = λ s in_s gave.
+    let k = c.sections-section-end.ensures in
+    let t = c.loop-section-test.false in
+    absurd (c.loop-section.invariant.clear s (omega (arith, k, t, in_s)) gave)

@@ -1,6 +1,23 @@
 use Rattle.std.proofs.Common.{◌<◌, ◌≤◌, ◌⊎◌, inl, inr, ⊎_elim, arith, rules, ◌+◌}
-use Rattle.ssb_pipeline.proofs.Rounds.{rounds_step, ended_step}
+use Rattle.std.proofs.lemmas.Bool.{cases_lt}
+use Rattle.ssb_pipeline.specs.Pass.{known}
+use Rattle.ssb_pipeline.proofs.Rounds.{round_self, rounds_step, ended_step}
 use Rattle.ssb_pipeline.proofs.worker.work.Goals as goal
+
+pub loop-section-init : goal.loop-section-init
+loop-section-init g c = record {
+  pass = c.requires.pass;
+  none = c.requires.none;
+  rounds = λ s _. round_self (known c.args.pass.now s);
+  ended = λ s _ d. let from = d.0 in let below = d.1 in absurd (omega (arith, from, below));
+}
+
+pub work_section-requires : goal.work_section-requires
+work_section-requires g c =
+    let i = c.loop-section.invariant in
+    let k = c.sections-sections.ensures in
+    let t = c.loop-section-test.true in
+    record { there = omega (arith, k, t); pass = i.pass; none = i.none }
 
 pub loop-section-preserved : goal.loop-section-preserved
 loop-section-preserved g c =
@@ -31,4 +48,15 @@ loop-section-2-preserved g c =
       rounds = rounds_step c.args.pass.now q c.work_section-in-loop-section-2.new.pass c.loop-section-2.section (search rules) c.loop-section-2.invariant.rounds w.ready.only w.round;
       ended = ended_step (λ s. (s < c.loop-section-2.section + 1) ⊎ (first ≤ s)) q c.work_section-in-loop-section-2.new.pass c.loop-section-2.section (search rules)
           (λ s in_s ne d. c.loop-section-2.invariant.ended s in_s (⊎_elim (λ (l : s < c.loop-section-2.section + 1). inl (omega arith)) inr d)) w.ready.only w.ended;
+    }
+
+pub returns : goal.returns
+returns g c =
+    let i = c.loop-section-2.invariant in
+    let done = c.loop-section-2-test.false in
+    record {
+      pass = i.pass;
+      none = i.none;
+      rounds = i.rounds;
+      ended = λ s in_s. i.ended s in_s (elim (cases_lt s c.loop-section-2.section) [ inl before ↦ inl before | inr behind ↦ inr (omega (arith, done, behind)) ]);
     }

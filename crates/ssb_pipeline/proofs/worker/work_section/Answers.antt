@@ -1,3 +1,4 @@
+use Rattle.std.proofs.Common.{refl, sym, true≢false}
 use Rattle.ssb_pipeline.proofs.Rounds.{only_self, ready-again, ready_more, round_self, round_after}
 use Rattle.ssb_pipeline.proofs.worker.work_section.Goals as goal
 
@@ -15,3 +16,9 @@ returns-then-not-turn-clause-round g c = round_after _ _ _ c.loop.invariant.roun
 
 pub loop-preserved : goal.loop-preserved
 loop-preserved g c = record { ready = ready_more _ _ _ _ c.requires _ c.loop.invariant.ready c.turn.ensures.ready; round = round_after _ _ _ c.loop.invariant.round c.turn.ensures.round }
+
+pub returns-then-not-turn-clause-ended : goal.returns-then-not-turn-clause-ended
+returns-then-not-turn-clause-ended g c = c.if-not-turn.ensures.ended refl
+
+pub unreachable-requires : goal.unreachable-requires
+unreachable-requires g c = true≢false (sym c.in-None.ensures.steps)

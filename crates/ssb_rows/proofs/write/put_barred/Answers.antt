@@ -1,5 +1,6 @@
 use Rattle.std.proofs.Common.{◌∷◌, []}
-use Rattle.ssb_rows.proofs.Going.{going-start, field-on, going-more, going-breaks}
+use Rattle.std.proofs.lemmas.List.{nil_from_length}
+use Rattle.ssb_rows.proofs.Going.{going-start, field-on, going-more, going-breaks, going-end}
 use Rattle.ssb_rows.proofs.write.put_barred.Goals as goal
 
 pub loop-field-init : goal.loop-field-init
@@ -16,3 +17,6 @@ returns-in_default-put_field g c =
 pub loop-field-preserved : goal.loop-field-preserved
 loop-field-preserved g c =
     going-more _ _ _ _ _ _ (going-more _ _ _ _ (124 ∷ []) _ (field-on _ _ _ _ _ _ c.loop-field.invariant c.in-Some.ensures.cases.0) c.in-Ok.ensures) c.in-Ok-put_field.ensures
+
+pub returns : goal.returns
+returns g c = going-end _ _ _ (rw (nil_from_length c.loop-field.rest.now c.in_default.ensures.cases) at c.loop-field.invariant)

@@ -1,5 +1,7 @@
-use Rattle.std.proofs.Common.{sym}
+use Rattle.std.proofs.Common.{◌∙◌, ap, find, sym}
 use Rattle.ssb_trees.specs.Conditions.{operands}
+use Rattle.ssb_trees.proofs.Forms.{operands_of}
+use Rattle.ssb_trees.specs.declared.condition.Condition.TheOpen.{Condition-F}
 use Rattle.ssb_trees.proofs.Finding.{part_has, part_lacks}
 use Rattle.ssb_trees.proofs.find_operand.+condition.Goals as goal
 
@@ -10,3 +12,27 @@ in_parts-returns-in-Some g t c =
 pub in_parts-loop-part-preserved : goal.in_parts-loop-part-preserved
 in_parts-loop-part-preserved g t c =
     part_lacks (g.T.Test.passed c.args.test.now) (operands _) c.args.parts.now c.loop-part.part-index c.part-item.result _ c.loop-part-test.true c.part-item.is (sym c.in_default.ensures) c.loop-part.invariant
+
+pub in_condition-returns-in-Not : goal.in_condition-returns-in-Not
+in_condition-returns-in-Not g t c = (rw c.get.ensures at c.in_condition.ensures) ∙ ap (find (g.T.Test.passed c.args.test.now)) (sym (operands_of _ c.args.condition.now (Condition-F.Not c.in-Not.part) c.in-Not.is))
+
+pub in_condition-returns-in-Compare : goal.in_condition-returns-in-Compare
+in_condition-returns-in-Compare g t c = c.in_two.ensures ∙ ap (find (g.T.Test.passed c.args.test.now)) (sym (operands_of _ c.args.condition.now (Condition-F.Compare c.in-Compare.field-0 c.in-Compare.a c.in-Compare.b) c.in-Compare.is))
+
+pub in_condition-returns-in-Between : goal.in_condition-returns-in-Between
+in_condition-returns-in-Between g t c = c.in_three.ensures ∙ ap (find (g.T.Test.passed c.args.test.now)) (sym (operands_of _ c.args.condition.now (Condition-F.Between c.in-Between.x c.in-Between.a c.in-Between.b) c.in-Between.is))
+
+pub in_condition-returns-in-NotBetween : goal.in_condition-returns-in-NotBetween
+in_condition-returns-in-NotBetween g t c = c.in_three-in-NotBetween.ensures ∙ ap (find (g.T.Test.passed c.args.test.now)) (sym (operands_of _ c.args.condition.now (Condition-F.NotBetween c.in-NotBetween.x c.in-NotBetween.a c.in-NotBetween.b) c.in-NotBetween.is))
+
+pub in_condition-returns-in-In : goal.in_condition-returns-in-In
+in_condition-returns-in-In g t c = c.in_leaf.ensures ∙ ap (find (g.T.Test.passed c.args.test.now)) (sym (operands_of _ c.args.condition.now (Condition-F.In c.in-In.x c.in-In.field-1) c.in-In.is))
+
+pub in_condition-returns-in-NotIn : goal.in_condition-returns-in-NotIn
+in_condition-returns-in-NotIn g t c = c.in_leaf-in-NotIn.ensures ∙ ap (find (g.T.Test.passed c.args.test.now)) (sym (operands_of _ c.args.condition.now (Condition-F.NotIn c.in-NotIn.x c.in-NotIn.field-1) c.in-NotIn.is))
+
+pub in_condition-returns-in-IsNull : goal.in_condition-returns-in-IsNull
+in_condition-returns-in-IsNull g t c = c.in_leaf-in-IsNull.ensures ∙ ap (find (g.T.Test.passed c.args.test.now)) (sym (operands_of _ c.args.condition.now (Condition-F.IsNull c.in-IsNull.x) c.in-IsNull.is))
+
+pub in_condition-returns-in-IsNotNull : goal.in_condition-returns-in-IsNotNull
+in_condition-returns-in-IsNotNull g t c = c.in_leaf-in-IsNotNull.ensures ∙ ap (find (g.T.Test.passed c.args.test.now)) (sym (operands_of _ c.args.condition.now (Condition-F.IsNotNull c.in-IsNotNull.x) c.in-IsNotNull.is))

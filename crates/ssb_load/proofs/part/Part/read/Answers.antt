@@ -3,7 +3,7 @@ use Rattle.std.proofs.lemmas.Result.{err_from_is_err_and}
 use Rattle.ssb_load.specs.Part.{IsPart}
 use Rattle.ssb_records.specs.Pieces.{Hands, handed}
 use Rattle.ssb_records.proofs.TakingAll.{told-of}
-use Rattle.ssb_load.proofs.PartReading.{broken-off, halts-given, read-never, tail-next}
+use Rattle.ssb_load.proofs.PartReading.{all-taken, broken-off, halts-given, read-never, tail-next}
 use Rattle.ssb_load.proofs.part.Part.read.Goals as goal
 
 pub returns-in_err-take_piece-clause-halts : goal.returns-in_err-take_piece-clause-halts
@@ -42,3 +42,11 @@ returns-in-Ok-false-clause-halts g c =
     c.fill.ensures.handed
     (told-of g.S.Source.given g.S.Source.failures g.S.Source.ends q c.fill.new.source c.args.source.now c.fill.ensures.follows (c.fill.ensures.begun ∙ c.loop.invariant.begun))
     c.fill.ensures.stays c.loop.invariant.tail c.loop.invariant.part
+
+pub returns-in-Ok-false-2-clause-taken : goal.returns-in-Ok-false-2-clause-taken
+returns-in-Ok-false-2-clause-taken g c =
+    let q = c.fill.new.self in
+    let going = sym c.has_failed.ensures ∙ c.if-has_failed.false in
+    let hands = let P : Bool → Type 0 = λ b. Hands b q in subst P c.in-Ok-false.field-0-test c.in-Ok-false.ensures.hands in
+    let told = told-of g.S.Source.given g.S.Source.failures g.S.Source.ends q c.fill.new.source c.args.source.now c.fill.ensures.follows (c.fill.ensures.begun ∙ c.loop.invariant.begun) in
+    all-taken c.loop.self c.loop.pieces q _ _ going hands c.fill.ensures.handed told c.loop.invariant.part

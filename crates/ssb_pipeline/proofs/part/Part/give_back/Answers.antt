@@ -1,6 +1,6 @@
-use Rattle.std.proofs.Common.{◌≡◌, ◌-◌, true, false, refl, rules, arith}
+use Rattle.std.proofs.Common.{◌≡◌, ◌∙◌, ◌-◌, true, false, refl, sym, ap, subst, rules, arith}
 use Rattle.std.specs.Arc.{arc_value}
-use Rattle.ssb_pipeline.specs.Part.{has}
+use Rattle.ssb_pipeline.specs.Part.{PartState, has}
 use Rattle.ssb_pipeline.proofs.MarkFacts.{marked-has, marked-lacks}
 use Rattle.ssb_pipeline.proofs.PartFacts.{back-few, comes-back, few-both, kept-more}
 use Rattle.ssb_pipeline.proofs.GivingBack.{at, due, in_marks, mark, starts}
@@ -8,63 +8,63 @@ use Rattle.ssb_pipeline.proofs.part.Part.give_back.Goals as goal
 
 pub overflow_sub-place : goal.overflow_sub-place
 overflow_sub-place c =
-    let known : has c.args.self.now.handed c.args.partial.ticket.morsel ≡ true = search rules in
+    let known = subst (λ i. has c.args.self.now.handed i ≡ true) c.morsel-morsel.ensures.morsel (sym c.was_handed.ensures ∙ c.if-not-was_handed.false) in
     starts c.self.inside c.self.invariant c.args.partial.ticket.morsel c.morsel-morsel.result c.morsel-morsel.ensures.morsel (rw (← c.self.view_is) at known)
 
 pub index-requires : goal.index-requires
 index-requires c =
-    let known : has c.args.self.now.handed c.args.partial.ticket.morsel ≡ true = search rules in
+    let known = subst (λ i. has c.args.self.now.handed i ≡ true) c.morsel-morsel.ensures.morsel (sym c.was_handed.ensures ∙ c.if-not-was_handed.false) in
     let lt = in_marks c.self.inside c.self.invariant c.args.partial.ticket.morsel c.morsel-morsel.result c.morsel-morsel.ensures.morsel (rw (← c.self.view_is) at known) in
     omega (arith, lt)
 
 pub index_mut-requires : goal.index_mut-requires
 index_mut-requires c =
-    let known : has c.args.self.now.handed c.args.partial.ticket.morsel ≡ true = search rules in
+    let known = subst (λ i. has c.args.self.now.handed i ≡ true) c.morsel-morsel.ensures.morsel (sym c.was_handed.ensures ∙ c.if-not-was_handed.false) in
     let lt = in_marks c.self.inside c.self.invariant c.args.partial.ticket.morsel c.morsel-morsel.result c.morsel-morsel.ensures.morsel (rw (← c.self.view_is) at known) in
     omega (arith, lt)
 
 pub returns-then-index : goal.returns-then-index
 returns-then-index c =
-    let known : has c.args.self.now.handed c.args.partial.ticket.morsel ≡ true = search rules in
-    let size : c.args.partial.ticket.size ≡ c.args.self.now.size = search rules in
+    let known = subst (λ i. has c.args.self.now.handed i ≡ true) c.morsel-morsel.ensures.morsel (sym c.was_handed.ensures ∙ c.if-not-was_handed.false) in
+    let size = sym c.size.ensures ∙ c.if-size-self.false ∙ ap (λ (q : PartState). q.size) c.self.view_is in
     let p = c.self.inside in
     let set = mark c.self.inside c.self.invariant c.args.partial.ticket.morsel c.morsel-morsel.result c.morsel-morsel.ensures.morsel (rw (← c.self.view_is) at known) c.index.result.now true c.index.ensures c.if-index.true in
     ((size, known), rw (← c.self.view_is) (marked-has p.first p.marks.items (c.morsel-morsel.result - p.first) c.args.partial.ticket.morsel (at c.self.inside c.self.invariant c.args.partial.ticket.morsel c.morsel-morsel.result c.morsel-morsel.ensures.morsel (rw (← c.self.view_is) at known)).is set), refl, refl)
 
 pub merge_into-requires-clause-few : goal.merge_into-requires-clause-few
 merge_into-requires-clause-few c =
-    let known : has c.args.self.now.handed c.args.partial.ticket.morsel ≡ true = search rules in
-    let size : c.args.partial.ticket.size ≡ c.args.self.now.size = search rules in
+    let known = subst (λ i. has c.args.self.now.handed i ≡ true) c.morsel-morsel.ensures.morsel (sym c.was_handed.ensures ∙ c.if-not-was_handed.false) in
+    let size = sym c.size.ensures ∙ c.if-size-self.false ∙ ap (λ (q : PartState). q.size) c.self.view_is in
     let p = c.self.inside in
     few-both (arc_value p.job) p.size p.section p.sections p.first p.next p.back p.marks.items p.groups c.args.partial (c.morsel-morsel.result - p.first) (due p c.self.invariant c.args.partial c.morsel-morsel.result c.morsel-morsel.ensures.morsel (rw (← c.self.view_is) at known) c.index.result.now c.index.ensures c.if-index.false (rw (← c.self.view_is) at c.requires.one_job) (rw (← c.self.view_is) at size) c.morsel-morsel.ensures.of)
 
 pub overflow_add-self : goal.overflow_add-self
 overflow_add-self c =
-    let known : has c.args.self.now.handed c.args.partial.ticket.morsel ≡ true = search rules in
-    let size : c.args.partial.ticket.size ≡ c.args.self.now.size = search rules in
+    let known = subst (λ i. has c.args.self.now.handed i ≡ true) c.morsel-morsel.ensures.morsel (sym c.was_handed.ensures ∙ c.if-not-was_handed.false) in
+    let size = sym c.size.ensures ∙ c.if-size-self.false ∙ ap (λ (q : PartState). q.size) c.self.view_is in
     let p = c.self.inside in
     let few = back-few (arc_value p.job) p.size p.section p.sections p.first p.next p.back p.marks.items p.groups c.args.partial (c.morsel-morsel.result - p.first) (due p c.self.invariant c.args.partial c.morsel-morsel.result c.morsel-morsel.ensures.morsel (rw (← c.self.view_is) at known) c.index.result.now c.index.ensures c.if-index.false (rw (← c.self.view_is) at c.requires.one_job) (rw (← c.self.view_is) at size) c.morsel-morsel.ensures.of) in
     omega (arith, few)
 
 pub invariant_of-self : goal.invariant_of-self
 invariant_of-self c =
-    let known : has c.args.self.now.handed c.args.partial.ticket.morsel ≡ true = search rules in
-    let size : c.args.partial.ticket.size ≡ c.args.self.now.size = search rules in
+    let known = subst (λ i. has c.args.self.now.handed i ≡ true) c.morsel-morsel.ensures.morsel (sym c.was_handed.ensures ∙ c.if-not-was_handed.false) in
+    let size = sym c.size.ensures ∙ c.if-size-self.false ∙ ap (λ (q : PartState). q.size) c.self.view_is in
     let p = c.self.inside in
     let m = c.in-Ok.ensures in
     kept-more (arc_value p.job) p.size p.section p.sections p.first p.next p.back p.marks.items p.groups c.args.partial (c.morsel-morsel.result - p.first) (due p c.self.invariant c.args.partial c.morsel-morsel.result c.morsel-morsel.ensures.morsel (rw (← c.self.view_is) at known) c.index.result.now c.index.ensures c.if-index.false (rw (← c.self.view_is) at c.requires.one_job) (rw (← c.self.view_is) at size) c.morsel-morsel.ensures.of) c.merge_into.new.groups m.job m.counted m.stands
 
 pub returns-in-Ok : goal.returns-in-Ok
 returns-in-Ok c =
-    let known : has c.args.self.now.handed c.args.partial.ticket.morsel ≡ true = search rules in
-    let size : c.args.partial.ticket.size ≡ c.args.self.now.size = search rules in
+    let known = subst (λ i. has c.args.self.now.handed i ≡ true) c.morsel-morsel.ensures.morsel (sym c.was_handed.ensures ∙ c.if-not-was_handed.false) in
+    let size = sym c.size.ensures ∙ c.if-size-self.false ∙ ap (λ (q : PartState). q.size) c.self.view_is in
     let p = c.self.inside in
     let m = c.in-Ok.ensures in
     ((size, known), rw (← c.self.view_is) (comes-back (arc_value p.job) p.size p.section p.sections p.first p.next p.back p.marks.items p.groups c.args.partial (c.morsel-morsel.result - p.first) (due p c.self.invariant c.args.partial c.morsel-morsel.result c.morsel-morsel.ensures.morsel (rw (← c.self.view_is) at known) c.index.result.now c.index.ensures c.if-index.false (rw (← c.self.view_is) at c.requires.one_job) (rw (← c.self.view_is) at size) c.morsel-morsel.ensures.of) p.gave_up c.merge_into.new.groups m.job m.stands))
 
 pub returns-in-Err : goal.returns-in-Err
 returns-in-Err c =
-    let known : has c.args.self.now.handed c.args.partial.ticket.morsel ≡ true = search rules in
-    let size : c.args.partial.ticket.size ≡ c.args.self.now.size = search rules in
+    let known = subst (λ i. has c.args.self.now.handed i ≡ true) c.morsel-morsel.ensures.morsel (sym c.was_handed.ensures ∙ c.if-not-was_handed.false) in
+    let size = sym c.size.ensures ∙ c.if-size-self.false ∙ ap (λ (q : PartState). q.size) c.self.view_is in
     let clear = mark c.self.inside c.self.invariant c.args.partial.ticket.morsel c.morsel-morsel.result c.morsel-morsel.ensures.morsel (rw (← c.self.view_is) at known) c.index.result.now false c.index.ensures c.if-index.false in
     ((size, known), rw (← c.self.view_is) (marked-lacks c.self.inside.first c.self.inside.marks.items (c.morsel-morsel.result - c.self.inside.first) c.args.partial.ticket.morsel (at c.self.inside c.self.invariant c.args.partial.ticket.morsel c.morsel-morsel.result c.morsel-morsel.ensures.morsel (rw (← c.self.view_is) at known)).is clear), c.in-Err.ensures.partial, search rules)

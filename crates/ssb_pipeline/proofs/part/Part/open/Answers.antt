@@ -1,4 +1,4 @@
-use Rattle.std.proofs.Common.{◌≡◌, ◌<◌, ◌^◌, ◌-◌, ◌+◌, ℕ, Some, false, true, length, refl, rules, arith}
+use Rattle.std.proofs.Common.{◌≡◌, ◌∙◌, ◌<◌, ◌^◌, ◌-◌, ◌+◌, ℕ, Some, false, true, length, refl, sym, ap, subst, arith}
 use Rattle.std.specs.Prelude.{slice_get}
 use Rattle.std.specs.Arc.{arc_value}
 use Rattle.ssb_job.specs.Kept.{fact_rows}
@@ -11,14 +11,15 @@ pub invariant_of-result : goal.invariant_of-result
 invariant_of-result c =
     let j = arc_value c.args.job in
     let section = c.requires.section in
-    let begins : c.morsel_cut-first.result ≡ morsel_cut (morsel_count (fact_rows j) c.args.morsel_size) c.args.sections c.args.section = search rules in
-    let ends : c.morsel_cut-end.result ≡ morsel_cut (morsel_count (fact_rows j) c.args.morsel_size) c.args.sections (c.args.section + 1) = search rules in
-    let many : length c.in_ok-marks.marks.items ≡ c.morsel_cut-end.result - c.morsel_cut-first.result = search rules in
+    let counted : c.fact_rows.result ≡ fact_rows j = c.fact_rows.ensures ∙ ap fact_rows c.deref.ensures in
+    let morsels : c.div_ceil-morsels.result ≡ morsel_count (fact_rows j) c.args.morsel_size = c.div_ceil-morsels.ensures ∙ ap (λ r. morsel_count r c.args.morsel_size) counted in
+    let begins = c.morsel_cut-first.ensures ∙ ap (λ m. morsel_cut m c.args.sections c.args.section) morsels in
+    let ends = c.morsel_cut-end.ensures ∙ ap (λ m. morsel_cut m c.args.sections (c.args.section + 1)) morsels in
+    let many : length c.in_ok-marks.marks.items ≡ c.morsel_cut-end.result - c.morsel_cut-first.result = sym c.in_ok-marks.marks.ok.0 ∙ c.in_ok-marks.ensures.len in
     let free : (i : ℕ) → slice_get c.in_ok-marks.marks.items i ≡ Some true → ⊥ = free-all _ c.in_ok-marks.marks.items (c.in_ok-marks.ensures.items_if_clones_equal (λ b e. e)) in
-    let bound : c.morsel_cut-end.result < 2 ^ 32 = search rules in
-    let rows : fact_rows j < 2 ^ 32 = search rules in
+    let rows : fact_rows j < 2 ^ 32 = subst (λ r. r < 2 ^ 32) counted c.fact_rows.type_inv in
     let g = c.in_ok-groups.ensures in
-    opens j c.args.morsel_size c.args.section c.args.sections c.morsel_cut-first.result c.morsel_cut-end.result c.in_ok-marks.marks.items c.in_ok-groups.groups (omega (arith, section)) begins ends many free bound rows g.stands (search rules) g.counted
+    opens j c.args.morsel_size c.args.section c.args.sections c.morsel_cut-first.result c.morsel_cut-end.result c.in_ok-marks.marks.items c.in_ok-groups.groups (omega (arith, section)) begins ends many free c.morsel_cut-end.type_inv rows g.stands (g.job ∙ c.deref-2.ensures) g.counted
 
 pub returns-clause-opening : goal.returns-clause-opening
 returns-clause-opening c =

@@ -1,8 +1,43 @@
-use Rattle.ssb_pipeline.proofs.WorkFacts.{fewer-left, one-more}
+use Rattle.std.proofs.Common.{◌∙◌, sym, ap, subst}
+use Rattle.ssb_pipeline.specs.Part.{Grows, IsLawful, PartState}
+use Rattle.ssb_pipeline.proofs.Later.{grows-more, hand-follows}
+use Rattle.ssb_pipeline.proofs.WorkFacts.{all-back, fewer-left, is-fresh, is-out, nothing-yet, one-more}
 use Rattle.ssb_pipeline.proofs.part.Part.work_off.Goals as goal
+
+pub loop-ticket-init : goal.loop-ticket-init
+loop-ticket-init c = nothing-yet c.args.self.now c.lawful.ensures
+
+pub bring_back-requires-clause-one_job : goal.bring_back-requires-clause-one_job
+bring_back-requires-clause-one_job c = c.in-Some.ensures.1 ∙ sym (ap (λ (p : PartState). p.job) c.in-Some.ensures.0.after)
+
+pub bring_back-requires-clause-handed : goal.bring_back-requires-clause-handed
+bring_back-requires-clause-handed c =
+    let h = c.in-Some.ensures.0 in
+    (c.in-Some.ensures.2 ∙ sym (ap (λ (p : PartState). p.size) h.after), is-out c.in-Some.ticket.morsel c.loop-ticket.self c.hand_out.new.self h)
+
+pub bring_back-requires-clause-fresh : goal.bring_back-requires-clause-fresh
+bring_back-requires-clause-fresh c = is-fresh c.in-Some.ticket.morsel c.loop-ticket.self c.hand_out.new.self c.loop-ticket.invariant.lawful c.in-Some.ensures.0
+
+pub returns-in_err-bring_back-clause-grows : goal.returns-in_err-bring_back-clause-grows
+returns-in_err-bring_back-clause-grows c =
+    let h = c.in-Some.ensures.0 in
+    let later = hand-follows c.in-Some.ticket.morsel c.loop-ticket.self c.hand_out.new.self h in
+    subst (Grows c.args.self.now) (sym c.in_err-bring_back.ensures.err) (grows-more c.args.self.now c.loop-ticket.self c.hand_out.new.self c.loop-ticket.invariant.grows later (ap (λ (p : PartState). p.gave_up) h.after))
+
+pub returns-in_err-bring_back-clause-lawful : goal.returns-in_err-bring_back-clause-lawful
+returns-in_err-bring_back-clause-lawful c = subst IsLawful (sym c.in_err-bring_back.ensures.err) c.lawful-in-Some.ensures
 
 pub loop-ticket-smaller : goal.loop-ticket-smaller
 loop-ticket-smaller c = fewer-left c.in-Some.ticket.morsel c.loop-ticket.self c.hand_out.new.self c.bring_back.new.self c.in-Some.ensures.0 c.lawful-in-Some.ensures c.in_ok-bring_back.ensures.back
 
 pub loop-ticket-preserved : goal.loop-ticket-preserved
 loop-ticket-preserved c = one-more c.in-Some.ticket.morsel c.args.self.now c.loop-ticket.self c.hand_out.new.self c.bring_back.new.self c.loop-ticket.invariant c.in-Some.ensures.0 c.in_ok-bring_back.ensures.back c.lawful-in-Some-2.ensures
+
+pub returns-clause-grows : goal.returns-clause-grows
+returns-clause-grows c = subst (Grows c.args.self.now) (sym c.in_default.ensures.0) c.loop-ticket.invariant.grows
+
+pub returns-clause-whole : goal.returns-clause-whole
+returns-clause-whole c = λ back going. all-back c.args.self.now c.loop-ticket.self c.hand_out.new.self c.loop-ticket.invariant c.in_default.ensures back going
+
+pub returns-clause-lawful : goal.returns-clause-lawful
+returns-clause-lawful c = subst IsLawful (sym c.in_default.ensures.0) c.loop-ticket.invariant.lawful

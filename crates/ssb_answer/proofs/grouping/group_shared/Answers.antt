@@ -1,0 +1,14 @@
+use Rattle.std.proofs.Common.{◌∙◌, IfOk, subst}
+use Rattle.std.specs.Arc.{arc_value}
+use Rattle.ssb_groups.specs.Stands.{Stands}
+use Rattle.ssb_job.specs.Kept.{AreOneJob, JobShape}
+use Rattle.ssb_reply.specs.Reply.{seen_rows}
+use Rattle.ssb_answer.proofs.grouping.group_shared.Goals as goal
+
+pub returns-clause-stands : goal.returns-clause-stands
+returns-clause-stands g c =
+    subst (λ (j : JobShape). IfOk c.finish.result (λ made. Stands made (seen_rows j))) (c.in_ok-parts.ensures.job.0 ∙ c.in_ok-shared.ensures) c.finish.ensures.stands
+
+pub returns-clause-job : goal.returns-clause-job
+returns-clause-job g c =
+    subst (λ (j : JobShape). IfOk c.finish.result (λ made. AreOneJob made.job j)) (c.in_ok-parts.ensures.job.0 ∙ c.in_ok-shared.ensures) c.finish.ensures.job

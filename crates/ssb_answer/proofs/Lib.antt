@@ -1,3 +1,4 @@
 pub mod Asking
 mod Keyed
 pub mod Running
+pub mod WrittenBack

@@ -114,12 +114,26 @@ fn are_mixed<C, K: Kinds<C>>(kinds: &K, a: &Operand<C>, b: &Operand<C>) -> bool
     is_text(kinds, a) != is_text(kinds, b)
 }
 
+// Whether an operand is mixed with one of the two limits of a BETWEEN.
+fn is_mixed_range<C, K: Kinds<C>>(kinds: &K, x: &Operand<C>, a: &Operand<C>, b: &Operand<C>) -> bool
+    ensures { result ≡ spec.are_mixed (K.kind kinds.now) x.now a.now || spec.are_mixed (K.kind kinds.now) x.now b.now }
+{
+    are_mixed(kinds, x, a) || are_mixed(kinds, x, b)
+}
+
 fn has_other(is_text: bool, literals: &[Literal]) -> bool
     ensures { result ≡ list_any (λ l. spec.differ is_text (spec.is_text_literal l)) literals.now }
 {
     literals
         .iter()
         .any(|literal| is_text != is_text_literal(literal))
+}
+
+// Whether an operand is mixed with one of the literals of an IN.
+fn is_mixed_list<C, K: Kinds<C>>(kinds: &K, x: &Operand<C>, literals: &[Literal]) -> bool
+    ensures { result ≡ spec.is_mixed_list (K.kind kinds.now) x.now literals.now }
+{
+    has_other(is_text(kinds, x), literals)
 }
 
 #[cycle(condition)]
@@ -143,10 +157,10 @@ fn is_mixed<C, K: Kinds<C>>(kinds: &K, condition: &Filter<C>) -> bool
         Condition::All(parts) => has_mixed_part(kinds, parts.as_slice()),
         Condition::Not(part) => is_mixed(kinds, part.get()),
         Condition::Compare(_, a, b) => are_mixed(kinds, a, b),
-        Condition::Between(x, a, b) => { are_mixed(kinds, x, a) || are_mixed(kinds, x, b) }
-        Condition::NotBetween(x, a, b) => { are_mixed(kinds, x, a) || are_mixed(kinds, x, b) }
-        Condition::In(x, literals) => has_other(is_text(kinds, x), literals.as_slice()),
-        Condition::NotIn(x, literals) => { has_other(is_text(kinds, x), literals.as_slice()) }
+        Condition::Between(x, a, b) => is_mixed_range(kinds, x, a, b),
+        Condition::NotBetween(x, a, b) => is_mixed_range(kinds, x, a, b),
+        Condition::In(x, literals) => is_mixed_list(kinds, x, literals.as_slice()),
+        Condition::NotIn(x, literals) => is_mixed_list(kinds, x, literals.as_slice()),
         Condition::IsNull(_) => false,
         Condition::IsNotNull(_) => false,
     }

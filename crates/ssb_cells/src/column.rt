@@ -22,10 +22,19 @@ use std::alloc::{AllocError, Global};
 use std::marker::Model;
 
 // Values of one type. Where one is null, a 0 stands for it.
-#[derive(Drop)]
 pub(crate) enum Stored {
     Int(Numbers),
     Text(Texts),
+}
+
+// Written out, so that what lets go of it need not say how numbers and texts do.
+impl Drop for Stored {
+    fn drop(self) {
+        match self {
+            Stored::Int(numbers) => drop(numbers),
+            Stored::Text(texts) => drop(texts),
+        }
+    }
 }
 
 /// A list of values of one type, some of them null, seen as its type and that list.

@@ -12,10 +12,17 @@ use std::alloc::{AllocError, Global};
 use std::marker::Model;
 
 /// Different texts in the order in which they came, seen as their list. There may be 4,294,967,295.
-#[derive(Drop)]
 pub struct Dictionary {
     alloc: Global,
     texts: IndexSet<String>,
+}
+
+// Written out, so that what lets go of one need not say how a set does.
+impl Drop for Dictionary {
+    fn drop(self) {
+        let Dictionary { alloc: _, texts } = self;
+        drop(texts);
+    }
 }
 
 impl Model for Dictionary {

@@ -22,6 +22,14 @@ use Rattle.ssb_groups.specs.declared.kept.Kept.TheVariants as kept
 pub got-in : {X : Type 0} (xs ys : List X) (k : ℕ) (x : X) → xs ≡ ys → true ≡ ltb k (length xs) → x ≡ get_or xs k x → slice_get ys k ≡ Some x
 got-in xs ys k x same within is = rw same at (slice_get_read xs (length xs) k x refl (ltb-true k (length xs) (sym within)) is)
 
+-- the table that stands there
+pub table-here : (tables : List Columns) (n : ℕ) (t : Columns) → n < length tables → t ≡ get_or tables n t → table_at tables n ≡ t
+table-here tables n t within is = ap (λ o. unwrap_or o []) (slice_get_read tables (length tables) n t refl within is)
+
+-- the values of the column that stands there
+pub values-here : (tables : List Columns) (place : Option Place) (p : Place) (t : Columns) (column : Filled) → place ≡ Some p → table_at tables p.table ≡ t → slice_get t p.column ≡ Some column → values_at tables place ≡ column.values
+values-here tables place p t column is here at = ap (values_at tables) is ∙ ap (λ (xs : Columns). values_in (slice_get xs p.column)) here ∙ ap values_in at
+
 -- ---- what stands for a value spells it
 
 -- a value of a column is kept as a cell that spells it

@@ -24,7 +24,6 @@ use std::sync::Arc;
 
 /// The columns of a job's groups and of its aggregates, found in its tables once for all rows, seen as the
 /// job.
-#[derive(Drop)]
 pub(crate) struct Columns {
     // What the job is, for contracts alone: it has no bytes.
     job: Snapshot<Job>,
@@ -33,6 +32,21 @@ pub(crate) struct Columns {
     places: Vec<Option<Place>>,
     // How the totals of each aggregate are joined, by its column where they may be texts.
     joinings: Vec<Joining>,
+}
+
+// Written out, so that what lets go of one need not say how its parts are let go.
+impl Drop for Columns {
+    fn drop(self) {
+        let Columns {
+            job: _,
+            tables,
+            places,
+            joinings,
+        } = self;
+        drop(tables);
+        drop(places);
+        drop(joinings);
+    }
 }
 
 impl Model for Columns {

@@ -1,7 +1,7 @@
 -- One more record in the columns and among the keys.
-use Rattle.std.proofs.Common.{◌≡◌, ◌∙◌, ◌++◌, ◌+◌, ℕ, ℤ, Bool, true, false, cond, ◌||◌, List, [], ◌∷◌, length, take, get_or, zero, suc, ◌<◌, add-one, Option, Some, None, refl, sym, ap, arith}
+use Rattle.std.proofs.Common.{◌≡◌, ◌∙◌, ◌++◌, ◌+◌, ℕ, ℤ, Bool, true, false, cond, ◌||◌, List, [], ◌∷◌, length, take, get_or, zero, suc, ◌<◌, ◌≤◌, add-one, Option, Some, None, refl, sym, ap, arith}
 use Rattle.std.proofs.lemmas.Cmp.{int_eq_equiv}
-use Rattle.std.proofs.lemmas.List.{length-map, map-append}
+use Rattle.std.proofs.lemmas.List.{length-map, map-append, take_all}
 use Rattle.ssb_cells.specs.Cell.{Filled}
 use Rattle.ssb_cells.specs.Tables.{AreLong, rows_in}
 use Rattle.ssb_load.proofs.RuleFacts.{sized-len}
@@ -71,6 +71,9 @@ none-suc at (suc k) (p ∷ ps) q lt = ap (λ t. record { kind = p.kind; values =
 pub none-next : (k : ℕ) (ps : List Rule) (q : Rule) (now : List Filled) → k < length ps → now ≡ columns_of (take k ps) []
     → now ++ record { kind = (get_or ps k q).kind; values = [] } ∷ [] ≡ columns_of (take (k + 1) ps) []
 none-next k ps q now lt is = let h : k + 1 ≡ suc k = add-one k in rw (is, h) (sym (none-suc 0 k ps q lt))
+
+pub all-none : (k : ℕ) (ps : List Rule) (now : List Filled) → length ps ≤ k → now ≡ columns_of (take k ps) [] → now ≡ columns_of ps []
+all-none k ps now over is = is ∙ ap (λ qs. columns_of qs []) (take_all k ps over)
 
 -- the columns of a table, all of one length
 sized-long : (n : ℕ) (ps : List Rule) (cs : List Filled) → AreSized n ps cs → AreLong n cs

@@ -1,7 +1,9 @@
 -- Sources one after the other: what a read of one of them changes.
 use Rattle.std.proofs.Common.{◌≡◌, ◌+◌, ◌≤◌, ◌<◌, ◌++◌, ◌∙◌, ◌==◌, ℕ, zero, suc, Bool, true, false, List, [], ◌∷◌, length, map, take, drop, get_or, set, refl, sym, ap, append_assoc, add-one, arith, IfSome}
 use Rattle.std.proofs.Math.Seq.{map-set_same}
+use Rattle.std.specs.Prelude.{nat_lt}
 use Rattle.std.proofs.lemmas.Bool.{false≢true}
+use Rattle.std.proofs.lemmas.Bool.Decides.{nat_tests}
 use Rattle.std.proofs.lemmas.List.{append-nil, drop-drop, drop-set-lt, drop_all, length-map, map-set, take-set, take_all, take_more, take_more_set, get_or-map}
 use Rattle.std.proofs.lemmas.List.Concat.{flat_map-append}
 use Rattle.std.proofs.lemmas.List.Elements.{All-drop, All-head, All-nil, All-push, All-same, All-tail, All-take}
@@ -20,6 +22,12 @@ at-end before after n room none more e =
     let zero : n ≡ 0 = omega arith in
     let is : (n == 0) ≡ true = rw zero refl in
     ended-more n room after before 0 is more (omega arith) e
+
+-- an answer without a byte counts as no end, where there was no room
+pub no-end-counted : (before now : ℕ) (room : List ℕ) → now ≡ before → true ≡ (length room == 0) → now ≡ before + ends_at 0 room
+no-end-counted before now room same none =
+    let is : nat_lt 0 (length room) ≡ false = grind (arith, nat_tests) in
+    rw is (omega (arith, same))
 
 -- ---- the lanes
 

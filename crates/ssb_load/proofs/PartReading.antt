@@ -12,7 +12,7 @@ use Rattle.ssb_records.specs.declared.fault.LoadFault.{LoadFault}
 use Rattle.ssb_records.specs.declared.fault.LoadFault.TheVariants as load
 use Rattle.ssb_load.specs.declared.part.Part.{Part}
 use Rattle.ssb_records.specs.declared.pieces.Pieces.{Pieces}
-use Rattle.ssb_records.proofs.TakingAll.{never-over, since-is}
+use Rattle.ssb_records.proofs.TakingAll.{grows, never-over, since-is, told-of}
 
 -- The pieces handed out so far were taken; only behind the last a part of a line waits.
 pub record IsReadingPart {S : Type 0} (given : S → List ℕ) (failures ends : S → ℕ) (all : S → Option (List ℕ)) (pieces : Pieces S) (source_then source_now : S) (old now : Part) : Type 0 where
@@ -92,3 +92,17 @@ read-never p bytes (load.Record f n) P h = tt
 read-never p bytes (load.BadCatalog f n) P h = tt
 read-never p bytes (load.Read n) P h = absurd h
 read-never p bytes load.Memory P h = tt
+
+-- what a source gave since the pieces began stands behind what it gave before
+pub grows-since : {S : Type 0} (given : S → List ℕ) (failures ends : S → ℕ) (q : Pieces S) (now base : S) → Follows given failures ends q now → q.begun.value ≡ base → given now ≡ given base ++ given_since (given base) (given now)
+grows-since given failures ends q now base f begun = grows (given base) (handed q ++ rest_of q) (given now) (told-of given failures ends q now base f begun)
+
+-- the source met its end
+pub ends-since : {S : Type 0} (given : S → List ℕ) (failures ends : S → ℕ) (q : Pieces S) (now base : S) → Follows given failures ends q now → q.begun.value ≡ base → q.failed ≡ false → Hands false q → ends base < ends now
+ends-since given failures ends q now base f begun going hands =
+    let o = over-of q going hands.1 in
+    subst (λ s. ends s < ends now) begun (f.over o.stopped going)
+
+-- a read of the source failed
+pub fails-since : {S : Type 0} (given : S → List ℕ) (failures ends : S → ℕ) (q : Pieces S) (now base : S) → Follows given failures ends q now → q.begun.value ≡ base → q.failed ≡ true → failures base < failures now
+fails-since given failures ends q now base f begun failed = subst (λ s. failures s < failures now) begun (f.broken failed)

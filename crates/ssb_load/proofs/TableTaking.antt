@@ -1,5 +1,6 @@
 -- A table on its way: a record that is refused, and what the end says.
 use Rattle.std.proofs.Common.{◌≡◌, ◌∙◌, ◌++◌, ◌<◌, ℕ, List, [], ◌∷◌, Option, None, Some, Ok, Err, IfSome, refl, sym, ap}
+use Rattle.std.proofs.lemmas.List.{append-nil}
 use Rattle.ssb_cells.specs.Cell.{Filled}
 use Rattle.ssb_load.specs.Subject as intake
 use Rattle.ssb_cells.specs.Lawful.{HasOneKey, IsLawful}
@@ -18,7 +19,7 @@ use Rattle.ssb_load.proofs.FaultFacts.{fault-here}
 use Rattle.ssb_load.proofs.HoldsFacts.{same-fault}
 use Rattle.ssb_load.proofs.LawfulFacts.{lawful}
 use Rattle.ssb_records.proofs.LineRecords.{good-lines}
-use Rattle.ssb_records.proofs.TakingAll.{of-all, refused-fails, refused-in}
+use Rattle.ssb_records.proofs.TakingAll.{always, grows, of-all, refused-fails, refused-in}
 
 -- a faulty record behind good ones is refused for its fault
 pub refuses-here : (t : TableIntake) (good rest : List Fields) (r : Fields) (e : LoadFault) → IsLoading t good → IsFaultBy t.rules.items t.max_rows t.accepted t.loader.seen.keys r e
@@ -95,6 +96,25 @@ loads-stopped given failures ends known s rules m before after e is grows whole 
       lawful = tt;
       faults = fault-kind s rules m bytes e is stops.fails;
     }
+
+-- memory was refused
+pub loads-no-memory : {S : Type 0} (given : S → List ℕ) (failures ends : S → ℕ) (known : S → Option (List ℕ)) (rules : List Rule) (m : ℕ) (before after : S) → given after ≡ given before ++ given_since (given before) (given after)
+    → known after ≡ known before → LoadsFrom given failures ends known rules m before after (Err load.Memory)
+loads-no-memory given failures ends known rules m before after grows whole = record {
+  grows = grows;
+  whole = whole;
+  loads = tt;
+  ended = tt;
+  told = always (known before) _ (λ all is. tt);
+  broken = tt;
+  short = tt;
+  lawful = tt;
+  faults = tt;
+}
+
+-- memory was refused before anything was read
+pub loads-nothing : {S : Type 0} (given : S → List ℕ) (failures ends : S → ℕ) (known : S → Option (List ℕ)) (rules : List Rule) (m : ℕ) (source : S) → LoadsFrom given failures ends known rules m source source (Err load.Memory)
+loads-nothing given failures ends known rules m source = loads-no-memory given failures ends known rules m source source (grows (given source) [] (given source) (sym (append-nil (given source)))) refl
 
 -- a record of bytes that are all of a source's, where these are known, was refused
 pub refused-stops : {S : Type 0} (given : S → List ℕ) (known : S → Option (List ℕ)) (s : intake.Subject) (before after : S) (e : LoadFault) → known after ≡ known before → IfSome (known after) (λ all. given after ≡ all)

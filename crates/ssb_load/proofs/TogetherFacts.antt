@@ -1,5 +1,5 @@
 -- Sources that are read side by side: why they stop, said of the bytes given and of all bytes.
-use Rattle.std.proofs.Common.{◌≡◌, ◌∙◌, ◌<◌, ◌++◌, ℕ, List, [], length, take, drop, sym, ap, subst, arith, append_assoc}
+use Rattle.std.proofs.Common.{◌≡◌, ◌∙◌, ◌<◌, ◌++◌, ◌∷◌, ℕ, List, [], length, length-append, take, drop, sym, ap, subst, arith, append_assoc}
 use Rattle.std.specs.List.{All}
 use Rattle.std.specs.Prelude.{Vec}
 use Rattle.std.specs.declared.alloc.Global.{Global}
@@ -76,3 +76,10 @@ no-read s rs load.Memory P h = tt
 -- a count that rose is above nothing
 pub more-ends : (before after : ℕ) → before < after → 0 < after
 more-ends before after more = omega (arith, more)
+
+-- a list that has one item more is longer
+pub one-more : {A : Type 0} (old now : List A) (x : A) → now ≡ old ++ x ∷ [] → length old < length now
+one-more old now x e =
+    let n = length-append old (x ∷ []) in
+    let l = ap length e in
+    omega (arith, n, l)

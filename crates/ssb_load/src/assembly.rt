@@ -25,7 +25,6 @@ use std::mem;
 
 // The columns of the parts that are done, the rows on their way, and the bytes behind the last line
 // feed. The line that a part ends and another begins goes to the rows before it.
-#[derive(Drop)]
 pub(crate) struct Assembly {
     pub done: Vec<Vec<Column>>,
     // How many rows the parts that are done have.
@@ -34,6 +33,22 @@ pub(crate) struct Assembly {
     pub pending: Vec<u8>,
     // Whether a line feed has come.
     pub is_cut: bool,
+}
+
+// Written out, so that what lets go of one need not say how its parts are let go.
+impl Drop for Assembly {
+    fn drop(self) {
+        let Assembly {
+            done,
+            earlier: _,
+            last,
+            pending,
+            is_cut: _,
+        } = self;
+        drop(done);
+        drop(last);
+        drop(pending);
+    }
 }
 
 // What stands before the bytes that wait, for the reader of records.
@@ -61,11 +76,10 @@ impl Assembly {
         ensures subject { IfOk result (λ a. subject_in a ≡ table rules.now max_rows) }
         ensures none { IfOk result (λ a. IsAssembled a []) }
     {
-        let rules: Vec<Rule> = rules.iter().copied().collect(alloc)?;
         Ok(Assembly {
             done: Vec::new(alloc),
             earlier: 0,
-            last: TableIntake::new(alloc, rules, max_rows)?,
+            last: TableIntake::under(alloc, rules, max_rows)?,
             pending: Vec::new(alloc),
             is_cut: false,
         })

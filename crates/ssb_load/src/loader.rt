@@ -20,10 +20,18 @@ use ssb_terms::Rule;
 use std::alloc::{AllocError, Global};
 use std::collections::HashSet;
 
-#[derive(Drop)]
 pub(crate) struct Loader {
     seen: HashSet<i64>,
     columns: Vec<Column>,
+}
+
+// Written out, so that what lets go of one need not say how its parts are let go.
+impl Drop for Loader {
+    fn drop(self) {
+        let Loader { seen, columns } = self;
+        drop(seen);
+        drop(columns);
+    }
 }
 
 // The number that a field's value is. A text may spell one, where a key is no number.
@@ -126,13 +134,15 @@ impl Loader {
         requires long { AreLong (rows_in self.columns.items) self.columns.items }
         ensures { result ≡ self.columns.items }
     {
-        Table::new(self.columns)
+        Table::new(self.into_columns())
     }
 
     pub(crate) fn into_columns(self) -> Vec<Column>
         ensures { result ≡ self.columns }
     {
-        self.columns
+        let Loader { seen, columns } = self;
+        drop(seen);
+        columns
     }
 
     // Takes one more record after so many good ones, or says why not.

@@ -60,11 +60,10 @@ impl Part {
         ensures part { IfOk result (λ p. IsPart p []) }
         ensures tail { IfOk result (λ p. p.tail.items ≡ []) }
     {
-        let rules: Vec<Rule> = rules.iter().copied().collect(alloc)?;
         Ok(Part {
             head: Vec::new(alloc),
             is_cut: false,
-            rows: TableIntake::new(alloc, rules, max_rows)?,
+            rows: TableIntake::under(alloc, rules, max_rows)?,
             tail: Vec::new(alloc),
         })
     }

@@ -11,13 +11,19 @@ use ssb_terms::Rule;
 use std::alloc::{AllocError, Global};
 
 // The rules, how many rows there may be, and the rows so far.
-#[derive(Drop)]
 pub(crate) struct TableIntake {
     rules: Vec<Rule>,
     key: Option<usize>,
     pub max_rows: u32,
     pub accepted: u64,
     loader: Loader,
+}
+
+// Written out, so that what lets go of one need not say how its parts are let go.
+impl Drop for TableIntake {
+    fn drop(self) {
+        drop(self.into_loader());
+    }
 }
 
 impl TableIntake {
@@ -47,6 +53,20 @@ impl TableIntake {
         })
     }
 
+    // The same, under a copy of these rules.
+    pub(crate) fn under(
+        alloc: Global,
+        rules: &[Rule],
+        max_rows: u32,
+    ) -> Result<TableIntake, AllocError>
+        ensures subject { IfOk result (λ t. subject_of t ≡ table rules.now max_rows) }
+        ensures stands { IfOk result (λ t. IsLoading t []) }
+    {
+        let mut own = Vec::with_capacity(alloc, rules.len())?;
+        own.extend_from_slice(rules)?;
+        TableIntake::new(alloc, own, max_rows)
+    }
+
     // What its columns take.
     pub(crate) fn rules(&self) -> &[Rule]
         ensures { result.now ≡ self.now.rules.items }
@@ -60,14 +80,29 @@ impl TableIntake {
         requires stands { (good : List Fields) × IsLoading self good }
         ensures { (good : List Fields) → IsLoading self good → result ≡ columns_of self.rules.items good }
     {
-        self.loader.into_table()
+        self.into_loader().into_table()
     }
 
     // The columns of the records that were taken.
     pub(crate) fn into_columns(self) -> Vec<Column>
         ensures { (good : List Fields) → IsLoading self good → result.items ≡ columns_of self.rules.items good }
     {
-        self.loader.into_columns()
+        self.into_loader().into_columns()
+    }
+
+    // The rows alone.
+    fn into_loader(self) -> Loader
+        ensures { result ≡ self.loader }
+    {
+        let TableIntake {
+            loader,
+            rules,
+            key: _,
+            max_rows: _,
+            accepted: _,
+        } = self;
+        drop(rules);
+        loader
     }
 }
 

@@ -25,6 +25,12 @@ small_at ts = number_at ts >>= λ x. if nat_le x.0 9223372036854775807 then Some
 unfoldable pub below_at : Parser ℤ
 below_at ts = number_at ts >>= λ x. if nat_le x.0 9223372036854775807 then Some (neg_ℤ (pos x.0), x.1) else None
 
+abbrev pub small_literal_at : Parser Literal
+small_literal_at ts = small_at ts >>= λ x. Some (l.Number x.0, x.1)
+
+abbrev pub below_literal_at : Parser Literal
+below_literal_at ts = below_at ts >>= λ x. Some (l.Number x.0, x.1)
+
 unfoldable pub plain_literal_at : Parser Literal
 plain_literal_at (Text t ∷ ts) = Some (l.Text t, ts)
 plain_literal_at ts = small_at ts >>= λ x. Some (l.Number x.0, x.1)

@@ -1,11 +1,12 @@
 // Reading conditions. Only parentheses nest.
 
-ghost use Rattle.std.specs.Prelude.{◌≡◌, [], ◌∷◌};
+ghost use Rattle.std.specs.Prelude.{◌≡◌, [], ◌∷◌, Some};
 ghost use Rattle.ssb_sql.specs.Reading.{seen};
 ghost use Rattle.ssb_sql.specs.Steps.{Gives, Makes, after, made_at, closed_at};
 ghost use Rattle.ssb_sql.specs.ReadConditions.{neg_at, conj_at, cond_at, test_at};
 ghost use Rattle.ssb_terms.specs.declared.keyword.Keyword.TheVariants as words;
 ghost use Rattle.ssb_sql.specs.declared.token.Sign.TheVariants as s;
+ghost use Rattle.ssb_trees.specs.declared.condition.Condition.TheVariants as c;
 
 use crate::chain::made;
 use crate::read_parts::Subject;
@@ -31,6 +32,13 @@ fn test<C: Subject>(alloc: Global, depth: usize, tokens: &[Token]) -> Parsed<'_,
     }
 }
 
+// A condition behind its NOT.
+fn negated<C: Drop>(alloc: Global, found: Filter<C>, rest: &[Token]) -> Parsed<'_, Filter<C>>
+    ensures { Gives seen result (Some (c.Not found, rest.now)) }
+{
+    Ok((Condition::Not(Boxed::new(alloc, found)?), rest))
+}
+
 #[cycle(condition)]
 #[tactic(auto, unfolding(crate::specs::ReadConditions::neg_at))]
 fn negation<C: Subject>(alloc: Global, depth: usize, tokens: &[Token]) -> Parsed<'_, Filter<C>>
@@ -39,7 +47,7 @@ fn negation<C: Subject>(alloc: Global, depth: usize, tokens: &[Token]) -> Parsed
     match after(tokens, Sign::Word(Keyword::Not)) {
         Some(rest) => {
             let (found, rest) = test(alloc, depth, rest)?;
-            Ok((Condition::Not(Boxed::new(alloc, found)?), rest))
+            negated(alloc, found, rest)
         }
         None => test(alloc, depth, tokens),
     }

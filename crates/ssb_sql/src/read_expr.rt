@@ -1,6 +1,6 @@
 // Reading expressions. Only parentheses nest.
 
-ghost use Rattle.std.specs.Prelude.{◌≡◌, [], ◌∷◌, IfOk};
+ghost use Rattle.std.specs.Prelude.{◌≡◌, [], ◌∷◌, Some};
 ghost use Rattle.ssb_sql.specs.Expressions.{sum_of};
 ghost use Rattle.ssb_sql.specs.Reading.{seen, seen_if};
 ghost use Rattle.ssb_sql.specs.Steps.{Gives, Makes, after, made_at, more_at, closed_at};
@@ -16,20 +16,21 @@ use crate::token::{Mark, Sign, Token};
 use sqlite_items::{Boxed, Items};
 use ssb_terms::Adding;
 use ssb_trees::{Expr, Step};
-use std::alloc::{AllocError, Global};
+use std::alloc::Global;
 
 #[tactic(auto, using(crate::proofs::Chains::sum_one, crate::proofs::Chains::sum_many))]
 fn sum_of(
     alloc: Global,
     first: Expr<ColumnName>,
     steps: Items<Step<ColumnName>>,
-) -> Result<Expr<ColumnName>, AllocError>
-    ensures { IfOk result (λ x. x ≡ sum_of first steps) }
+    rest: &[Token],
+) -> Parsed<'_, Expr<ColumnName>>
+    ensures { Gives seen result (Some (sum_of first steps, rest.now)) }
 {
     if steps.len() == 0 {
-        Ok(first)
+        Ok((first, rest))
     } else {
-        Ok(Expr::Chain(Boxed::new(alloc, first)?, steps))
+        Ok((Expr::Chain(Boxed::new(alloc, first)?, steps), rest))
     }
 }
 
@@ -65,13 +66,14 @@ fn signed(
     alloc: Global,
     sign: Adding,
     found: Expr<ColumnName>,
-) -> Result<Expr<ColumnName>, AllocError>
-    ensures { IfOk result (λ x. x ≡ signed sign found) }
+    rest: &[Token],
+) -> Parsed<'_, Expr<ColumnName>>
+    ensures { Gives seen result (Some (signed sign found, rest.now)) }
 {
     let inner = Boxed::new(alloc, found)?;
     match sign {
-        Adding::Plus => Ok(Expr::Positive(inner)),
-        Adding::Minus => Ok(Expr::Negative(inner)),
+        Adding::Plus => Ok((Expr::Positive(inner), rest)),
+        Adding::Minus => Ok((Expr::Negative(inner), rest)),
     }
 }
 
@@ -97,7 +99,7 @@ fn factor(alloc: Global, depth: usize, tokens: &[Token]) -> Parsed<'_, Expr<Colu
     match adding(tokens) {
         Some((sign, rest)) => {
             let (found, rest) = primary(alloc, depth, rest)?;
-            Ok((signed(alloc, sign, found)?, rest))
+            signed(alloc, sign, found, rest)
         }
         None => primary(alloc, depth, tokens),
     }
@@ -146,12 +148,6 @@ pub(crate) fn expression(
         return Err(Stop::Syntax);
     }
     let (first, rest) = term(alloc, depth - 1, tokens)?;
-    match more_terms(alloc, depth - 1, rest) {
-        Ok((steps, rest)) => Ok((sum_of(alloc, first, steps)?, rest)),
-        Err(stop) => {
-            // By a call, since the prover writes out all that an expression may be where a scope's end lets go of it.
-            drop(first);
-            Err(stop)
-        }
-    }
+    let (steps, rest) = more_terms(alloc, depth - 1, rest)?;
+    sum_of(alloc, first, steps, rest)
 }

@@ -64,14 +64,10 @@ fn aggregate(
 {
     let inside = expect(tokens, Sign::Mark(Mark::Open))?;
     match star(function, inside) {
-        Some(rest) => {
-            let rest = expect(rest, Sign::Mark(Mark::Close))?;
-            Ok((Aggregate::Rows, rest))
-        }
+        Some(rest) => closing(Aggregate::Rows, rest),
         None => {
             let (found, rest) = expression(alloc, depth, inside)?;
-            let (found, rest) = closing(found, rest)?;
-            Ok((Aggregate::Of(function, found), rest))
+            closing(Aggregate::Of(function, found), rest)
         }
     }
 }
@@ -119,7 +115,8 @@ fn item(alloc: Global, depth: usize, tokens: &[Token]) -> Parsed<'_, Item>
     ensures { Gives seen result (item_at depth tokens.now) }
 {
     let (output, rest) = output(alloc, depth, tokens)?;
-    alias_if(alloc, rest).map(|(alias, rest)| (Item { output, alias }, rest))
+    let (alias, rest) = alias_if(alloc, rest)?;
+    Ok((Item { output, alias }, rest))
 }
 
 pub(crate) fn items(alloc: Global, depth: usize, tokens: &[Token]) -> Parsed<'_, Items<Item>>

@@ -3,7 +3,7 @@
 ghost use Rattle.std.specs.Prelude.{◌≡◌, ℕ, ◌∷◌, [], length, ◌<◌};
 ghost use Rattle.ssb_sql.specs.Reading.{seen};
 ghost use Rattle.ssb_sql.specs.Steps.{Gives, Parser, after, list_at, name_at, nonempty_at};
-ghost use Rattle.ssb_sql.specs.ReadParts.{column_at, small_at, below_at, plain_literal_at, literal_at, operand_at};
+ghost use Rattle.ssb_sql.specs.ReadParts.{column_at, small_literal_at, below_literal_at, plain_literal_at, literal_at, operand_at};
 ghost use Rattle.ssb_sql.specs.declared.token.Sign.TheVariants as s;
 
 use crate::named::ColumnName;
@@ -19,10 +19,11 @@ pub(crate) fn column(alloc: Global, tokens: &[Token]) -> Parsed<'_, ColumnName>
 {
     let (found, rest) = name(alloc, tokens)?;
     match after(rest, Sign::Mark(Mark::Dot)) {
-        Some(rest) => name(alloc, rest).map(|(column, rest)| {
+        Some(rest) => {
+            let (column, rest) = name(alloc, rest)?;
             let table = Some(found);
-            (ColumnName { table, column }, rest)
-        }),
+            Ok((ColumnName { table, column }, rest))
+        }
         None => {
             let (table, column) = (None, found);
             Ok((ColumnName { table, column }, rest))
@@ -32,12 +33,12 @@ pub(crate) fn column(alloc: Global, tokens: &[Token]) -> Parsed<'_, ColumnName>
 
 // A number that fits in 64 bits with a sign.
 #[tactic(auto, unfolding(crate::specs::ReadParts::small_at))]
-fn small(tokens: &[Token]) -> Parsed<'_, i64>
-    ensures { Gives seen result (small_at tokens.now) }
+fn small(tokens: &[Token]) -> Parsed<'_, Literal>
+    ensures { Gives seen result (small_literal_at tokens.now) }
 {
     let (found, rest) = number(tokens)?;
     if found <= 9223372036854775807 {
-        Ok((found as i64, rest))
+        Ok((Literal::Number(found as i64), rest))
     } else {
         Err(Stop::Syntax)
     }
@@ -45,12 +46,12 @@ fn small(tokens: &[Token]) -> Parsed<'_, i64>
 
 // A number as it stands behind a `-`: one of 0 or below that fits in 64 bits with a sign.
 #[tactic(auto, unfolding(crate::specs::ReadParts::below_at))]
-fn below(tokens: &[Token]) -> Parsed<'_, i64>
-    ensures { Gives seen result (below_at tokens.now) }
+fn below(tokens: &[Token]) -> Parsed<'_, Literal>
+    ensures { Gives seen result (below_literal_at tokens.now) }
 {
     let (found, rest) = number(tokens)?;
     if found <= 9223372036854775807 {
-        Ok((-(found as i64), rest))
+        Ok((Literal::Number(-(found as i64)), rest))
     } else {
         Err(Stop::Syntax)
     }
@@ -62,10 +63,7 @@ fn plain_literal(alloc: Global, tokens: &[Token]) -> Parsed<'_, Literal>
 {
     match tokens {
         [Token::Text(text), rest @ ..] => Ok((Literal::Text(text.copy(alloc)?), rest)),
-        _ => {
-            let (number, rest) = small(tokens)?;
-            Ok((Literal::Number(number), rest))
-        }
+        _ => small(tokens),
     }
 }
 
@@ -74,12 +72,10 @@ pub(crate) fn literal(alloc: Global, tokens: &[Token]) -> Parsed<'_, Literal>
     ensures { Gives seen result (literal_at tokens.now) }
 {
     if let Some(rest) = after(tokens, Sign::Mark(Mark::Plus)) {
-        let (number, rest) = small(rest)?;
-        return Ok((Literal::Number(number), rest));
+        return small(rest);
     }
     if let Some(rest) = after(tokens, Sign::Mark(Mark::Minus)) {
-        let (number, rest) = below(rest)?;
-        return Ok((Literal::Number(number), rest));
+        return below(rest);
     }
     plain_literal(alloc, tokens)
 }

@@ -125,7 +125,8 @@ fn kept(
     ensures { Gives (λ x. x) result (kept_at depth tokens.now) }
 {
     let (having, rest) = condition_if(alloc, Keyword::Having, depth + 1, tokens)?;
-    ordered(alloc, rest).map(|orders| (having, orders))
+    let orders = ordered(alloc, rest)?;
+    Ok((having, orders))
 }
 
 // GROUP BY, and what follows.
@@ -139,7 +140,8 @@ fn grouped(
     ensures { Gives (λ x. x) result (grouped_at depth tokens.now) }
 {
     let (groups, rest) = by(alloc, Keyword::Group, tokens, |list| columns(alloc, list))?;
-    kept(alloc, depth, rest).map(|(having, orders)| (groups, having, orders))
+    let (having, orders) = kept(alloc, depth, rest)?;
+    Ok((groups, having, orders))
 }
 
 // WHERE, and what follows.
@@ -149,7 +151,8 @@ fn filtered(alloc: Global, depth: usize, tokens: &[Token]) -> Result<Clauses, St
     ensures { Gives (λ x. x) result (filtered_at depth tokens.now) }
 {
     let (condition, rest) = condition_if(alloc, Keyword::Where, depth + 1, tokens)?;
-    grouped(alloc, depth, rest).map(|(groups, having, orders)| (condition, groups, having, orders))
+    let (groups, having, orders) = grouped(alloc, depth, rest)?;
+    Ok((condition, groups, having, orders))
 }
 
 // The tables of FROM.
@@ -168,7 +171,8 @@ fn joined(alloc: Global, depth: usize, tokens: &[Token]) -> Result<(Items<Name>,
 {
     let start = expect(tokens, Sign::Word(Keyword::From))?;
     let (from, rest) = tables(alloc, start)?;
-    filtered(alloc, depth, rest).map(|clauses| (from, clauses))
+    let clauses = filtered(alloc, depth, rest)?;
+    Ok((from, clauses))
 }
 
 /// Reads a query up to its end, with at most `depth` open parentheses.

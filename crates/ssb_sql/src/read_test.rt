@@ -51,7 +51,8 @@ fn limits<C: Subject>(
 {
     let (low, rest) = operand(alloc, depth, tokens)?;
     let (low, rest) = followed(low, Sign::Word(Keyword::And), rest)?;
-    operand(alloc, depth, rest).map(|(high, rest)| ((low, high), rest))
+    let (high, rest) = operand(alloc, depth, rest)?;
+    Ok(((low, high), rest))
 }
 
 // IN and the literals in its parentheses.
@@ -107,12 +108,13 @@ fn range<C: Subject>(
     ensures { Gives seen result (range_at (C.read_at depth) negated operand tokens.now) }
 {
     match after(tokens, Sign::Word(Keyword::Between)) {
-        Some(rest) => limits(alloc, depth, rest).map(|(limits, rest)| (
-            between_of(negated, operand, limits),
-            rest,
-        )),
+        Some(rest) => {
+            let (limits, rest) = limits(alloc, depth, rest)?;
+            Ok((between_of(negated, operand, limits), rest))
+        }
         None => {
-            among(alloc, tokens).map(|(members, rest)| (in_of(negated, operand, members), rest))
+            let (members, rest) = among(alloc, tokens)?;
+            Ok((in_of(negated, operand, members), rest))
         }
     }
 }
@@ -120,7 +122,7 @@ fn range<C: Subject>(
 fn null_of<C: Drop>(negated: bool, operand: Operand<C>) -> Option<Filter<C>>
     ensures { result ≡ null_of negated operand }
 {
-    match operand {
+    match &operand {
         Operand::Column(_) if negated => Some(Condition::IsNotNull(operand)),
         Operand::Column(_) => Some(Condition::IsNull(operand)),
         Operand::Literal(_) => None,
@@ -161,10 +163,10 @@ fn compared<C: Subject>(
     ensures { Gives seen result (compared_at (C.read_at depth) left tokens.now) }
 {
     match op(tokens) {
-        Some((op, rest)) => operand(alloc, depth, rest).map(|(right, rest)| (
-            Condition::Compare(op, left, right),
-            rest,
-        )),
+        Some((op, rest)) => {
+            let (right, rest) = operand(alloc, depth, rest)?;
+            Ok((Condition::Compare(op, left, right), rest))
+        }
         None => range(alloc, depth, false, left, tokens),
     }
 }

@@ -15,8 +15,10 @@ use std::alloc::{AllocError, Global};
 pub(crate) fn next(bytes: &[u8]) -> Option<(u8, &[u8])>
     ensures { seen_if result ≡ first bytes.now }
 {
-    let (byte, rest) = bytes.split_first()?;
-    Some((*byte, rest))
+    match bytes {
+        [byte, rest @ ..] => Some((*byte, rest)),
+        [] => None,
+    }
 }
 
 fn begins_with_dash(bytes: &[u8]) -> bool
@@ -79,22 +81,18 @@ pub(crate) fn skip(bytes: &[u8]) -> &[u8]
 fn next_word_byte(bytes: &[u8]) -> Option<(u8, &[u8])>
     ensures { seen_if result ≡ first_if is_word_byte bytes.now }
 {
-    let (byte, rest) = bytes.split_first()?;
-    if is_word_byte(*byte) {
-        Some((*byte, rest))
-    } else {
-        None
+    match bytes {
+        [byte, rest @ ..] if is_word_byte(*byte) => Some((*byte, rest)),
+        _ => None,
     }
 }
 
 fn next_digit(bytes: &[u8]) -> Option<(u8, &[u8])>
     ensures { seen_if result ≡ first_if is_ascii_digit bytes.now }
 {
-    let (byte, rest) = bytes.split_first()?;
-    if byte.is_ascii_digit() {
-        Some((*byte, rest))
-    } else {
-        None
+    match bytes {
+        [byte, rest @ ..] if byte.is_ascii_digit() => Some((*byte, rest)),
+        _ => None,
     }
 }
 
@@ -149,11 +147,10 @@ fn closing(bytes: &[u8]) -> (Option<u8>, &[u8])
 fn next_piece(bytes: &[u8]) -> Option<(Option<u8>, &[u8])>
     ensures { seen_if result ≡ piece_at bytes.now }
 {
-    let (byte, rest) = bytes.split_first()?;
-    if *byte == b'\'' {
-        Some(closing(rest))
-    } else {
-        Some((Some(*byte), rest))
+    match bytes {
+        [b'\'', rest @ ..] => Some(closing(rest)),
+        [byte, rest @ ..] => Some((Some(*byte), rest)),
+        [] => None,
     }
 }
 

@@ -46,11 +46,9 @@ pub(crate) fn is_fixed(token: &Token, sign: Sign) -> bool
 pub(crate) fn after(tokens: &[Token], sign: Sign) -> Option<&[Token]>
     ensures { option_copied result ≡ after sign tokens.now }
 {
-    let (token, rest) = tokens.split_first()?;
-    if is_fixed(token, sign) {
-        Some(rest)
-    } else {
-        None
+    match tokens {
+        [token, rest @ ..] if is_fixed(token, sign) => Some(rest),
+        _ => None,
     }
 }
 

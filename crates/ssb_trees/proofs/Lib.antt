@@ -4,4 +4,5 @@ pub mod Finding
 pub mod Forms
 pub mod InOrder
 pub mod Mapping
+pub mod Sizes
 pub mod Turns

@@ -1,5 +1,6 @@
 -- The same trees over other leaves.
-use Rattle.std.proofs.Common.{◌≡◌, ℕ, ◌+◌, ◌<◌, List, [], ◌∷◌, ◌++◌, length, get_or, take, map, refl, sym, ap, ◌∙◌, subst}
+use Rattle.std.proofs.Common.{◌≡◌, ℕ, ◌+◌, ◌<◌, List, [], ◌∷◌, ◌++◌, length, get_or, take, map, Result, Ok, Err, refl, sym, ap, ◌∙◌, subst}
+use Rattle.std.specs.Result.{IfOk, IsOkAnd, MatchResult}
 use Rattle.std.proofs.lemmas.List.{take_more, map-append}
 use Rattle.ssb_trees.specs.Conditions.{mapped, mapped_layer}
 use Rattle.ssb_trees.specs.Expressions as expressions
@@ -13,6 +14,13 @@ use Rattle.ssb_trees.specs.declared.condition.Condition.TheViews.{roll-Condition
 use Rattle.ssb_trees.specs.declared.expr.Expr.{Expr}
 use Rattle.ssb_trees.specs.declared.expr.Expr.TheFolds.{fold_out-Step}
 use Rattle.ssb_trees.specs.declared.expr.Step.{Step}
+
+-- what a constructor makes of what was made
+pub made_of : {A B E : Type 0} (r : Result A E) (s : Result B E) (f : A → B) (P : A → Type 0) (Q : B → Type 0) → MatchResult r (λ x. IsOkAnd s (λ y. y ≡ f x)) (λ e. s ≡ Err e) → IfOk r P → ((x : A) → P x → Q (f x)) → IfOk s Q
+made_of (Ok x) (Ok y) f P Q h p then = subst Q (sym h) (then x p)
+made_of (Ok x) (Err e) f P Q h p then = tt
+made_of (Err e) (Ok y) f P Q h p then = absurd cc
+made_of (Err e) (Err d) f P Q h p then = tt
 
 -- one more of what a function makes of each
 pub map_more : {X Y : Type 0} (f : X → Y) (xs : List X) (i : ℕ) (x : X) → i < length xs → x ≡ get_or xs i x → map f (take (i + 1) xs) ≡ map f (take i xs) ++ f x ∷ []

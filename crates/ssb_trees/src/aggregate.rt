@@ -16,10 +16,19 @@ pub enum SetFunction {
 }
 
 /// What is computed over rows.
-#[derive(Drop)]
 pub enum Aggregate<C> {
     /// How many rows there are: COUNT(*).
     Rows,
     /// A set function of an expression's values, those that are not null.
     Of(SetFunction, Expr<C>),
+}
+
+// Written out, so that the crates above need no proof of how its parts are let go.
+impl<C: Drop> Drop for Aggregate<C> {
+    fn drop(self) {
+        match self {
+            Aggregate::Rows => {}
+            Aggregate::Of(_, expr) => drop(expr),
+        }
+    }
 }

@@ -4,7 +4,6 @@ use sqlite_items::{Boxed, Items};
 use ssb_terms::{Literal, Op};
 
 /// A condition over operands. Parentheses round one thing leave no trace.
-#[derive(Drop)]
 pub enum Condition<O> {
     /// Two or more, joined by OR.
     Any(Items<Condition<O>>),
@@ -26,4 +25,28 @@ pub enum Condition<O> {
     IsNull(O),
     /// Whether the operand has a value.
     IsNotNull(O),
+}
+
+// Written out, so that the crates above need no proof of how the parts of a condition are let go.
+impl<O: Drop> Drop for Condition<O> {
+    fn drop(self) {
+        match self {
+            Condition::Any(parts) | Condition::All(parts) => drop(parts),
+            Condition::Not(part) => drop(part),
+            Condition::Compare(_, a, b) => {
+                drop(a);
+                drop(b);
+            }
+            Condition::Between(x, a, b) | Condition::NotBetween(x, a, b) => {
+                drop(x);
+                drop(a);
+                drop(b);
+            }
+            Condition::In(x, literals) | Condition::NotIn(x, literals) => {
+                drop(x);
+                drop(literals);
+            }
+            Condition::IsNull(x) | Condition::IsNotNull(x) => drop(x),
+        }
+    }
 }

@@ -4,7 +4,6 @@ use sqlite_items::{Boxed, Items};
 use ssb_terms::Adding;
 
 /// A further term of a chain, with the sign before it.
-#[derive(Drop)]
 #[cycle(expr)]
 pub struct Step<C> {
     /// Whether the term is added or taken away.
@@ -15,7 +14,6 @@ pub struct Step<C> {
 
 /// An expression over columns. Its chains are taken from left to right, and parentheses round one thing
 /// leave no trace.
-#[derive(Drop)]
 #[cycle(expr)]
 pub enum Expr<C> {
     /// A column.
@@ -30,4 +28,29 @@ pub enum Expr<C> {
     Chain(Boxed<Expr<C>>, Items<Step<C>>),
     /// Two or more factors.
     Times(Items<Expr<C>>),
+}
+
+// Written out, so that the crates above need no proof of how the parts of an expression are let go.
+impl<C: Drop> Drop for Step<C> {
+    #[cycle(drop)]
+    fn drop(self) {
+        let Step { adding: _, term } = self;
+        drop(term);
+    }
+}
+
+impl<C: Drop> Drop for Expr<C> {
+    #[cycle(drop)]
+    fn drop(self) {
+        match self {
+            Expr::Column(column) => drop(column),
+            Expr::Number(_) => {}
+            Expr::Positive(part) | Expr::Negative(part) => drop(part),
+            Expr::Chain(first, steps) => {
+                drop(first);
+                drop(steps);
+            }
+            Expr::Times(factors) => drop(factors),
+        }
+    }
 }

@@ -74,17 +74,15 @@ fn mapped_condition<O, P: Drop, M: LeavesInOrder<O, P>>(
     ensures { let r = in_order _ _ _ M.given M.next condition.now operands.old in IfOk result (λ c. (c ≡ r.0) × (operands.new ≡ r.1)) }
 {
     match condition {
-        Condition::Any(parts) => {
-            let parts = mapped_parts(alloc, operands, parts.as_slice())?;
-            Ok(Condition::Any(parts))
-        }
-        Condition::All(parts) => {
-            let parts = mapped_parts(alloc, operands, parts.as_slice())?;
-            Ok(Condition::All(parts))
-        }
+        Condition::Any(parts) => mapped_parts(alloc, operands, parts.as_slice()).map(
+            Condition::Any,
+        ),
+        Condition::All(parts) => mapped_parts(alloc, operands, parts.as_slice()).map(
+            Condition::All,
+        ),
         Condition::Not(part) => {
             let part = mapped_condition(alloc, operands, part.get())?;
-            Ok(Condition::Not(Boxed::new(alloc, part)?))
+            Boxed::new(alloc, part).map(Condition::Not)
         }
         Condition::Compare(op, a, b) => {
             let (a, b) = mapped_two(alloc, operands, a, b)?;
@@ -106,8 +104,8 @@ fn mapped_condition<O, P: Drop, M: LeavesInOrder<O, P>>(
             let (x, literals) = mapped_test(alloc, operands, x, literals.as_slice())?;
             Ok(Condition::NotIn(x, literals))
         }
-        Condition::IsNull(x) => Ok(Condition::IsNull(operands.leaf(alloc, x)?)),
-        Condition::IsNotNull(x) => Ok(Condition::IsNotNull(operands.leaf(alloc, x)?)),
+        Condition::IsNull(x) => operands.leaf(alloc, x).map(Condition::IsNull),
+        Condition::IsNotNull(x) => operands.leaf(alloc, x).map(Condition::IsNotNull),
     }
 }
 

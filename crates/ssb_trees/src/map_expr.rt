@@ -40,6 +40,19 @@ fn mapped_factors<C, D: Drop, M: Leaves<C, D>>(
     Ok(all)
 }
 
+// A part that is kept by itself: what has a sign, or a chain's first term.
+#[cycle(expr)]
+fn mapped_part<C, D: Drop, M: Leaves<C, D>>(
+    alloc: Global,
+    columns: &M,
+    part: &Expr<C>,
+) -> Made<Boxed<Expr<D>>>
+    ensures { IfOk result (λ e. e ≡ mapped _ _ (M.given columns.now) part.now) }
+{
+    let part = mapped_expr(alloc, columns, part)?;
+    Boxed::new(alloc, part)
+}
+
 #[cycle(expr)]
 fn mapped_expr<C, D: Drop, M: Leaves<C, D>>(
     alloc: Global,
@@ -49,26 +62,16 @@ fn mapped_expr<C, D: Drop, M: Leaves<C, D>>(
     ensures { IfOk result (λ e. e ≡ mapped _ _ (M.given columns.now) expr.now) }
 {
     match expr {
-        Expr::Column(column) => Ok(Expr::Column(columns.leaf(alloc, column)?)),
+        Expr::Column(column) => columns.leaf(alloc, column).map(Expr::Column),
         Expr::Number(number) => Ok(Expr::Number(*number)),
-        Expr::Positive(part) => {
-            let part = mapped_expr(alloc, columns, part.get())?;
-            Ok(Expr::Positive(Boxed::new(alloc, part)?))
-        }
-        Expr::Negative(part) => {
-            let part = mapped_expr(alloc, columns, part.get())?;
-            Ok(Expr::Negative(Boxed::new(alloc, part)?))
-        }
+        Expr::Positive(part) => mapped_part(alloc, columns, part.get()).map(Expr::Positive),
+        Expr::Negative(part) => mapped_part(alloc, columns, part.get()).map(Expr::Negative),
         Expr::Chain(first, steps) => {
-            let first = mapped_expr(alloc, columns, first.get())?;
-            let first = Boxed::new(alloc, first)?;
+            let first = mapped_part(alloc, columns, first.get())?;
             let steps = mapped_steps(alloc, columns, steps.as_slice())?;
             Ok(Expr::Chain(first, steps))
         }
-        Expr::Times(factors) => {
-            let factors = mapped_factors(alloc, columns, factors.as_slice())?;
-            Ok(Expr::Times(factors))
-        }
+        Expr::Times(factors) => mapped_factors(alloc, columns, factors.as_slice()).map(Expr::Times),
     }
 }
 

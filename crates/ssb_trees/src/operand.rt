@@ -9,12 +9,21 @@ use ssb_terms::Literal;
 use std::alloc::Global;
 
 /// What a test of WHERE compares.
-#[derive(Drop)]
 pub enum Operand<C> {
     /// A column.
     Column(C),
     /// A number or a text.
     Literal(Literal),
+}
+
+// Written out, so that the crates above need no proof of how its parts are let go.
+impl<C: Drop> Drop for Operand<C> {
+    fn drop(self) {
+        match self {
+            Operand::Column(column) => drop(column),
+            Operand::Literal(literal) => drop(literal),
+        }
+    }
 }
 
 impl<C> Operand<C> {

@@ -11,3 +11,6 @@ returns-in-Some-clause-sizes g c =
       ranges = ranges;
       same = first-and-others spans _ c.index.result.now _ (some-range c.len.result spans ranges) c.index.ensures sizes;
     }
+
+pub returns-in-Some-clause-unread : goal.returns-in-Some-clause-unread
+returns-in-Some-clause-unread g c = rw c.in-Some.is at c.in_ok-later.ensures.unread

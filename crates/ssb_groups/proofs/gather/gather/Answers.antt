@@ -4,6 +4,7 @@ use Rattle.ssb_trees.specs.declared.aggregate.Aggregate.{Aggregate}
 use Rattle.ssb_query.specs.declared.column.BoundColumn.{BoundColumn}
 use Rattle.ssb_job.specs.Kept.{JobShape}
 use Rattle.ssb_groups.proofs.TakenFacts.{Gathers, gathers-more, gathered}
+use Rattle.std.proofs.lemmas.Grind.{common_steps}
 use Rattle.ssb_groups.proofs.gather.gather.Goals as goal
 use Rattle.ssb_groups.proofs.gather.gather.Goals.{then-over, else-over}
 
@@ -38,3 +39,6 @@ returns c =
     let none = nothing-left c.as_slice-aggregate-items.result.now c.loop-aggregate.aggregate-index c.loop-aggregate-test.false in
     let all = subst (λ rest. Gathers j rows c.as_slice-aggregate-items.result.now rest c.loop-aggregate.over c.loop-aggregate.more) none c.loop-aggregate.invariant in
     gathered j rows c.loop-aggregate.over c.loop-aggregate.more (subst (λ x. Gathers j rows x [] c.loop-aggregate.over c.loop-aggregate.more) aggs all)
+
+pub loop-aggregate-init : goal.loop-aggregate-init
+loop-aggregate-init c = grind (arith, common_steps)

@@ -1,4 +1,4 @@
-use Rattle.std.proofs.Common.{◌≡◌, Some, None, refl, sym, ap, subst, ◌∙◌}
+use Rattle.std.proofs.Common.{◌≡◌, Some, None, refl, sym, ap, subst, ◌∙◌, arith}
 use Rattle.std.specs.Map.{lookup}
 use Rattle.std.specs.Prelude.{option_map}
 use Rattle.indexmap.specs.IndexMap.{insert_entry}
@@ -8,6 +8,7 @@ use Rattle.ssb_groups.specs.Rows.{key_eq}
 use Rattle.ssb_groups.specs.Keys.{cells_in, key_columns}
 use Rattle.ssb_groups.proofs.KeyFacts.{keys_equal}
 use Rattle.ssb_groups.proofs.TableFacts.{found, lookup-entries_of, lookup-same, set_value-same, set_value-entries, insert-same, insert-entries, put_present, put_absent, table_eq}
+use Rattle.std.proofs.lemmas.Grind.{common_steps}
 use Rattle.ssb_groups.proofs.table.take_in.Goals as goal
 
 pub join-requires-clause-into : goal.join-requires-clause-into
@@ -46,3 +47,6 @@ returns-in-Ok-clause-entries c =
     let j = c.args.columns.now in
     subst (AreEntries j) (sym (c.in-Ok.ensures.entries ∙ ap (λ m. insert_entry keys_equal m.entries c.args.key c.args.more) c.get_mut.follows.holds-at-none))
     (insert-entries j c.args.key c.args.table.now.entries c.args.more c.requires.key c.requires.more c.requires.entries)
+
+pub returns-in-Some-clause-unique : goal.returns-in-Some-clause-unique
+returns-in-Some-clause-unique c = grind (arith, common_steps)

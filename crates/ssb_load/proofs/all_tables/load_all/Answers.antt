@@ -2,6 +2,7 @@ use Rattle.std.proofs.Common.{◌<◌, ◌≤◌, Err, Ok, add-one, length, refl
 use Rattle.std.specs.Prelude.{slice_set}
 use Rattle.ssb_load.proofs.LoadingAll.{begun-all, begun-length, begun-next, begun-refused, begun-stops, ran-ended, ran-failed, ran-grows, ran-lawful, ran-loads, ran-told}
 use Rattle.ssb_load.proofs.LoadingAll.Begun.{start}
+use Rattle.std.proofs.lemmas.Grind.{common_steps}
 use Rattle.ssb_load.proofs.all_tables.load_all.Goals as goal
 
 pub loop-number-init : goal.loop-number-init
@@ -50,3 +51,15 @@ returns g c =
       lawful = ran-lawful g.S.Source 0 c.args.catalog.now _ _ r all;
       catalog = c.tables-number-end.ensures.lawful;
     }
+
+pub offset_bounds-sources-number : goal.offset_bounds-sources-number
+offset_bounds-sources-number g c = grind (arith, common_steps)
+
+pub overflow_cast-result-in-Err : goal.overflow_cast-result-in-Err
+overflow_cast-result-in-Err g c = grind (arith, common_steps)
+
+pub returns-in_default-clause-told : goal.returns-in_default-clause-told
+returns-in_default-clause-told g c = grind (arith, common_steps)
+
+pub overflow_cast-result : goal.overflow_cast-result
+overflow_cast-result g c = grind (arith, common_steps)

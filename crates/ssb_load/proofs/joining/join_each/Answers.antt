@@ -1,5 +1,6 @@
 use Rattle.std.proofs.Common.{◌≡◌, ◌∙◌, ◌++◌, ◌∷◌, IfOk, ap, arith, get_or, rules, subst, sym}
 use Rattle.ssb_load.proofs.JoiningFacts.{AreCollected, AreJoined, collected-all, collected-next, joined-each, no-more}
+use Rattle.std.proofs.lemmas.Grind.{common_steps}
 use Rattle.ssb_load.proofs.joining.join_each.Goals as goal
 
 pub loop-column-init : goal.loop-column-init
@@ -30,3 +31,6 @@ returns g c =
     let none = c.in-None.ensures.steps.0 in
     let counted = rest.ok.0 in
     collected-all c.args.stacks.items c.loop-column.columns.items rest.items c.loop-column.invariant (no-more rest.items (omega (arith, none, counted)))
+
+pub returns-in_err-push : goal.returns-in_err-push
+returns-in_err-push g c = grind (arith, common_steps)

@@ -1,6 +1,7 @@
 use Rattle.std.proofs.Common.{◌∙◌, ◌∷◌, [], ap, arith, length, length-append, refl, rules, subst, sym}
 use Rattle.ssb_load.specs.Joining.{FitBehind, behind_each}
 use Rattle.ssb_load.proofs.JoiningFacts.{behind-none, length-behind, stack-here, stack-inside, stack-next, yields, yields-all, yields-next}
+use Rattle.std.proofs.lemmas.Grind.{common_steps}
 use Rattle.ssb_load.proofs.joining.stack.Goals as goal
 
 pub loop-column-init : goal.loop-column-init
@@ -43,3 +44,6 @@ returns c =
     let none = c.in-None.ensures.steps.0 in
     let counted = rest.ok.0 in
     inv.stacks ∙ ap (behind_each c.args.stacks.now.items) (yields-all c.loop-column.yielded rest.items _ inv.rest (omega (arith, none, counted)))
+
+pub overflow_add-k : goal.overflow_add-k
+overflow_add-k c = grind (arith, common_steps)

@@ -3,6 +3,7 @@ use Rattle.std.specs.List.{flat_map}
 use Rattle.ssb_load.specs.Assembly.{Halts, IsAssembled, subject_in}
 use Rattle.ssb_load.specs.Joined.{sources_in}
 use Rattle.ssb_load.proofs.LaneFacts.{adding-ends, adding-next, adding-stops, same-set}
+use Rattle.std.proofs.lemmas.Grind.{common_steps}
 use Rattle.ssb_load.proofs.lanes.add_all.Goals as goal
 
 pub returns-in-Err-clause-sources : goal.returns-in-Err-clause-sources
@@ -31,3 +32,12 @@ pub returns-clause-taken : goal.returns-clause-taken
 returns-clause-taken g c =
     let over = c.loop-at-test.false in
     adding-ends g.S.Source.given g.S.Source.ends c.args.assembly.now c.loop-at.assembly c.args.lanes.now c.loop-at.lanes c.loop-at.at c.loop-at.invariant (omega (arith, over))
+
+pub loop-at-init : goal.loop-at-init
+loop-at-init g c = grind (arith, common_steps)
+
+pub add_read-requires-clause-read : goal.add_read-requires-clause-read
+add_read-requires-clause-read g c = grind (arith, common_steps)
+
+pub offset_bounds-lanes-at : goal.offset_bounds-lanes-at
+offset_bounds-lanes-at g c = grind (arith, common_steps)

@@ -1,8 +1,9 @@
-use Rattle.std.proofs.Common.{◌++◌, ◌∙◌, subst, sym}
+use Rattle.std.proofs.Common.{◌++◌, ◌∙◌, subst, sym, arith}
 use Rattle.ssb_load.specs.Assembly.{subject_in}
 use Rattle.ssb_load.specs.Lane.{EndsBy, Reads}
 use Rattle.ssb_load.proofs.AssemblyLines.{refuses-halts}
 use Rattle.ssb_load.proofs.PartTaking.{if-err, on-ok}
+use Rattle.std.proofs.lemmas.Grind.{common_steps}
 use Rattle.ssb_load.proofs.lanes.add_read.Goals as goal
 
 pub halt-requires-clause-part : goal.halt-requires-clause-part
@@ -21,3 +22,18 @@ returns-in-None-stop-clause-taken g c =
     let read = subst (Reads g.S.Source.given g.S.Source.ends (subject_in c.args.assembly.now) c.args.lane.now.source) (sym c.replace.ensures.value ∙ c.in-Some.is) c.requires.read in
     let ended = subst (EndsBy g.S.Source.given g.S.Source.ends c.args.lane.now.source c.in-Some.field-0) c.in-None-stop.is read.1 in
     on-ok c.add.result (λ taken bytes h. taken bytes (g.S.Source.given c.args.lane.now.source) h ended.0) c.add.ensures.taken
+
+pub returns-in-Some-stop-clause-halts : goal.returns-in-Some-stop-clause-halts
+returns-in-Some-stop-clause-halts g c =
+    let read = subst (Reads g.S.Source.given g.S.Source.ends (subject_in c.args.assembly.now) c.args.lane.now.source) (sym c.replace.ensures.value ∙ c.in-Some.is) c.requires.read in
+    let stops = subst (EndsBy g.S.Source.given g.S.Source.ends c.args.lane.now.source c.in-Some.field-0) c.in-Some-stop.is read.1 in
+    λ bytes h. c.halt.ensures bytes (g.S.Source.given c.args.lane.now.source) h stops
+
+pub add-requires-clause-part : goal.add-requires-clause-part
+add-requires-clause-part g c = grind (arith, common_steps)
+
+pub returns-in-None-stop-clause-subject : goal.returns-in-None-stop-clause-subject
+returns-in-None-stop-clause-subject g c = grind (arith, common_steps)
+
+pub returns-in-None-stop-clause-met : goal.returns-in-None-stop-clause-met
+returns-in-None-stop-clause-met g c = grind (arith, common_steps)

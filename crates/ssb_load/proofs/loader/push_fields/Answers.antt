@@ -5,6 +5,7 @@ use Rattle.ssb_load.specs.Loader.{fails_some}
 use Rattle.ssb_terms.specs.declared.rule.ColType.TheVariants as kinds
 use Rattle.ssb_terms.specs.declared.rule.Role.TheVariants as roles
 use Rattle.ssb_load.proofs.KeyFacts.{among-all, among-more, told}
+use Rattle.std.proofs.lemmas.Grind.{common_steps}
 use Rattle.ssb_load.proofs.loader.push_fields.Goals as goal
 
 pub index_mut-column-requires : goal.index_mut-column-requires
@@ -44,3 +45,9 @@ returns-clause-key c =
     let end = c.loop-k.auto.k-end in
     let k : c.loop-k.k ≡ length c.args.rules.now = omega (arith, le, end) in
     c.loop-k.invariant.2 ∙ rw (k, c.requires.key) (among-all c.args.rules.now (fields_of c.args.row.now))
+
+pub returns-in_default-clause-fails : goal.returns-in_default-clause-fails
+returns-in_default-clause-fails c = grind (arith, common_steps)
+
+pub returns-clause-fails : goal.returns-clause-fails
+returns-clause-fails c = grind (arith, common_steps)

@@ -1,5 +1,6 @@
 use Rattle.std.proofs.Common.{arith}
 use Rattle.ssb_load.proofs.DigitFacts.{digits-room, digit-more}
+use Rattle.std.proofs.lemmas.Grind.{common_steps}
 use Rattle.ssb_load.proofs.number.short_number.Goals as goal
 
 pub overflow_mul-value : goal.overflow_mul-value
@@ -21,3 +22,6 @@ overflow_add-value c =
 pub loop-k-preserved : goal.loop-k-preserved
 loop-k-preserved c =
     digit-more c.args.bytes.now c.loop-k.k c.loop-k.value c.from.result _ c.loop-k-test.true c.loop-k.invariant.0 c.loop-k.invariant.1 c.loop-k.invariant.2 c.if-byte-lt48.false c.if-byte-gt57.false c.from.ensures
+
+pub returns : goal.returns
+returns c = grind (arith, common_steps)

@@ -1,4 +1,4 @@
-use Rattle.std.proofs.Common.{◌∙◌, ap, arith, map, subst, sym}
+use Rattle.std.proofs.Common.{◌<◌, ◌∙◌, ap, arith, length, map, subst, sym}
 use Rattle.std.proofs.lemmas.Result.{err_from_is_err_and}
 use Rattle.ssb_load.specs.Assembly.{all_in, subject_in}
 use Rattle.ssb_load.specs.Subject.{table}
@@ -9,7 +9,7 @@ use Rattle.ssb_load.specs.Loading.{rules_at}
 use Rattle.ssb_load.specs.Rules.{columns_of}
 use Rattle.ssb_load.proofs.JoinedFacts.{all-settled}
 use Rattle.ssb_load.proofs.JoiningFacts.{columns-of-parts, lawful-parts, loads-parts, parts-under}
-use Rattle.ssb_load.proofs.TableTaking.{loads-stopped, loads-table, refused-stops}
+use Rattle.ssb_load.proofs.TableTaking.{loads-no-memory, loads-nothing, loads-stopped, loads-table, refused-stops}
 use Rattle.ssb_load.proofs.TogetherFacts.{more-ends, no-read}
 use Rattle.ssb_load.proofs.read_joined.load_with.Goals as goal
 
@@ -62,3 +62,21 @@ returns-in-Ok-join_parts g c =
     loads-table source.given source.failures source.ends source.whole rules c.args.max_rows c.args.source.now now columns c.read_together.ensures.grows c.read_together.ensures.whole ended
     (all-settled g.S.Source laws.begins laws.settled now (more-ends _ _ ended)) (loads-parts rules c.args.max_rows _ _ columns parts columns_are)
     (lawful-parts rules c.args.max_rows _ _ columns parts (subst HasOneKey c.in-Ok.ensures.rules c.in-Ok.ensures.key) columns_are)
+
+pub returns : goal.returns
+returns g c =
+    let source = joined_source {s = g.S.Source} in
+    loads-no-memory source.given source.failures source.ends source.whole (rules_at c.args.catalog.now c.args.table) c.args.max_rows c.args.source.now c.read_together.new.self c.read_together.ensures.grows c.read_together.ensures.whole
+
+pub returns-in_default-new : goal.returns-in_default-new
+returns-in_default-new g c =
+    let source = joined_source {s = g.S.Source} in
+    loads-nothing source.given source.failures source.ends source.whole (rules_at c.args.catalog.now c.args.table) c.args.max_rows c.args.source.now
+
+pub returns-in_default : goal.returns-in_default
+returns-in_default g c =
+    let source = joined_source {s = g.S.Source} in
+    loads-nothing source.given source.failures source.ends source.whole (rules_at c.args.catalog.now c.args.table) c.args.max_rows c.args.source.now
+
+pub join_parts-requires-clause-some : goal.join_parts-requires-clause-some
+join_parts-requires-clause-some g c lifetimes bounds = subst (λ rules. 0 < length rules) (sym c.deref-3.ensures.value) c.in-Ok.ensures.some

@@ -2,7 +2,9 @@ use Rattle.std.proofs.Common.{◌<◌, ◌∙◌, ap, subst, arith}
 use Rattle.std.proofs.lemmas.Result.{err_from_is_err_and}
 use Rattle.ssb_load.specs.Subject.{table}
 use Rattle.ssb_cells.specs.Lawful.{HasOneKey}
-use Rattle.ssb_load.proofs.TableTaking.{all-lawful, gives-table, loads-stopped, loads-table}
+use Rattle.ssb_load.specs.Loading.{rules_at}
+use Rattle.ssb_load.proofs.TableTaking.{all-lawful, gives-table, loads-nothing, loads-stopped, loads-table}
+use Rattle.std.proofs.lemmas.Grind.{common_steps}
 use Rattle.ssb_load.proofs.read_table.load_in_pieces.Goals as goal
 
 pub returns : goal.returns
@@ -23,3 +25,12 @@ returns-in_err-take_all g c =
     let out = err_from_is_err_and c.from_residual.result c.from_residual.ensures.1 in
     let failed = c.in_err-take_all.ensures in
     rw (out.1, out.2) (loads-stopped g.S.Source.given g.S.Source.failures g.S.Source.ends g.S.Source.whole _ _ c.args.max_rows c.args.source.now c.take_all.new.source _ is c.take_all.ensures.grows c.take_all.ensures.whole failed.broken failed.stops)
+
+pub returns-in_default-new : goal.returns-in_default-new
+returns-in_default-new g c = loads-nothing g.S.Source.given g.S.Source.failures g.S.Source.ends g.S.Source.whole (rules_at c.args.catalog.now c.args.table) c.args.max_rows c.args.source.now
+
+pub returns-in_default : goal.returns-in_default
+returns-in_default g c = loads-nothing g.S.Source.given g.S.Source.failures g.S.Source.ends g.S.Source.whole (rules_at c.args.catalog.now c.args.table) c.args.max_rows c.args.source.now
+
+pub into_table-requires-clause-some : goal.into_table-requires-clause-some
+into_table-requires-clause-some g c = grind (arith, common_steps)

@@ -1,7 +1,8 @@
-use Rattle.std.proofs.Common.{◌∙◌, subst}
+use Rattle.std.proofs.Common.{◌∙◌, subst, sym, true≢false, arith}
 use Rattle.ssb_pipeline.specs.Pass.{known}
 use Rattle.ssb_pipeline.specs.Work.{Brings}
 use Rattle.ssb_pipeline.proofs.Rounds.{ready-again, ready_more, round-of}
+use Rattle.std.proofs.lemmas.Grind.{common_steps}
 use Rattle.ssb_pipeline.proofs.worker.turn.Goals as goal
 
 pub bring_back-requires-clause-ready : goal.bring_back-requires-clause-ready
@@ -18,3 +19,12 @@ returns-clause-round g c =
 
 pub returns-clause-more : goal.returns-clause-more
 returns-clause-more g c = λ _. (c.in-Some.ticket.morsel, c.bring_back.ensures.brings.mine ∙ c.in-Some.ensures.gets.0)
+
+pub returns-clause-ended : goal.returns-clause-ended
+returns-clause-ended g c = λ no. absurd (true≢false no)
+
+pub returns-in_default-clause-more : goal.returns-in_default-clause-more
+returns-in_default-clause-more g c = λ yes. absurd (true≢false (sym yes))
+
+pub partial_of-made-requires : goal.partial_of-made-requires
+partial_of-made-requires g c = grind (arith, common_steps)

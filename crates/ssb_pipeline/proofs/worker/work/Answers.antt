@@ -2,6 +2,7 @@ use Rattle.std.proofs.Common.{◌<◌, ◌≤◌, ◌⊎◌, inl, inr, ⊎_elim,
 use Rattle.std.proofs.lemmas.Bool.{cases_lt}
 use Rattle.ssb_pipeline.specs.Pass.{known}
 use Rattle.ssb_pipeline.proofs.Rounds.{round_self, rounds_step, ended_step}
+use Rattle.std.proofs.lemmas.Grind.{common_steps}
 use Rattle.ssb_pipeline.proofs.worker.work.Goals as goal
 
 pub loop-section-init : goal.loop-section-init
@@ -60,3 +61,19 @@ returns g c =
       rounds = i.rounds;
       ended = λ s in_s. i.ended s in_s (elim (cases_lt s c.loop-section-2.section) [ inl before ↦ inl before | inr behind ↦ inr (omega (arith, done, behind)) ]);
     }
+
+pub loop-section-2-init : goal.loop-section-2-init
+loop-section-2-init g c =
+    let i = c.loop-section.invariant in
+    let count = i.pass.count in
+    let k = c.sections-sections.ensures in
+    let past = c.loop-section-test.false in
+    record {
+      pass = i.pass;
+      none = i.none;
+      rounds = i.rounds;
+      ended = λ s in_s d. elim d [ inl before ↦ absurd (omega (arith, before)) | inr from ↦ i.ended s in_s (from, omega (arith, in_s, count, k, past)) ];
+    }
+
+pub work_section-requires-in-loop-section-2 : goal.work_section-requires-in-loop-section-2
+work_section-requires-in-loop-section-2 g c = grind (arith, common_steps)

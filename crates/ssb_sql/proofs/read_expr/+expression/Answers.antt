@@ -37,8 +37,10 @@ more_terms-loop-adding-preserved t c =
 pub more_terms-returns : goal.more_terms-returns
 more_terms-returns t c = is_done adding_at (step_at (expr_at c.args.depth)) (step_shrinks c.args.depth) c.loop-adding.all c.loop-adding.rest.now (more_at adding_at (step_at (expr_at c.args.depth)) [] c.args.tokens.now) (sym c.in_default.ensures) c.loop-adding.invariant
 
-pub expression-returns-in-Err : goal.expression-returns-in-Err
-expression-returns-in-Err t c = sum_stops c.args.depth _ c.args.tokens.now _ _ c.in-Err.stop (omega (arith, c.if-depth-eq0.false)) c.in_ok-first.ensures c.in-Err.ensures
+pub expression-returns-in_err-steps : goal.expression-returns-in_err-steps
+expression-returns-in_err-steps t c =
+    let q = err_from_is_err_and c.from_residual-in_err-steps.result c.from_residual-in_err-steps.ensures.1 in
+    rw (q.1, q.2) (sum_stops c.args.depth _ c.args.tokens.now _ _ c.in_err-steps.field-0.0 (omega (arith, c.if-depth-eq0.false)) c.in_ok-first.ensures c.in_err-steps.ensures)
 
-pub expression-returns-in_ok-sum_of-in-Ok : goal.expression-returns-in_ok-sum_of-in-Ok
-expression-returns-in_ok-sum_of-in-Ok t c = rw c.in_ok-sum_of-in-Ok.ensures (sum_reads c.args.depth _ c.args.tokens.now _ _ _ _ (omega (arith, c.if-depth-eq0.false)) c.in_ok-first.ensures c.in-Ok.ensures)
+pub expression-returns : goal.expression-returns
+expression-returns t c = rw (sum_reads c.args.depth _ c.args.tokens.now _ _ _ _ (omega (arith, c.if-depth-eq0.false)) c.in_ok-first.ensures c.in_ok-steps.ensures) c.sum_of.ensures

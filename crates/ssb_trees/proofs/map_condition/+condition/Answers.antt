@@ -1,23 +1,12 @@
-use Rattle.std.proofs.Common.{◌≡◌, ◌∙◌, ap, subst}
+use Rattle.std.proofs.Common.{◌≡◌, ◌∙◌, ap, arith, subst, sym}
 use Rattle.ssb_trees.proofs.Forms.{both_made, in_order_of}
 use Rattle.ssb_trees.specs.declared.condition.Condition.TheOpen.{Condition-F}
 use Rattle.ssb_trees.specs.declared.condition.Condition.TheVariants as condition
 use Rattle.ssb_trees.proofs.InOrder.{all_is, any_is, all_made, next_part}
+use Rattle.ssb_trees.proofs.Mapping.{made_of}
+use Rattle.ssb_trees.proofs.Sizes.{all_size, any_size, item_size, not_size}
+use Rattle.ssb_trees.specs.declared.condition.Condition.TheViews.{size-Condition}
 use Rattle.ssb_trees.proofs.map_condition.+condition.Goals as goal
-
-pub mapped_condition-returns-in_ok-parts-in-Any : goal.mapped_condition-returns-in_ok-parts-in-Any
-mapped_condition-returns-in_ok-parts-in-Any g t c =
-    let M = g.M.LeavesInOrder in
-    let s = c.args.operands.now in
-    any_is _ _ _ M.given M.next c.in-Any.parts c.args.condition.now s _ _ c.in-Any.is
-    (subst (λ ps. let r = all_made _ _ _ M.given M.next ps s in (c.in_ok-parts-in-Any.parts ≡ r.0) × (c.mapped_parts.new.operands ≡ r.1)) c.as_slice.ensures c.in_ok-parts-in-Any.ensures)
-
-pub mapped_condition-returns-in_ok-parts-in-All : goal.mapped_condition-returns-in_ok-parts-in-All
-mapped_condition-returns-in_ok-parts-in-All g t c =
-    let M = g.M.LeavesInOrder in
-    let s = c.args.operands.now in
-    all_is _ _ _ M.given M.next c.in-All.parts c.args.condition.now s _ _ c.in-All.is
-    (subst (λ ps. let r = all_made _ _ _ M.given M.next ps s in (c.in_ok-parts-in-All.parts ≡ r.0) × (c.mapped_parts-in-All.new.operands ≡ r.1)) c.as_slice-in-All.ensures c.in_ok-parts-in-All.ensures)
 
 pub mapped_parts-loop-part-preserved : goal.mapped_parts-loop-part-preserved
 mapped_parts-loop-part-preserved g t c =
@@ -25,12 +14,6 @@ mapped_parts-loop-part-preserved g t c =
     next_part _ _ _ M.given M.next c.args.parts.now c.loop-part.part-index c.part-item.result c.loop-part.operands c.mapped_condition.new.operands c.loop-part.all _ c.in_ok-mapped_condition.field-0
     (all_made _ _ _ M.given M.next c.args.parts.now c.args.operands.now)
     c.loop-part-test.true c.part-item.is c.in_ok-mapped_condition.ensures c.in_ok-push.ensures.ok c.loop-part.invariant
-
-pub mapped_condition-returns-in_ok-new-in-Not : goal.mapped_condition-returns-in_ok-new-in-Not
-mapped_condition-returns-in_ok-new-in-Not g t c =
-    let M = g.M.LeavesInOrder in
-    both_made _ _ _ _ (in_order_of _ _ _ M.given M.next c.args.condition.now (Condition-F.Not c.in-Not.part) c.args.operands.now c.in-Not.is)
-    (ap condition.Not (c.in_ok-new-in-Not.ensures ∙ (rw c.get.ensures at c.in_ok-part-in-Not.ensures.0))) (rw c.get.ensures at c.in_ok-part-in-Not.ensures.1)
 
 pub mapped_condition-returns-in_ok-a-in-Compare : goal.mapped_condition-returns-in_ok-a-in-Compare
 mapped_condition-returns-in_ok-a-in-Compare g t c =
@@ -62,14 +45,50 @@ mapped_condition-returns-in_ok-x-in-NotIn g t c =
     both_made _ _ _ _ (in_order_of _ _ _ M.given M.next c.args.condition.now (Condition-F.NotIn c.in-NotIn.x c.in-NotIn.literals) c.args.operands.now c.in-NotIn.is)
     (ap (λ test. condition.NotIn test.0 test.1) (rw c.as_slice-in-NotIn.ensures at c.in_ok-x-in-NotIn.ensures.0)) c.in_ok-x-in-NotIn.ensures.1
 
-pub mapped_condition-returns-in_ok-leaf-in-IsNull : goal.mapped_condition-returns-in_ok-leaf-in-IsNull
-mapped_condition-returns-in_ok-leaf-in-IsNull g t c =
+pub mapped_condition-returns-in-Any : goal.mapped_condition-returns-in-Any
+mapped_condition-returns-in-Any g t c =
     let M = g.M.LeavesInOrder in
-    both_made _ _ _ _ (in_order_of _ _ _ M.given M.next c.args.condition.now (Condition-F.IsNull c.in-IsNull.x) c.args.operands.now c.in-IsNull.is)
-    (ap condition.IsNull c.in_ok-leaf-in-IsNull.ensures.0) c.in_ok-leaf-in-IsNull.ensures.1
+    let s = c.args.operands.now in
+    made_of c.mapped_parts.result c.map.result condition.Any _ _ c.map.ensures.cases c.mapped_parts.ensures
+    (λ all h. any_is _ _ _ M.given M.next c.in-Any.parts c.args.condition.now s _ _ c.in-Any.is
+    (subst (λ ps. let r = all_made _ _ _ M.given M.next ps s in (all ≡ r.0) × (c.mapped_parts.new.operands ≡ r.1)) c.as_slice.ensures h))
 
-pub mapped_condition-returns-in_ok-leaf-in-IsNotNull : goal.mapped_condition-returns-in_ok-leaf-in-IsNotNull
-mapped_condition-returns-in_ok-leaf-in-IsNotNull g t c =
+pub mapped_condition-returns-in-All : goal.mapped_condition-returns-in-All
+mapped_condition-returns-in-All g t c =
     let M = g.M.LeavesInOrder in
-    both_made _ _ _ _ (in_order_of _ _ _ M.given M.next c.args.condition.now (Condition-F.IsNotNull c.in-IsNotNull.x) c.args.operands.now c.in-IsNotNull.is)
-    (ap condition.IsNotNull c.in_ok-leaf-in-IsNotNull.ensures.0) c.in_ok-leaf-in-IsNotNull.ensures.1
+    let s = c.args.operands.now in
+    made_of c.mapped_parts-in-All.result c.map-in-All.result condition.All _ _ c.map-in-All.ensures.cases c.mapped_parts-in-All.ensures
+    (λ all h. all_is _ _ _ M.given M.next c.in-All.parts c.args.condition.now s _ _ c.in-All.is
+    (subst (λ ps. let r = all_made _ _ _ M.given M.next ps s in (all ≡ r.0) × (c.mapped_parts-in-All.new.operands ≡ r.1)) c.as_slice-in-All.ensures h))
+
+pub mapped_condition-returns-in_ok-part-in-Not : goal.mapped_condition-returns-in_ok-part-in-Not
+mapped_condition-returns-in_ok-part-in-Not g t c =
+    let M = g.M.LeavesInOrder in
+    let made = c.in_ok-part-in-Not.ensures in
+    made_of c.new.result c.map-in-Not.result condition.Not _ _ c.map-in-Not.ensures.cases c.new.ensures
+    (λ part h. both_made _ _ _ _ (in_order_of _ _ _ M.given M.next c.args.condition.now (Condition-F.Not c.in-Not.part) c.args.operands.now c.in-Not.is)
+    (ap condition.Not (h ∙ (rw c.get.ensures at made.0))) (rw c.get.ensures at made.1))
+
+pub mapped_condition-returns-in-IsNull : goal.mapped_condition-returns-in-IsNull
+mapped_condition-returns-in-IsNull g t c =
+    let M = g.M.LeavesInOrder in
+    made_of c.leaf.result c.map-in-IsNull.result condition.IsNull _ _ c.map-in-IsNull.ensures.cases c.leaf.ensures
+    (λ x h. both_made _ _ _ _ (in_order_of _ _ _ M.given M.next c.args.condition.now (Condition-F.IsNull c.in-IsNull.x) c.args.operands.now c.in-IsNull.is) (ap condition.IsNull h.0) h.1)
+
+pub mapped_condition-returns-in-IsNotNull : goal.mapped_condition-returns-in-IsNotNull
+mapped_condition-returns-in-IsNotNull g t c =
+    let M = g.M.LeavesInOrder in
+    made_of c.leaf-in-IsNotNull.result c.map-in-IsNotNull.result condition.IsNotNull _ _ c.map-in-IsNotNull.ensures.cases c.leaf-in-IsNotNull.ensures
+    (λ x h. both_made _ _ _ _ (in_order_of _ _ _ M.given M.next c.args.condition.now (Condition-F.IsNotNull c.in-IsNotNull.x) c.args.operands.now c.in-IsNotNull.is) (ap condition.IsNotNull h.0) h.1)
+
+pub mapped_condition-mapped_parts-requires-in-All : goal.mapped_condition-mapped_parts-requires-in-All
+mapped_condition-mapped_parts-requires-in-All g t c = let e = all_size _ c.args.condition.now c.as_slice-in-All.result.now (c.in-All.is ∙ ap condition.All (sym c.as_slice-in-All.ensures)) in λ κs h. (omega arith, h)
+
+pub mapped_parts-mapped_condition-requires : goal.mapped_parts-mapped_condition-requires
+mapped_parts-mapped_condition-requires g t c = let e = item_size (size-Condition _) c.args.parts.now c.loop-part.part-index c.part-item.result c.loop-part-test.true c.part-item.is in λ κs h. (omega arith, h)
+
+pub mapped_condition-mapped_parts-requires : goal.mapped_condition-mapped_parts-requires
+mapped_condition-mapped_parts-requires g t c = let e = any_size _ c.args.condition.now c.as_slice.result.now (c.in-Any.is ∙ ap condition.Any (sym c.as_slice.ensures)) in λ κs h. (omega arith, h)
+
+pub mapped_condition-mapped_condition-requires : goal.mapped_condition-mapped_condition-requires
+mapped_condition-mapped_condition-requires g t c = let e = not_size _ c.args.condition.now c.get.result.now (c.in-Not.is ∙ ap condition.Not (sym c.get.ensures)) in λ κs h. (omega arith, h)

@@ -1,9 +1,9 @@
 use Rattle.std.proofs.Common.{◌≡◌, ◌∙◌, None, get_or, map, slice_get, sym, ap, subst}
-use Rattle.std.proofs.lemmas.Option.{slice_get-get_or}
+use Rattle.std.proofs.lemmas.Option.{get_or_from_slice_get, slice_get-get_or}
 use Rattle.ssb_job.specs.Kept.{IsCombination, JobShape, from_tables}
 use Rattle.ssb_groups.specs.Keys.{key_of}
 use Rattle.ssb_groups.specs.Places.{HasSomeRow, IsSomePlace, cell_at_place, place_of}
-use Rattle.ssb_groups.proofs.ColumnFacts.{each-place, mapped, place-cells, place-row, place-there}
+use Rattle.ssb_groups.proofs.ColumnFacts.{each-place, mapped, mapped-more, place-cells, place-row, place-there}
 use Rattle.ssb_groups.proofs.columns.Columns.fill.Goals as goal
 
 pub cell_at_place-requires-clause-place : goal.cell_at_place-requires-clause-place
@@ -37,3 +37,12 @@ returns c =
     let all = mapped (cell_at_place c.as_slice-tables.result.now c.as_slice-rows.result.now) c.loop-place.key.cells.items c.deref-place-items.result.now c.loop-place.place-index c.loop-place-test.false c.loop-place.invariant in
     all ∙ ap (λ ts. map (cell_at_place ts c.as_slice-rows.result.now) c.deref-place-items.result.now) tables ∙ ap (λ rs. map (cell_at_place j.tables rs) c.deref-place-items.result.now) c.as_slice-rows.ensures
     ∙ ap (map (cell_at_place j.tables rows)) places ∙ place-cells j rows j.query.groups is ∙ ap (λ x. key_of x rows) c.self.view_is
+
+pub loop-place-preserved : goal.loop-place-preserved
+loop-place-preserved c =
+    let places = c.deref-place-items.result.now in
+    let i = c.loop-place.place-index in
+    let p = get_or places i None in
+    let here = sym (get_or_from_slice_get places i p p (slice_get-get_or places i None c.loop-place-test.true)) in
+    rw c.in_ok-push.ensures.items
+    (mapped-more (cell_at_place c.as_slice-tables.result.now c.as_slice-rows.result.now) c.loop-place.key.cells.items places i p c.cell_at_place.result c.loop-place-test.true here c.cell_at_place.ensures c.loop-place.invariant)

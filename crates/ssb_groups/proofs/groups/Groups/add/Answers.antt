@@ -1,4 +1,4 @@
-use Rattle.std.proofs.Common.{◌≡◌, [], ◌∷◌, map, sym, ap, ◌∙◌, subst, refl}
+use Rattle.std.proofs.Common.{◌≡◌, ◌+◌, [], ◌∷◌, map, sym, ap, ◌∙◌, subst, refl, arith}
 use Rattle.ssb_job.specs.Kept.{JobShape, column_value, from_tables}
 use Rattle.ssb_groups.specs.Aggregates.{totals}
 use Rattle.ssb_groups.specs.Entries.{AreTotals, totals_in}
@@ -9,6 +9,7 @@ use Rattle.ssb_groups.specs.Rows.{SeenRow}
 use Rattle.ssb_groups.specs.Seen.{seen}
 use Rattle.ssb_groups.specs.Stands.{Stands, GroupMap}
 use Rattle.ssb_groups.proofs.AddFacts.{totals-alone}
+use Rattle.std.proofs.lemmas.Grind.{common_steps}
 use Rattle.ssb_groups.proofs.groups.Groups.add.Goals as goal
 
 pub returns-then-branch-clause-stands : goal.returns-then-branch-clause-stands
@@ -44,3 +45,24 @@ returns-clause-stands c = λ A before.
     let filled : c.fill.new.key.cells.items ≡ key_of j rows = c.in_ok-fill.ensures ∙ ap (λ x. key_of x rows) c.self.invariant in
     let key : cells_in (key_columns j) c.fill.new.key ≡ r.key = ap (spelt (key_columns j)) filled ∙ key-spelt j rows ∙ ap (λ (x : JobShape). map (column_value (from_tables x) rows) x.query.groups) one in
     c.in_ok-add_plain.ensures.stands A r (record { plain = sym g.over ∙ c.if-branch.false; key = key; more = more; ranged = g.ranged }) p
+
+pub invariant_of-self-2 : goal.invariant_of-self-2
+invariant_of-self-2 c = c.self.invariant ∙ sym c.in_ok-add_plain.ensures.job
+
+pub invariant_of-self-in_err-add_plain : goal.invariant_of-self-in_err-add_plain
+invariant_of-self-in_err-add_plain c = c.self.invariant ∙ sym (ap (λ (x : GroupMap). x.job) c.in_err-add_plain.ensures.err)
+
+pub returns-clause-job : goal.returns-clause-job
+returns-clause-job c = c.in_ok-add_plain.ensures.job ∙ ap (λ (x : GroupMap). x.job) c.self.view_is
+
+pub returns-clause-counted : goal.returns-clause-counted
+returns-clause-counted c = c.in_ok-add_plain.ensures.counted ∙ ap (λ (x : GroupMap). x.counted + 1) c.self.view_is
+
+pub invariant_of-self-then-branch : goal.invariant_of-self-then-branch
+invariant_of-self-then-branch c = c.self.invariant ∙ sym c.add_over.ensures.job
+
+pub returns-then-branch-clause-job : goal.returns-then-branch-clause-job
+returns-then-branch-clause-job c = grind (arith, common_steps)
+
+pub add_plain-requires-clause-few : goal.add_plain-requires-clause-few
+add_plain-requires-clause-few c = grind (arith, common_steps)

@@ -63,3 +63,8 @@ invariant_of-self-2 c =
       | then-is_none+in_ok-put w ↦ subst the_invariant (sym w.self-inside-is) (w.in_ok-put.ensures.unique, subst (λ (x : JobShape). AreEntries x w.put.new.table.entries) job w.in_ok-put.ensures.entries)
       | else-is_none w ↦ subst the_invariant (sym w.self-inside-is) c.self.invariant
     ]
+
+pub invariant_of-self : goal.invariant_of-self
+invariant_of-self c =
+    let job : c.args.columns.now ≡ c.self.inside.job.value = c.requires.columns ∙ sym (ap (λ (x : GroupMap). x.job) c.self.view_is) in
+    (c.put.ensures.unique, subst (λ (x : JobShape). AreEntries x c.put.new.table.entries) job c.in_err-put.ensures.entries)

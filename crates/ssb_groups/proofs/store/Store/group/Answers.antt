@@ -1,5 +1,7 @@
-use Rattle.std.proofs.Common.{◌≡◌, ◌∙◌, ℕ, zero, suc, Bor, List, [], ◌∷◌, Option, None, Some, slice_get, sym, ap, subst}
+use Rattle.std.proofs.Common.{◌≡◌, ◌<◌, ◌∙◌, ℕ, zero, suc, Bor, List, [], ◌∷◌, Option, None, Some, slice_get, sym, ap, subst}
 use Rattle.std.specs.Prelude.{option_map, IfSome}
+use Rattle.std.specs.Option.{IsSome}
+use Rattle.std.proofs.lemmas.List.{length-map}
 use Rattle.std.proofs.lemmas.Option.{same_Some, slice_get-map}
 use Rattle.ssb_job.specs.Kept.{JobShape}
 use Rattle.ssb_groups.specs.Entries.{AreEntries, AreTotals, Entry, entries_of, entry_of}
@@ -34,3 +36,8 @@ returns-clause-totals c = rw (← c.self.view_is) (totalled c.self.inside.job.va
 
 pub returns-clause-entry : goal.returns-clause-entry
 returns-clause-entry c = rw (← c.self.view_is) (spelt-entry c.self.inside.job.value c.self.inside.table.entries c.args.at c.get_index.result c.get_index.ensures.entry)
+
+pub returns-clause-found : goal.returns-clause-found
+returns-clause-found c =
+    let n = length-map (c.self.inside.table.entries) (entry_of c.self.inside.job.value) in
+    rw (← c.self.view_is) (subst (λ k. (IsSome c.get_index.result → c.args.at < k) × (c.args.at < k → IsSome c.get_index.result)) (sym n) c.get_index.ensures.found)

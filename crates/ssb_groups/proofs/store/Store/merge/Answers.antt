@@ -1,4 +1,4 @@
-use Rattle.std.proofs.Common.{◌≡◌, ◌+◌, ◌^◌, ◌<◌, map, None, sym, ap, subst, ◌∙◌, refl}
+use Rattle.std.proofs.Common.{◌≡◌, ◌+◌, ◌^◌, ◌<◌, map, None, sym, ap, subst, ◌∙◌, refl, arith}
 use Rattle.std.specs.List.{IsDistinct}
 use Rattle.std.specs.Map.{lookup}
 use Rattle.ssb_groups.specs.Joining.{joinings_of, option_joined}
@@ -11,6 +11,7 @@ use Rattle.ssb_groups.specs.declared.store.Store.TheInside.{Inside}
 use Rattle.ssb_groups.proofs.MergeFacts.{fits_both}
 use Rattle.ssb_groups.proofs.StandsFacts.{Stands-join, none_from, none_left, none_right, not_none_from}
 use Rattle.ssb_groups.proofs.TableFacts.{keys_distinct}
+use Rattle.std.proofs.lemmas.Grind.{common_steps}
 use Rattle.ssb_groups.proofs.store.Store.merge.Goals as goal
 use Rattle.ssb_groups.proofs.store.Store.merge.Goals.{then-is_none+in_default, else-is_none}
 
@@ -66,3 +67,24 @@ invariant_of-self-2 c =
       | then-is_none+in_default w ↦ subst the_invariant (sym w.self-inside-is) (w.take_all_in.ensures.unique, subst (λ (x : JobShape). AreEntries x w.take_all_in.new.table.entries) job w.take_all_in.ensures.entries)
       | else-is_none w ↦ subst the_invariant (sym w.self-inside-is) c.self.invariant
     ]
+
+pub returns-in-Err-clause-err : goal.returns-in-Err-clause-err
+returns-in-Err-clause-err c =
+    let g : GroupMap = the_view c.self.inside in
+    ap (λ es. record g { entries = entries_of c.self.inside.job.value es }) c.reserve.ensures.entries ∙ c.self.view_is
+
+pub returns-clause-job : goal.returns-clause-job
+returns-clause-job c =
+    elim c.if-is_none.branch [
+      | then-is_none+in_default w ↦ ap (λ (x : Inside). x.job.value) w.self-inside-is ∙ ap (λ (x : GroupMap). x.job) c.self.view_is
+      | else-is_none w ↦ ap (λ (x : Inside). x.job.value) w.self-inside-is ∙ ap (λ (x : GroupMap). x.job) c.self.view_is
+    ]
+
+pub returns-in-Err-clause-job : goal.returns-in-Err-clause-job
+returns-in-Err-clause-job c = ap (λ (x : GroupMap). x.job) c.self.view_is
+
+pub invariant_of-self : goal.invariant_of-self
+invariant_of-self c = grind (arith, common_steps)
+
+pub take_all_in-requires-clause-room : goal.take_all_in-requires-clause-room
+take_all_in-requires-clause-room c = grind (arith, common_steps)

@@ -1,4 +1,4 @@
-use Rattle.std.proofs.Common.{◌++◌, ◌∷◌, ◌∙◌, ap, refl, subst}
+use Rattle.std.proofs.Common.{◌++◌, ◌∷◌, ◌∙◌, ap, refl, subst, arith}
 use Rattle.std.proofs.lemmas.Result.{err_from_is_err_and}
 use Rattle.ssb_load.specs.Assembly.{all_in, subject_in}
 use Rattle.ssb_load.specs.Subject.{Refuses}
@@ -6,6 +6,7 @@ use Rattle.ssb_records.specs.Records.{records_of}
 use Rattle.ssb_load.proofs.AssemblyFacts.{held-after}
 use Rattle.ssb_load.proofs.AssemblyLines.{added, added-refuses, refuses-on, waits-on}
 use Rattle.ssb_load.proofs.PartTaking.{on-ok}
+use Rattle.std.proofs.lemmas.Grind.{common_steps}
 use Rattle.ssb_load.proofs.assembly.Assembly.add.Goals as goal
 
 pub returns-then-not-part-clause-taken : goal.returns-then-not-part-clause-taken
@@ -39,3 +40,6 @@ returns-clause-taken c bytes more h part =
     let none = c.in_ok-close.ensures.none in
     let held = c.in_ok-add_rows.ensures.taken mid.lists mid.latest (records_of (10 ∷ part.lines)) mid.held part.taken in
     added c.close.new.self _ c.args.part bytes more mid part none.0 none.1 (held-after _ _ _ _ _ held refl refl refl held.taken held.few) refl (c.add_rows.ensures.pending.1 ∙ none.1)
+
+pub returns-clause-subject : goal.returns-clause-subject
+returns-clause-subject c = grind (arith, common_steps)

@@ -1,7 +1,8 @@
-use Rattle.std.proofs.Common.{◌∷◌, ◌∙◌, [], ap, map, refl}
+use Rattle.std.proofs.Common.{◌∷◌, ◌∙◌, [], ap, map, refl, arith}
 use Rattle.std.proofs.lemmas.List.{map-append}
 use Rattle.ssb_load.proofs.AssemblyFacts.{held-many-next, held-next}
 use Rattle.ssb_load.proofs.PartTaking.{if-err, on-ok}
+use Rattle.std.proofs.lemmas.Grind.{common_steps}
 use Rattle.ssb_load.proofs.assembly.Assembly.add_rows.Goals as goal
 
 pub returns-clause-taken : goal.returns-clause-taken
@@ -20,3 +21,9 @@ returns-clause-refused c =
     let out = c.replace-last.ensures.value in
     let into = c.replace-last.ensures.after in
     held-many-next c.args.self.now c.replace-last.new.dest lists latest good rest _ e h (rw into c.requires.subject) (rw into taken) (rw out refl) many) c.check_limit.ensures.many
+
+pub check_limit-requires-clause-few : goal.check_limit-requires-clause-few
+check_limit-requires-clause-few c = grind (arith, common_steps)
+
+pub check_limit-requires-clause-room : goal.check_limit-requires-clause-room
+check_limit-requires-clause-room c = grind (arith, common_steps)

@@ -1,8 +1,9 @@
-use Rattle.std.proofs.Common.{refl}
+use Rattle.std.proofs.Common.{refl, arith}
 use Rattle.std.proofs.lemmas.Result.{err_from_is_err_and}
 use Rattle.ssb_load.specs.Assembly.{subject_in}
 use Rattle.ssb_load.proofs.AssemblyFacts.{held-after}
 use Rattle.ssb_load.proofs.AssemblyLines.{closed, closed-refuses}
+use Rattle.std.proofs.lemmas.Grind.{common_steps}
 use Rattle.ssb_load.proofs.assembly.Assembly.close.Goals as goal
 
 pub returns-in_err-take_waiting-clause-refused : goal.returns-in_err-take_waiting-clause-refused
@@ -17,3 +18,6 @@ returns-clause-taken c bytes h =
     let held = held-after c.args.self.now _ h.lists h.latest h.latest h.held refl refl refl h.held.taken h.held.few in
     let taken = rw c.in_ok-keep.ensures.kept at (c.in_ok-take_waiting.ensures.taken h.lists h.latest held) in
     closed c.args.self.now _ bytes c.args.text.now h c.requires.line (held-after _ _ _ _ _ taken refl refl refl taken.taken taken.few) c.clear.ensures.items refl
+
+pub take_waiting-requires : goal.take_waiting-requires
+take_waiting-requires c = grind (arith, common_steps)

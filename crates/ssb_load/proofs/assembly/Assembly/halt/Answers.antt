@@ -1,5 +1,6 @@
-use Rattle.std.proofs.Common.{subst, sym}
+use Rattle.std.proofs.Common.{subst, sym, arith}
 use Rattle.ssb_load.specs.Part.{IsRefused}
+use Rattle.std.proofs.lemmas.Grind.{common_steps}
 use Rattle.ssb_load.proofs.assembly.Assembly.halt.Goals as goal
 
 pub returns-in-Record : goal.returns-in-Record
@@ -13,3 +14,6 @@ returns-in-BadCatalog c = λ bytes more a h. absurd (rw c.in-BadCatalog.is at h)
 
 pub returns-in-Memory : goal.returns-in-Memory
 returns-in-Memory c = λ bytes more a h. rw c.in-Memory.is tt
+
+pub break_off-requires-clause-part : goal.break_off-requires-clause-part
+break_off-requires-clause-part c = grind (arith, common_steps)

@@ -1,10 +1,11 @@
-use Rattle.std.proofs.Common.{◌++◌, append_assoc, refl, subst}
+use Rattle.std.proofs.Common.{◌++◌, append_assoc, refl, subst, arith}
 use Rattle.ssb_load.specs.Assembly.{all_in, lead, subject_in}
 use Rattle.ssb_load.specs.Subject.{Refuses}
 use Rattle.ssb_records.specs.Records.{records_of}
 use Rattle.ssb_load.proofs.AssemblyFacts.{held-many, held-refuses}
 use Rattle.ssb_load.proofs.PartTaking.{if-err}
 use Rattle.ssb_load.proofs.TableTaking.{limit-is}
+use Rattle.std.proofs.lemmas.Grind.{common_steps}
 use Rattle.ssb_load.proofs.assembly.Assembly.take_waiting.Goals as goal
 
 pub returns-in-Ok-clause-refused : goal.returns-in-Ok-clause-refused
@@ -23,3 +24,12 @@ returns-clause-refused c lists latest rest h =
     let r = rw (c.lead-before.ensures, c.deref.ensures.value) at (c.in-Err.ensures.refused latest rest h.taken) in
     let limit = limit-is c.take_text.new.intake _ _ c.take_text.ensures.subject in
     rw (c.moved.ensures, limit) (held-refuses a lists latest (latest ++ (more ++ rest)) c.in-Err.fault h r)
+
+pub check_limit-requires-clause-few : goal.check_limit-requires-clause-few
+check_limit-requires-clause-few c = grind (arith, common_steps)
+
+pub check_limit-requires-clause-room : goal.check_limit-requires-clause-room
+check_limit-requires-clause-room c = grind (arith, common_steps)
+
+pub moved-requires : goal.moved-requires
+moved-requires c = grind (arith, common_steps)

@@ -7,7 +7,7 @@ use Rattle.ssb_load.specs.Joined.{all_of, given_upto, sources_in}
 use Rattle.ssb_load.specs.JoinedLaws.{joined_begins}
 use Rattle.ssb_load.proofs.JoinedFacts.{given-all, joined-over, joined-stopped, none-given}
 use Rattle.ssb_records.proofs.TakingAll.{always, holds-of, later-is}
-use Rattle.ssb_load.proofs.TogetherFacts.{came-back, grows-none, halts-fails, halts-in, silent-lanes, since-none}
+use Rattle.ssb_load.proofs.TogetherFacts.{came-back, counted, grows-none, halts-fails, halts-in, one-more, silent-lanes, since-none}
 use Rattle.ssb_load.proofs.joined.Joined.read_together.Goals as goal
 
 pub read_together-requires-clause-silent : goal.read_together-requires-clause-silent
@@ -63,3 +63,19 @@ returns-in-Err-clause-stops g c =
           let front = holds-of _ (λ w. take (length given) w ≡ given) all (same ∙ known) (joined_begins g.S.Source.given g.S.Source.ends g.S.Source.whole laws.begins laws.settled sources at c.in-Err.ensures.stops.met) in
           subst (λ t. StopsIn s t e) (sym (since-none _ all (none-given g.S.Source c.args.self.now c.requires.unread))) (halts-in s given (drop (length given) all) all e (later-is all given front) c.in-Err.ensures.stops.halts));
     }
+
+pub returns-in-Err-clause-whole : goal.returns-in-Err-clause-whole
+returns-in-Err-clause-whole g c =
+    let back = came-back c.args.self.now.lanes c.read_together.new.lanes (search rules) in
+    ap (λ lanes. all_of (map g.S.Source.whole (sources_in lanes))) back.is ∙ ap all_of c.read_together.ensures.whole ∙ ap (λ lanes. all_of (map g.S.Source.whole (sources_in lanes))) c.deref_mut.ensures.value
+
+pub returns-in-Ok-clause-ended : goal.returns-in-Ok-clause-ended
+returns-in-Ok-clause-ended g c = one-more c.args.self.now.ended.items c.and-self.result.items tt c.and-self.ensures
+
+pub returns-in-Ok-clause-whole : goal.returns-in-Ok-clause-whole
+returns-in-Ok-clause-whole g c =
+    let back = came-back c.args.self.now.lanes c.read_together.new.lanes (search rules) in
+    ap (λ lanes. all_of (map g.S.Source.whole (sources_in lanes))) back.is ∙ ap all_of c.read_together.ensures.whole ∙ ap (λ lanes. all_of (map g.S.Source.whole (sources_in lanes))) c.deref_mut.ensures.value
+
+pub returns-in-Err-clause-broken : goal.returns-in-Err-clause-broken
+returns-in-Err-clause-broken g c = counted c.in-Err.field-0.fault (length c.args.self.now.failed.items) (length c.count_failure.new.failed.items) c.count_failure.ensures

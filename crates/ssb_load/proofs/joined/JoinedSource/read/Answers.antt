@@ -2,7 +2,7 @@
 use Rattle.std.proofs.Common.{◌≡◌, ◌++◌, ◌∙◌, ◌<◌, length, map, take, ap, arith}
 use Rattle.std.proofs.lemmas.List.{append-nil}
 use Rattle.ssb_load.specs.Joined.{all_of, given_upto, sources_in}
-use Rattle.ssb_load.proofs.JoinedFacts.{IsRead, at-end, given-after, given-moved, joined-after, joined-next, whole-after}
+use Rattle.ssb_load.proofs.JoinedFacts.{IsRead, at-end, given-after, given-moved, joined-after, joined-next, no-end-counted, whole-after}
 use Rattle.ssb_load.proofs.joined.JoinedSource.read.Goals as goal
 use Rattle.ssb_load.proofs.joined.JoinedSource.read.Goals.{then-count-gt0-via-then-count-gt0, then-count-gt0-via-else-count-gt0+then-is_empty}
 
@@ -69,3 +69,6 @@ loop-self-preserved g c =
       failed = c.loop-self.invariant.failed;
       ended = c.loop-self.invariant.ended;
     }
+
+pub returns-else-not-is_empty-clause-ends : goal.returns-else-not-is_empty-clause-ends
+returns-else-not-is_empty-clause-ends g c = no-end-counted (length c.args.self.now.ended.items) (length c.loop-self.self.ended.items) c.loop-self.room c.loop-self.invariant.ended c.if-not-is_empty.ensures

@@ -1,9 +1,10 @@
-use Rattle.std.proofs.Common.{◌≡◌, ◌∙◌, sym, false, rules}
+use Rattle.std.proofs.Common.{◌≡◌, ◌∙◌, sym, false, rules, arith}
 use Rattle.std.proofs.lemmas.Bool.{false≢true}
 use Rattle.csv.specs.Records.{fields_of}
 use Rattle.ssb_load.specs.Rules.{any_from, key_of}
 use Rattle.ssb_load.specs.Loader.{fails_some, seen_in}
 use Rattle.ssb_load.proofs.FaultFacts.{passes, no-fault, some-passes, all-pass}
+use Rattle.std.proofs.lemmas.Grind.{common_steps}
 use Rattle.ssb_load.proofs.loader.Loader.accept.Goals as goal
 
 pub refuse-requires-in-Ok-None-clause-faulty : goal.refuse-requires-in-Ok-None-clause-faulty
@@ -28,3 +29,12 @@ returns-in-Ok-true-clause-taken c =
       room = search rules;
       lengths = a.2;
     })
+
+pub returns-in-Ok-true-clause-seen : goal.returns-in-Ok-true-clause-seen
+returns-in-Ok-true-clause-seen c = grind (arith, common_steps)
+
+pub returns-in-Ok-true-clause-columns : goal.returns-in-Ok-true-clause-columns
+returns-in-Ok-true-clause-columns c = grind (arith, common_steps)
+
+pub returns-in-Ok-false-clause-refused : goal.returns-in-Ok-false-clause-refused
+returns-in-Ok-false-clause-refused c = grind (arith, common_steps)

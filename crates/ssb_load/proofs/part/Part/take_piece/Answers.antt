@@ -1,6 +1,7 @@
-use Rattle.std.proofs.Common.{◌++◌, ◌∙◌, ap, append_assoc, refl, sym, subst}
+use Rattle.std.proofs.Common.{◌++◌, ◌∙◌, ap, append_assoc, refl, sym, subst, arith}
 use Rattle.ssb_load.specs.Part.{RefusesPart, IsPart}
 use Rattle.ssb_load.proofs.PartTaking.{back-lines, cut-head, if-err, on-ok}
+use Rattle.std.proofs.lemmas.Grind.{common_steps}
 use Rattle.ssb_load.proofs.part.Part.take_piece.Goals as goal
 
 pub take_lines-requires-2-clause-line : goal.take_lines-requires-2-clause-line
@@ -21,3 +22,9 @@ returns-clause-refused c =
     if-err c.take_lines-2.result _ _ (λ e halts done h.
     let mid = cut-head c.args.self.now _ done c.in-Some.front.now c.if-self.false h refl c.in_ok-keep.ensures.kept refl refl c.in-Some.ensures.line in
     subst (λ bytes. RefusesPart c.take_lines-2.new.self bytes e) (append_assoc done c.in-Some.front.now c.in-Some.rest.now ∙ ap (λ t. done ++ t) (sym c.in-Some.ensures.split)) (halts (done ++ c.in-Some.front.now) mid)) c.take_lines-2.ensures.refused
+
+pub returns-in_default-clause-taken : goal.returns-in_default-clause-taken
+returns-in_default-clause-taken c = grind (arith, common_steps)
+
+pub returns-then-self-clause-lines : goal.returns-then-self-clause-lines
+returns-then-self-clause-lines c = grind (arith, common_steps)

@@ -1,5 +1,6 @@
 use Rattle.std.proofs.Common.{◌≡◌, ◌∙◌, ◌-◌, true, false, refl, sym, ap, subst, rules, arith}
 use Rattle.std.specs.Arc.{arc_value}
+use Rattle.ssb_pipeline.specs.Marks.{IsKept}
 use Rattle.ssb_pipeline.specs.Part.{PartState, has}
 use Rattle.ssb_pipeline.proofs.MarkFacts.{marked-has, marked-lacks}
 use Rattle.ssb_pipeline.proofs.PartFacts.{back-few, comes-back, few-both, kept-more}
@@ -68,3 +69,11 @@ returns-in-Err c =
     let size = sym c.size.ensures ∙ c.if-size-self.false ∙ ap (λ (q : PartState). q.size) c.self.view_is in
     let clear = mark c.self.inside c.self.invariant c.args.partial.ticket.morsel c.morsel-morsel.result c.morsel-morsel.ensures.morsel (rw (← c.self.view_is) at known) c.index.result.now false c.index.ensures c.if-index.false in
     ((size, known), rw (← c.self.view_is) (marked-lacks c.self.inside.first c.self.inside.marks.items (c.morsel-morsel.result - c.self.inside.first) c.args.partial.ticket.morsel (at c.self.inside c.self.invariant c.args.partial.ticket.morsel c.morsel-morsel.result c.morsel-morsel.ensures.morsel (rw (← c.self.view_is) at known)).is clear), c.in-Err.ensures.partial, search rules)
+
+pub invariant_of-self-in-Err : goal.invariant_of-self-in-Err
+invariant_of-self-in-Err c =
+    let p = c.self.inside in
+    subst (IsKept (arc_value p.job) p.size p.section p.sections p.first p.next p.marks.items p.back) (sym c.in-Err.ensures.err) c.self.invariant
+
+pub merge_into-requires-clause-one_job : goal.merge_into-requires-clause-one_job
+merge_into-requires-clause-one_job c = c.self.invariant.job ∙ ap (λ (q : PartState). q.job) c.self.view_is ∙ sym c.requires.one_job

@@ -33,3 +33,6 @@ pub returns-clause-whole : goal.returns-clause-whole
 returns-clause-whole c =
     let l = c.loop-morsel in
     all-done c.args.self.now l.self c.bounds-first.result.0 c.bounds-first.result.1 l.morsel l.invariant c.bounds-first.ensures.order c.loop-morsel-test.false
+
+pub bring_back-requires-clause-one_job : goal.bring_back-requires-clause-one_job
+bring_back-requires-clause-one_job c = ap (λ (t : TicketState). t.job) c.new-ticket.ensures ∙ c.deref.ensures ∙ ap (λ (q : PartState). q.job) c.self.view_is

@@ -2,7 +2,7 @@ use Rattle.std.proofs.Common.{◌≡◌, ◌<◌, ap, ◌∙◌, sym, subst, len
 use Rattle.std.proofs.lemmas.List.{length-map}
 use Rattle.ssb_pipeline.specs.Rule.{Knows}
 use Rattle.ssb_pipeline.specs.Pass.{queue_name, pass_name, known, IsAtRest}
-use Rattle.ssb_pipeline.proofs.Passes.{beside, image_at, each_at, known_at, unchanged, twin_step}
+use Rattle.ssb_pipeline.proofs.Passes.{beside, image_at, each_at, known_at, unchanged, twin_end, twin_step}
 use Rattle.ssb_pipeline.proofs.parts.Parts.another.Goals as goal
 
 pub another_one-requires-clause-queue : goal.another_one-requires-clause-queue
@@ -35,3 +35,32 @@ loop-section-preserved c =
     let e = c.another_one.ensures in
     rw c.in_ok-push.ensures.items (twin_step c.loop-section.pass-inside.passes.items c.loop-section.passes.items c.args.pass.now c.loop-section.section c.index_mut.result.now c.another_one.new.pass c.another_one.result c.loop-section.invariant in_passes
     c.index_mut.ensures.value e.queue.0.0 e.queue.0.2 e.same (e.queue.1.0 ∙ sym named) e.queue.1.1 e.new)
+
+pub returns-clause-new : goal.returns-clause-new
+returns-clause-new c =
+    let names = ap (λ p. p.queues) c.loop-section.invariant.same ∙ c.requires.pass.queues ∙ sym (ap (λ p. p.queues) c.self.view_is) in
+    let own = c.self.inside.queues.ok.0 in
+    let k = c.len-section-end.ensures in
+    let past = c.loop-section-test.false in
+    let long = ap length names in
+    let ps = length-map c.loop-section.pass-inside.passes.items pass_name in
+    let qs = length-map c.self.inside.queues.items queue_name in
+    twin_end c.loop-section.pass-inside.passes.items c.loop-section.passes.items c.args.pass.now c.loop-section.section c.loop-section.invariant (omega (arith, own, k, past, long, ps, qs))
+
+pub invariant_of-pass-in_err-push : goal.invariant_of-pass-in_err-push
+invariant_of-pass-in_err-push c =
+    let names = ap (λ p. p.queues) c.loop-section.invariant.same ∙ c.requires.pass.queues ∙ sym (ap (λ p. p.queues) c.self.view_is) in
+    let in_queues : c.loop-section.section < length c.self.inside.queues.items = (let h = c.loop-section-test.true in let k = c.len-section-end.ensures in omega arith) in
+    let in_passes = beside pass_name queue_name c.loop-section.pass-inside.passes.items c.self.inside.queues.items c.loop-section.section names in_queues in
+    let named = image_at pass_name queue_name _ _ _ _ _ names in_passes in_queues c.index_mut.ensures.value c.index.ensures in
+    let e = c.another_one.ensures in
+    (twin_step c.loop-section.pass-inside.passes.items c.loop-section.passes.items c.args.pass.now c.loop-section.section c.index_mut.result.now c.another_one.new.pass c.another_one.result c.loop-section.invariant in_passes
+    c.index_mut.ensures.value e.queue.0.0 e.queue.0.2 e.same (e.queue.1.0 ∙ sym named) e.queue.1.1 e.new).rest
+
+pub index_mut-requires : goal.index_mut-requires
+index_mut-requires c =
+    let names = ap (λ p. p.queues) c.loop-section.invariant.same ∙ c.requires.pass.queues ∙ sym (ap (λ p. p.queues) c.self.view_is) in
+    let in_queues : c.loop-section.section < length c.self.inside.queues.items = (let h = c.loop-section-test.true in let k = c.len-section-end.ensures in omega arith) in
+    let in_passes = beside pass_name queue_name c.loop-section.pass-inside.passes.items c.self.inside.queues.items c.loop-section.section names in_queues in
+    let own = c.loop-section.pass-inside.passes.ok.0 in
+    omega (arith, in_passes, own)

@@ -1,5 +1,5 @@
 -- A run over sources, by where it ends: tables that are not loaded, a text that is not answered, an answer that is not written, and one that is.
-use Rattle.std.proofs.Common.{◌≡◌, ◌++◌, ℕ, List, Option, Some, Result, Ok, Err, IfErr, map}
+use Rattle.std.proofs.Common.{◌≡◌, ◌++◌, ◌<◌, ℕ, List, Option, Some, Result, Ok, Err, IfErr, map, refl}
 use Rattle.ssb_catalog.specs.Shapes.{TableShape}
 use Rattle.ssb_records.specs.CutShort.{IfRead}
 use Rattle.ssb_records.specs.declared.fault.LoadFault.{LoadFault}
@@ -7,12 +7,13 @@ use Rattle.ssb_records.specs.declared.fault.LoadFault.TheVariants as load
 use Rattle.ssb_load.specs.Files.{Bytes, Columns, FailedAt, FailsAt, GrewEach, RoseEach, given_each, loaded}
 use Rattle.ssb_sql.specs.declared.fault.SqlFault.TheVariants as sql
 use Rattle.ssb_rows.specs.Order.{Row}
+use Rattle.ssb_rows.proofs.Written.{grew-none}
 use Rattle.ssb_rows.specs.Taking.{IsBeginning}
 use Rattle.ssb_rows.specs.Text.{text_of}
 use Rattle.ssb_rows.specs.declared.fault.AnswerFault.{AnswerFault}
 use Rattle.ssb_rows.specs.declared.fault.AnswerFault.TheVariants as answer
-use Rattle.ssb_reply.specs.Reply.{Answered, IfLoaded, IfReadOf, Replies}
-use Rattle.ssb_reply.specs.Running.{RunsFrom}
+use Rattle.ssb_reply.specs.Reply.{Answered, IfLoaded, IfReadOf, IsSilentBut, Replies}
+use Rattle.ssb_reply.specs.Running.{LeavesSink, RunsFrom}
 use Rattle.ssb_reply.specs.Told.{told_answer, told_at}
 use Rattle.ssb_reply.specs.declared.run_fault.RunFault.{RunFault}
 use Rattle.ssb_reply.specs.declared.run_fault.RunFault.TheVariants as run
@@ -69,6 +70,37 @@ all_loaded P (run.Sql e) p = p
 all_loaded P (run.Bind e) p = p
 all_loaded P (run.Answer e) p = p
 all_loaded P run.Memory p = tt
+
+-- ---- how the sink is left
+
+-- a fault of what comes before the writing: nothing was written
+abbrev IsBefore : RunFault → Type 1
+IsBefore f = (P Q : Type 0) → Q → IsSilentBut P Q f
+
+before_load : (t : ℕ) (f : LoadFault) → IsBefore (told_at t f)
+before_load t (load.Record f n) P Q q = q
+before_load t (load.BadCatalog f n) P Q q = q
+before_load t (load.Read n) P Q q = q
+before_load t load.Memory P Q q = q
+
+before_answer : (c : List TableShape) (ts : List Columns) (text : Bytes) (f : RunFault) → AnswersText c ts text (Err f) → IsBefore f
+before_answer c ts text (run.Load t f) h P Q q = q
+before_answer c ts text (run.Sql e) h P Q q = q
+before_answer c ts text (run.Bind e) h P Q q = q
+before_answer c ts text (run.Answer (answer.RowOverflow n)) h P Q q = q
+before_answer c ts text (run.Answer answer.SumOutOfRange) h P Q q = q
+before_answer c ts text (run.Answer answer.Memory) h P Q q = q
+before_answer c ts text (run.Answer answer.Write) h P Q q = absurd h
+before_answer c ts text run.Memory h P Q q = q
+
+untouched : (f told : RunFault) (old : Bytes) (n : ℕ) (holds : Option Bytes) → told ≡ f → IsBefore f → LeavesSink (Err told) old old n n holds holds
+untouched f told old n holds is before = rw is (record { silent = before (n < n) (old ≡ old) refl; clean = tt; holds = grew-none old holds })
+
+pub sink_unloaded : (t : ℕ) (f : LoadFault) (told : RunFault) (old : Bytes) (n : ℕ) (holds : Option Bytes) → told ≡ told_at t f → LeavesSink (Err told) old old n n holds holds
+sink_unloaded t f told old n holds is = untouched (told_at t f) told old n holds is (before_load t f)
+
+pub sink_unanswered : (c : List TableShape) (ts : List Columns) (text : Bytes) (f told : RunFault) (old : Bytes) (n : ℕ) (holds : Option Bytes) → told ≡ f → AnswersText c ts text (Err f) → LeavesSink (Err told) old old n n holds holds
+sink_unanswered c ts text f told old n holds is h = untouched f told old n holds is (before_answer c ts text f h)
 
 -- ---- the run
 

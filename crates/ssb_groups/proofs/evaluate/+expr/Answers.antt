@@ -1,8 +1,11 @@
-use Rattle.std.proofs.Common.{◌≡◌, ◌∙◌, sym, ap}
+use Rattle.std.proofs.Common.{◌≡◌, ◌∙◌, arith, sym, ap}
 use Rattle.ssb_terms.specs.declared.operator.Adding.{Adding}
 use Rattle.ssb_cells.specs.Cell.{Cell}
 use Rattle.ssb_query.specs.declared.column.BoundColumn.{BoundColumn}
+use Rattle.ssb_trees.proofs.Sizes.{chain_size, item_size, negative_size, positive_size, step_size, times_size}
 use Rattle.ssb_trees.specs.declared.expr.Expr.TheFolds.{fold_out-Step}
+use Rattle.ssb_trees.specs.declared.expr.Expr.TheVariants as expr
+use Rattle.ssb_trees.specs.declared.expr.Expr.TheViews.{size-Expr, size-Step}
 use Rattle.ssb_trees.specs.declared.expr.Step.{Step}
 use Rattle.ssb_job.specs.Kept.{column_value, from_tables}
 use Rattle.ssb_groups.specs.Outcomes.{outcome_of}
@@ -34,3 +37,27 @@ product-loop-factor-preserved size c =
 pub product-returns : goal.product-returns
 product-returns size c =
     folded times (number_of (column_value (from_tables c.args.job.now) c.args.row.now)) c.args.factors.now c.loop-factor.factor-index (outcome_of c.loop-factor.so_far) _ c.loop-factor-test.false c.loop-factor.invariant
+
+pub number-number-requires : goal.number-number-requires
+number-number-requires size c = let e = positive_size _ c.args.expr.now c.get.result.now (c.in-Positive.is ∙ ap expr.Positive (sym c.get.ensures)) in (omega arith, tt)
+
+pub product-number-requires : goal.product-number-requires
+product-number-requires size c = let e = item_size (size-Expr _) c.args.factors.now c.loop-factor.factor-index c.factor-item.result c.loop-factor-test.true c.factor-item.is in (omega arith, tt)
+
+pub number-number-requires-in-Negative : goal.number-number-requires-in-Negative
+number-number-requires-in-Negative size c = let e = negative_size _ c.args.expr.now c.get-in-Negative.result.now (c.in-Negative.is ∙ ap expr.Negative (sym c.get-in-Negative.ensures)) in (omega arith, tt)
+
+pub number-number-requires-in-Chain : goal.number-number-requires-in-Chain
+number-number-requires-in-Chain size c = let e = chain_size _ c.args.expr.now c.get-in-Chain.result.now c.in-Chain.steps (c.in-Chain.is ∙ ap (λ first. expr.Chain first c.in-Chain.steps) (sym c.get-in-Chain.ensures)) in (omega arith, tt)
+
+pub number-chain-requires : goal.number-chain-requires
+number-chain-requires size c = let e = chain_size _ c.args.expr.now c.in-Chain.first c.as_slice.result.now (c.in-Chain.is ∙ ap (expr.Chain c.in-Chain.first) (sym c.as_slice.ensures)) in (omega arith, tt)
+
+pub chain-number-term-requires : goal.chain-number-term-requires
+chain-number-term-requires size c =
+    let e = item_size (size-Step _) c.args.steps.now c.loop-step.step-index c.step-item.result c.loop-step-test.true c.step-item.is in
+    let f = step_size _ c.step-item.result in
+    (omega arith, tt)
+
+pub number-product-requires : goal.number-product-requires
+number-product-requires size c = let e = times_size _ c.args.expr.now c.as_slice-in-Times.result.now (c.in-Times.is ∙ ap expr.Times (sym c.as_slice-in-Times.ensures)) in (omega arith, tt)

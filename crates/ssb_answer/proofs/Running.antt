@@ -1,10 +1,11 @@
 -- A run over sources, by where it ends: tables that are not loaded, a text that is not answered, an answer that is not written, and one that is.
-use Rattle.std.proofs.Common.{◌≡◌, ◌++◌, ◌<◌, ℕ, List, Option, Some, Result, Ok, Err, IfErr, map, refl}
+use Rattle.std.proofs.Common.{◌≡◌, ◌++◌, ◌<◌, ℕ, List, Option, Some, Result, Ok, Err, map, refl}
 use Rattle.ssb_catalog.specs.Shapes.{TableShape}
 use Rattle.ssb_records.specs.CutShort.{IfRead}
 use Rattle.ssb_records.specs.declared.fault.LoadFault.{LoadFault}
 use Rattle.ssb_records.specs.declared.fault.LoadFault.TheVariants as load
-use Rattle.ssb_load.specs.Files.{Bytes, Columns, FailedAt, FailsAt, GrewEach, RoseEach, given_each, loaded}
+use Rattle.ssb_load.specs.Files.{Bytes, FailedAt, FailsAt, GrewEach, RoseEach, given_each, loaded}
+use Rattle.ssb_cells.specs.Tables.{Columns}
 use Rattle.ssb_sql.specs.declared.fault.SqlFault.TheVariants as sql
 use Rattle.ssb_rows.specs.Order.{Row}
 use Rattle.ssb_rows.proofs.Written.{grew-none}

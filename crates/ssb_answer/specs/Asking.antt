@@ -5,7 +5,8 @@ use Rattle.ssb_catalog.specs.Shapes.{TableShape}
 use Rattle.ssb_sql.specs.Spells.{ReadsText}
 use Rattle.ssb_sql.specs.declared.fault.SqlFault.TheVariants as sql
 use Rattle.ssb_query.specs.declared.query.QueryParts.{QueryParts}
-use Rattle.ssb_load.specs.Files.{Bytes, Columns}
+use Rattle.ssb_load.specs.Files.{Bytes}
+use Rattle.ssb_cells.specs.Tables.{Columns}
 use Rattle.ssb_rows.specs.Order.{Row}
 use Rattle.ssb_reply.specs.Reply.{Asks, IsUnbound, seen_rows}
 use Rattle.ssb_rows.specs.Result.{Answers}

@@ -1,50 +1,18 @@
 // Loading alone: the tables of a folder, the one without a key from several sections of its file.
 
-ghost use Rattle.std.specs.Prelude.{◌≡◌, [], All, IfSome, length, vec_len};
+ghost use Rattle.std.specs.Prelude.{◌≡◌, IfSome, length, vec_len};
 
 use crate::probe::{catalog_in, micros_since};
 use ssb_catalog::{Catalog, TableDef};
 use ssb_load::{Joined, load_all_with};
 use ssb_records::{In, PIECE_SIZE};
+use ssb_sections::{Section, sections_of};
 use std::fs;
-use std::fs::{File, OpenFile};
-use std::io::{Read, Seek, SeekFrom, Take};
-use std::os::unix::fs::MetadataExt;
+use std::fs::File;
+use std::io::Read;
 use std::rt::{Clock, Files};
 use std::thread::Threads;
 use std::time::Instant;
-
-// Some bytes of a file, through a handle of their own.
-type Section<F> = In<Take<F>>;
-
-// At most so many bytes of a file, from one on.
-fn section<R: Files>(rt: &R, path: &str, start: u64, size: u64) -> Option<Section<R::File>>
-    ensures { IfSome result (λ section. section.given.items ≡ []) }
-{
-    let mut file = fs::open(rt, path).ok()?;
-    file.seek(SeekFrom::Start(start)).ok()?;
-    Some(In::new(file.take(size)))
-}
-
-fn len_of<R: Files>(rt: &R, path: &str) -> Option<u64> {
-    let file = fs::open(rt, path).ok()?;
-    let known = file.metadata().ok()?;
-    Some(known.len())
-}
-
-// So many sections of a file, all but the last of one size; the last has no end.
-fn sections<R: Files + AllocGlobal>(rt: &R, path: &str, count: u64) -> Option<Vec<Section<R::File>>>
-    ensures { IfSome result (λ sections. All (λ s. s.given.items ≡ []) sections.items) }
-{
-    let size = len_of(rt, path)?.checked_div(count)?;
-    let mut sections = Vec::new(rt.alloc());
-    for number in 0..count {
-        let most = if number + 1 < count { size } else { u64::MAX };
-        let section = section(rt, path, size.saturating_mul(number), most)?;
-        sections.push(section).ok()?;
-    }
-    Some(sections)
-}
 
 fn has_key(table: &TableDef) -> bool {
     table
@@ -63,7 +31,8 @@ fn source_of<R: Files + AllocGlobal>(
     let name = table.name();
     let path = format!(in rt.alloc(); "{folder}/{name}.tbl").ok()?;
     let count = if has_key(table) { 1 } else { count };
-    let sections = sections(rt, path.as_str(), count)?;
+    let file = fs::open(rt, path.as_str()).ok()?;
+    let sections = sections_of(rt, path.as_str(), file, count).ok()?;
     Joined::new(rt.alloc(), sections).ok()
 }
 
@@ -99,8 +68,8 @@ fn time_of<R: Clock + Threads + Sync + AllocGlobal, F: Read + Drop + Send>(
 }
 
 /// How long it takes to load the tables of a folder, whose catalog lies in it as `catalog`, in
-/// microseconds: the table without a key from so many sections of its file, each by a thread of its own.
-/// None where a file is missing, or is not what it should be, and for no section.
+/// microseconds: the table without a key from so many sections of its file, where that has more than 16 MB,
+/// each by a thread of its own. None where a file is missing, or is not what it should be.
 pub(crate) fn loading_time<R: Files<File = File> + Clock + Threads + Sync + AllocGlobal>(
     rt: &R,
     folder: &str,

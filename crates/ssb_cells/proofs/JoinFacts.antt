@@ -1,31 +1,19 @@
 -- Two lists of texts brought together, and the codes of two columns among them.
-use Rattle.std.proofs.Common.{◌≡◌, ◌∙◌, ◌++◌, ◌∷◌, [], ◌+◌, ◌≤◌, ◌<◌, ◌⊎◌, inl, inr, ⊎_elim, ℕ, Bool, true, false, bytes_eq, List, Some, length, map, take, get_or, slice_get, fold, cond, refl, sym, ap, arith, length-append, append_assoc}
+use Rattle.std.proofs.Common.{◌≡◌, ◌∙◌, ◌++◌, ◌∷◌, [], ◌+◌, ◌≤◌, ◌<◌, ◌⊎◌, inl, inr, ⊎_elim, ℕ, Bool, true, false, bytes_eq, List, length, map, get_or, fold, cond, refl, sym, ap, arith, length-append}
 use Rattle.std.specs.List.{list_any, position_or_len}
 use Rattle.std.proofs.lemmas.Bool.{or_cases, cases_lt}
-use Rattle.std.proofs.lemmas.List.{get_or_append_left, get_or_push, length-map, map-append, take_more}
+use Rattle.std.proofs.lemmas.List.{get_or_append_left, get_or_push, length-map, map-append}
 use Rattle.std.proofs.lemmas.List.Sums.{fold-append}
-use Rattle.std.proofs.lemmas.Option.{get_or_from_slice_get, slice_get_within}
 use Rattle.ssb_cells.specs.Cell.{Cell, null, number, text}
 use Rattle.ssb_cells.specs.Codes.{texts_of, with_text}
-use Rattle.ssb_cells.specs.Joined.{AreJoined, HasRoomFor, IsJoined, Recodes, recoded, with_texts}
+use Rattle.ssb_cells.specs.Joined.{AreJoined, HasRoomFor, IsJoined, Recodes, with_texts}
+use Rattle.ssb_packed.specs.Recoded.{recoded}
 use Rattle.ssb_cells.specs.Stored.{AreBelow, IsSpelt, cells_by, cells_in, count_in, kind_of, spelt}
 use Rattle.ssb_cells.specs.declared.column.Stored.{Stored}
 use Rattle.ssb_cells.specs.declared.column.Stored.TheVariants as stored
 use Rattle.ssb_cells.specs.declared.texts.Texts.{Texts}
 use Rattle.ssb_cells.proofs.CodeFacts.{any-own, kept-code, length-fold, length-texts, own-code, same, stays, with-known, with-new}
 use Rattle.ssb_cells.proofs.ColumnFacts.{cells-len, stay}
-
--- ---- a list so far
-
-pub one-more : {X : Type 0} (xs : List X) (i : ℕ) (x : X) → slice_get xs i ≡ Some x → take (i + 1) xs ≡ take i xs ++ x ∷ []
-one-more xs i x at = take_more xs i x (slice_get_within xs i x at) ∙ ap (λ y. take i xs ++ y ∷ []) (get_or_from_slice_get xs i x x at)
-
--- a list that has those of another behind its own, as far as a loop has come
-pub added-more : {X : Type 0} (own now after xs : List X) (i : ℕ) (x : X) → after ≡ now ++ x ∷ [] → now ≡ own ++ take i xs → slice_get xs i ≡ Some x → after ≡ own ++ take (i + 1) xs
-added-more own now after xs i x e so_far at = e ∙ ap (λ ys. ys ++ x ∷ []) so_far ∙ append_assoc own (take i xs) (x ∷ []) ∙ ap (λ ys. own ++ ys) (sym (one-more xs i x at))
-
-pub map-more : {X Y : Type 0} (f : X → Y) (xs : List X) (i : ℕ) (x : X) → slice_get xs i ≡ Some x → map f (take (i + 1) xs) ≡ map f (take i xs) ++ f x ∷ []
-map-more f xs i x at = ap (map f) (one-more xs i x at) ∙ map-append f (take i xs) (x ∷ [])
 
 -- ---- the texts of two lists
 

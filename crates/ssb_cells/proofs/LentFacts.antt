@@ -1,17 +1,15 @@
 -- What the slices that a column lends tell of its values.
-use Rattle.std.proofs.Common.{◌≡◌, ◌⊎◌, ◌↔◌, ◌∙◌, ◌<◌, ◌≤◌, ℕ, ℤ, suc, zero, Bool, true, false, List, [], ◌∷◌, Option, None, Some, inl, inr, ⊎_elim, ltb, true≢false, refl, sym, ap, arith, length, map, slice_get}
-use Rattle.std.specs.List.{range_with_len}
-use Rattle.std.proofs.lemmas.Bool.{cases_Bool, ltb-false, ltb-true}
+use Rattle.std.proofs.Common.{◌≡◌, ◌⊎◌, ◌↔◌, ◌∙◌, ◌<◌, ℕ, ℤ, suc, zero, Bool, true, false, List, [], ◌∷◌, Option, None, Some, inl, inr, refl, sym, ap, arith, length, slice_get}
 use Rattle.std.proofs.lemmas.Option.{none-some, same_Some, slice_get_within}
 use Rattle.ssb_cells.specs.Cell.{Cell, null, number}
 use Rattle.ssb_cells.specs.Codes.{code_at}
-use Rattle.ssb_cells.specs.Lent.{AreCodes, AreNulls, AreNumbers, flag_at}
+use Rattle.ssb_cells.specs.Lent.{AreCodes, AreNulls, AreNumbers}
+use Rattle.ssb_packed.specs.Lent.{flag_at}
 use Rattle.ssb_cells.specs.Stored.{IsSpelt, cells_by, cells_in, count_in, spelt}
 use Rattle.ssb_cells.specs.declared.column.Stored.{Stored}
 use Rattle.ssb_cells.specs.declared.column.Stored.TheVariants as stored
 use Rattle.ssb_cells.specs.declared.texts.Texts.{Texts}
 use Rattle.ssb_cells.proofs.ColumnFacts.{cells-len, null-in, own-place}
-use Rattle.ssb_cells.proofs.FlagFacts.{flag-in, length-flags}
 
 number-or-null : (nulls : List Bool) (ns : List ℤ) → length nulls ≡ length ns → (i : ℕ) (n : ℤ) → slice_get ns i ≡ Some n → (slice_get (cells_by number nulls ns) i ≡ Some null) ⊎ (slice_get (cells_by number nulls ns) i ≡ Some (number n))
 number-or-null [] [] e i n at = absurd (none-some n at)
@@ -52,13 +50,3 @@ null-back (stored.Text t) nulls i at = null-only (spelt t.dictionary) (λ n e. c
 
 pub lent-nulls : (s : Stored) (nulls : List Bool) (words : List ℕ) → length nulls ≡ count_in s → ((i : ℕ) → (flag_at words i ≡ true) ↔ (slice_get nulls i ≡ Some true)) → AreNulls (cells_in s nulls) words
 lent-nulls s nulls words e flags i = (λ set. null-in s nulls i e ((flags i).0 set), λ at. (flags i).1 (null-back s nulls i at))
-
--- the flags that are set in the words of a list of flags are those of the list
-pub words-tell : (words : List ℕ) (len : ℕ) → ((i : ℕ) → len ≤ i → flag_at words i ≡ false) → (i : ℕ) → (flag_at words i ≡ true) ↔ (slice_get (map (flag_at words) (range_with_len 0 len)) i ≡ Some true)
-words-tell words len clear i = (
-  λ set. ⊎_elim
-      (λ lt. flag-in words len i (ltb-true i len lt) ∙ ap Some set)
-      (λ past. absurd (true≢false (sym set ∙ clear i (ltb-false i len past))))
-      (cases_Bool (ltb i len)),
-  λ at. let lt = rw (length-flags words len) at (slice_get_within _ i true at) in same_Some _ _ (sym (flag-in words len i lt) ∙ at),
-)

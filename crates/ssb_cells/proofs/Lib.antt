@@ -1,6 +1,5 @@
 pub mod CodeFacts
 pub mod ColumnFacts
-pub mod FlagFacts
 pub mod JoinFacts
 pub mod LentFacts
 pub mod OrderLaws

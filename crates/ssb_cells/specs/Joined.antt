@@ -6,14 +6,11 @@ use Rattle.ssb_cells.specs.Codes.{with_text}
 use Rattle.ssb_cells.specs.declared.column.Stored.{Stored}
 use Rattle.ssb_cells.specs.declared.column.Stored.TheVariants as stored
 use Rattle.ssb_cells.specs.declared.texts.Texts.{Texts}
+use Rattle.ssb_packed.specs.Recoded.{recoded}
 
 -- the texts, and behind them those of a second list that are not among them
 abbrev pub with_texts : List (List ℕ) → List (List ℕ) → List (List ℕ)
 with_texts texts more = fold with_text texts (map text more)
-
--- the code that a table gives for a code, or 0
-abbrev pub recoded : List ℕ → ℕ → ℕ
-recoded table code = get_or table code 0
 
 -- a table has for each code of the first texts one that spells the same among the second
 pub record Recodes (table : List ℕ) (old new : List (List ℕ)) : Type 0 where

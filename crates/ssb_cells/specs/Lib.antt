@@ -1,12 +1,9 @@
 pub mod Cell
 pub mod Codes
 pub mod Compare
-pub mod Flags
 pub mod Joined
 pub mod Lawful
 pub mod Lent
-pub mod Narrow
-pub mod NarrowCodes
 pub mod Order
 pub mod Parts
 pub mod Spelling

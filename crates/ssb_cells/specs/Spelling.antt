@@ -1,7 +1,6 @@
 -- What a dictionary's set of texts is seen as.
 -- For the contracts inside this crate.
-use Rattle.std.specs.Prelude.{ℕ, ◌≤◌, List, length, map}
-use Rattle.std.specs.Prelude.{string_bytes}
+use Rattle.std.specs.Prelude.{ℕ, ◌≤◌, List, length, map, string_bytes}
 use Rattle.ssb_cells.specs.declared.dictionary.Dictionary.TheInside.{Inside}
 
 abbrev pub spellings : Inside → List (List ℕ)

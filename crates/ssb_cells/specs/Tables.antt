@@ -3,6 +3,10 @@
 use Rattle.std.specs.Prelude.{◌≡◌, ℕ, List, [], ◌∷◌, length, Option, Some, None, slice_get, ⊤}
 use Rattle.ssb_cells.specs.Cell.{Cell, Filled}
 
+-- a table is the list of its columns
+abbrev pub Columns : Type 0
+Columns = List Filled
+
 -- how many rows columns of one length have
 abbrev pub rows_in : List Filled → ℕ
 rows_in [] = 0

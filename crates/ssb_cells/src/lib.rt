@@ -8,12 +8,8 @@
 //! here once for all conditions and orders; so does what every loaded table keeps.
 #![tactic(auto)]
 
-mod codes;
 pub mod column;
 mod dictionary;
-pub mod lent;
-mod nulls;
-mod numbers;
 pub mod order;
 pub mod owned;
 pub mod parts;
@@ -21,13 +17,12 @@ pub mod table;
 mod texts;
 pub mod truth;
 pub mod value;
-mod width;
 
 pub use column::{Column, codes_tell_texts, numbers_have_no_text};
-pub use lent::{CodeSlice, NumberSlice, flag_at};
 pub use order::{compare, sort_cmp};
 pub use owned::OwnedValue;
 pub use parts::ColumnParts;
+pub use ssb_packed::{CodeSlice, NumberSlice, flag_at};
 pub use table::Table;
 pub use truth::Truth;
 pub use value::Value;

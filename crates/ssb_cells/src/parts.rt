@@ -3,7 +3,7 @@
 ghost use Rattle.std.specs.Prelude.{◌≡◌, ◌<◌, ◌+◌, [], ◌++◌, length, ◌==◌, OnOk, OnErr, IfOk};
 
 use crate::column::Column;
-use crate::width::Width;
+use ssb_packed::Width;
 use ssb_terms::ColType;
 use std::alloc::{AllocError, Global};
 use std::marker::Model;

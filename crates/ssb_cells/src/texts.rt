@@ -7,10 +7,9 @@ ghost use Rattle.ssb_cells.specs.Joined.{AreJoined};
 ghost use Rattle.ssb_cells.specs.Stored.{code_for};
 ghost use Rattle.ssb_cells.specs.Values.{cell_of};
 
-use crate::codes::Codes;
 use crate::dictionary::Dictionary;
 use crate::value::Value;
-use crate::width::Width;
+use ssb_packed::{Codes, Width};
 use std::alloc::{AllocError, Global};
 
 /// The code of each value, and the texts that have one. Where a value is null, a 0 stands for it.

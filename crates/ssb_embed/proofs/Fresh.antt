@@ -2,7 +2,7 @@
 use Rattle.std.proofs.Common.{◌≡◌, [], ◌∷◌, ◌∙◌, List, Option, None, Some, map, refl, ap, subst}
 use Rattle.std.proofs.lemmas.List.{append-nil}
 use Rattle.ssb_load.specs.Files.{Bytes, given_each}
-use Rattle.ssb_load.specs.Joined.{all_of}
+use Rattle.ssb_load.specs.Joined.{all_bytes}
 
 pub fresh-each : {R : Type 0} (remaining : R → Option Bytes) (readers : List R) (files : List Bytes) → map remaining readers ≡ map Some files → given_each (map (λ r. []) readers) files ≡ files
 fresh-each remaining [] [] e = refl
@@ -19,6 +19,6 @@ told-whole now start readers files given whole remaining P same empty all e told
     subst P fresh (told (ap (map whole) same ∙ all ∙ e))
 
 -- the bytes of a source alone
-pub whole-alone : (w : Option Bytes) → all_of (w ∷ []) ≡ w
+pub whole-alone : (w : Option Bytes) → all_bytes (w ∷ []) ≡ w
 whole-alone None = refl
 whole-alone (Some bytes) = ap Some (append-nil bytes)

@@ -1,3 +1,1 @@
-pub mod Crossing
 mod OpenFacts
-mod SpanFacts

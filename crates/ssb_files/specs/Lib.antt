@@ -1,3 +1,3 @@
 pub mod Faults
 pub mod Files
-pub mod Sections
+pub mod Opening

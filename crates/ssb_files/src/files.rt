@@ -6,13 +6,14 @@ ghost use Rattle.ssb_catalog.specs.BuiltIn.{ssb_tables};
 ghost use Rattle.ssb_load.specs.Joined.{sources_in};
 ghost use Rattle.ssb_files.specs.Faults.{IsNoCatalog, IsNoQuery, IsOpenFault, IsQueryFault};
 ghost use Rattle.ssb_files.specs.Files.{has_key, longest_query, section_count};
-ghost use Rattle.ssb_files.specs.Sections.{AreOpened, AreSectionsOf, AreSizes, GainsTable};
+ghost use Rattle.ssb_files.specs.Opening.{AreOpened, AreSectionsOf, GainsTable};
+ghost use Rattle.ssb_sections.specs.Sections.{AreSizes};
 
 use crate::fault::ProgramFault;
-use crate::sections::{Section, sections_of};
 use ssb_catalog::{Catalog, ColumnDef, TableDef};
 use ssb_load::Joined;
 use ssb_reply::RunFault;
+use ssb_sections::{Section, sections_of};
 use ssb_sql::SqlFault;
 use std::alloc::{AllocError, Global};
 use std::io::Read;

@@ -5,10 +5,8 @@
 pub mod fault;
 mod files;
 mod report;
-mod sections;
-mod spans;
 
 pub use fault::ProgramFault;
 pub use files::{catalog_of, names_of, open_all, read_query};
 pub use report::{OUT_OF_MEMORY, program_line, program_status_of};
-pub use sections::Section;
+pub use ssb_sections::Section;

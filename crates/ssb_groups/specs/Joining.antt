@@ -5,7 +5,8 @@ use Rattle.std.specs.Int.RustNames.{FitsSigned}
 use Rattle.std.specs.Int.{w128}
 use Rattle.std.specs.Map.{lookup}
 use Rattle.ssb_cells.specs.Cell.{Cell, null, number}
-use Rattle.ssb_job.specs.Kept.{Columns, JobShape}
+use Rattle.ssb_cells.specs.Tables.{Columns}
+use Rattle.ssb_job.specs.Kept.{JobShape}
 use Rattle.ssb_query.specs.declared.column.BoundColumn.{BoundColumn}
 use Rattle.ssb_trees.specs.declared.aggregate.Aggregate.{Aggregate}
 use Rattle.ssb_trees.specs.declared.aggregate.Aggregate.TheVariants as aggregate
@@ -80,6 +81,10 @@ abbrev pub Fits : Joining → Cell → Cell → Type 0
 Fits joining.Adds a b = FitsAdded a b
 Fits (joining.Least p) a b = ⊤
 Fits (joining.Greatest p) a b = ⊤
+
+-- a total is joined to another, where they fit
+abbrev pub JoinsTotal : Joining → Cell → Cell → Cell → Type 0
+JoinsTotal w before more after = Fits w before more → after ≡ joined w before more
 
 -- ---- place by place
 

@@ -6,7 +6,7 @@ ghost use Rattle.std.specs.Prelude.{◌≡◌, ◌<◌, [], get_or, length};
 ghost use Rattle.ssb_cells.specs.Codes.{texts_of};
 ghost use Rattle.ssb_cells.specs.Order.{cell_cmp};
 ghost use Rattle.ssb_groups.specs.Aggregates.{greater, lesser};
-ghost use Rattle.ssb_groups.specs.Joining.{AreOfPlace, Fits, FitsAdded, IsJoining, added, joined, joining_of, place_alone, values_by};
+ghost use Rattle.ssb_groups.specs.Joining.{AreOfPlace, FitsAdded, IsJoining, JoinsTotal, added, joining_of, place_alone, values_by};
 ghost use Rattle.ssb_groups.specs.Keys.{IsKept, kept_total, spelt_cell};
 ghost use Rattle.ssb_groups.specs.Places.{IsSomePlace, values_at};
 ghost use Rattle.ssb_groups.specs.Value.{column_of};
@@ -57,7 +57,7 @@ impl Joining {
         requires joining { IsJoining tables.now self.now }
         requires left { IsKept (values_by tables.now self.now) (kept_total into.old) }
         requires right { IsKept (values_by tables.now self.now) (kept_total more.now) }
-        ensures joined { Fits self.now (spelt_cell (values_by tables.now self.now) (kept_total into.old)) (spelt_cell (values_by tables.now self.now) (kept_total more.now)) → spelt_cell (values_by tables.now self.now) (kept_total into.new) ≡ joined self.now (spelt_cell (values_by tables.now self.now) (kept_total into.old)) (spelt_cell (values_by tables.now self.now) (kept_total more.now)) }
+        ensures joined { let values = values_by tables.now self.now in JoinsTotal self.now (spelt_cell values (kept_total into.old)) (spelt_cell values (kept_total more.now)) (spelt_cell values (kept_total into.new)) }
         ensures kept { IsKept (values_by tables.now self.now) (kept_total into.new) }
     {
         match self {

@@ -43,7 +43,7 @@ fn join_each(tables: &[Table], joinings: &[Joining], into: &mut [KeptTotal], mor
     requires joinings { AreJoinings tables.now joinings.now }
     requires into { AreKept (map (values_by tables.now) joinings.now) (map kept_total into.old) }
     requires more { AreKept (map (values_by tables.now) joinings.now) (map kept_total more.now) }
-    ensures joined { JoinsTotals joinings.now (spelt (map (values_by tables.now) joinings.now) (map kept_total into.old)) (spelt (map (values_by tables.now) joinings.now) (map kept_total more.now)) (spelt (map (values_by tables.now) joinings.now) (map kept_total into.new)) }
+    ensures joined { let values = map (values_by tables.now) joinings.now in JoinsTotals joinings.now (spelt values (map kept_total into.old)) (spelt values (map kept_total more.now)) (spelt values (map kept_total into.new)) }
     ensures kept { AreKept (map (values_by tables.now) joinings.now) (map kept_total into.new) }
 {
     for at in 0..joinings.len() {
@@ -111,7 +111,7 @@ impl Totals {
         requires joinings { AreJoinings tables.now joinings.now }
         requires into { AreKept (map (values_by tables.now) joinings.now) self.old }
         requires more { AreKept (map (values_by tables.now) joinings.now) more.now }
-        ensures joined { JoinsTotals joinings.now (spelt (map (values_by tables.now) joinings.now) self.old) (spelt (map (values_by tables.now) joinings.now) more.now) (spelt (map (values_by tables.now) joinings.now) self.new) }
+        ensures joined { let values = map (values_by tables.now) joinings.now in JoinsTotals joinings.now (spelt values self.old) (spelt values more.now) (spelt values self.new) }
         ensures kept { AreKept (map (values_by tables.now) joinings.now) self.new }
     {
         join_each(tables, joinings, self.each.as_mut_slice(), more.as_slice());

@@ -5,7 +5,8 @@ use Rattle.std.proofs.lemmas.Grind.{flat_map-append}
 use Rattle.std.proofs.lemmas.List.{append-nil, map-append}
 use Rattle.ssb_cells.specs.Cell.{Filled}
 use Rattle.ssb_load.specs.Assembly.{IsAssembled, IsHeld, all_in, subject_in}
-use Rattle.ssb_load.specs.Subject.{Refuses, table}
+use Rattle.ssb_records.specs.Intake.{Refuses}
+use Rattle.ssb_load.specs.Subject.{judge, table}
 use Rattle.ssb_records.specs.Lines.{IsPartOfLine}
 use Rattle.ssb_load.specs.Moved.{moved}
 use Rattle.ssb_records.specs.Records.{Fields}
@@ -63,8 +64,8 @@ too-many rules m good rs rest none before clean le many =
     ∙ past-all (length good) m (length (rs ++ rest)) (first_fault rules m [] (rs ++ rest)) (omega arith) (λ f k is. let lt = number-of rules m rs rest f k (sym (fault-append rules m [] rs rest clean) ∙ is) in omega (arith, lt))
 
 -- a refusal behind good records
-pub refuses-moved : (rules : List Rule) (m k : ℕ) (good rs : List Fields) (e : LoadFault) → key_place rules ≡ None → first_fault rules m [] good ≡ None → k ≡ length good → k ≤ m → Refuses (table rules m) rs e
-    → Refuses (table rules m) (good ++ rs) (moved k m e)
+pub refuses-moved : (rules : List Rule) (m k : ℕ) (good rs : List Fields) (e : LoadFault) → key_place rules ≡ None → first_fault rules m [] good ≡ None → k ≡ length good → k ≤ m → Refuses (judge (table rules m)) rs e
+    → Refuses (judge (table rules m)) (good ++ rs) (moved k m e)
 refuses-moved rules m k good rs (load.Record f n) none before is le h = rw is (first-moved rules m good rs none before (omega (arith, is, le)) ∙ (rw h refl))
 refuses-moved rules m k good rs (load.BadCatalog f n) none before is le h = absurd h
 refuses-moved rules m k good rs (load.Read n) none before is le h = absurd h
@@ -91,14 +92,14 @@ held-after old new lists latest now h subject done earlier taken few = record {
 }
 
 -- a fault of the rows on their way is one of all
-pub held-refuses : (a : Assembly) (lists : List (List Fields)) (latest rs : List Fields) (e : LoadFault) → IsHeld a lists latest → Refuses (subject_in a) rs e → Refuses (subject_in a) (all_in lists ++ rs) (moved a.earlier a.last.max_rows e)
+pub held-refuses : (a : Assembly) (lists : List (List Fields)) (latest rs : List Fields) (e : LoadFault) → IsHeld a lists latest → Refuses (judge (subject_in a)) rs e → Refuses (judge (subject_in a)) (all_in lists ++ rs) (moved a.earlier a.last.max_rows e)
 held-refuses a lists latest rs e h refuses =
     let few = h.few in
     refuses-moved a.last.rules.items a.last.max_rows a.earlier (all_in lists) rs e h.no_key h.before h.earlier (omega (arith, few)) refuses
 
 -- the rows on their way are too many
 pub held-many : (old : Assembly) (last : TableIntake) (lists : List (List Fields)) (latest now rest : List Fields) (earlier : ℕ) (e : LoadFault) → IsHeld old lists latest → subject_of last ≡ subject_in old → IsLoading last now → earlier ≡ old.earlier
-    → (e ≡ load.Record faults.TooManyRows (last.max_rows + 1)) × (last.max_rows < earlier + last.accepted) → Refuses (subject_in old) (all_in lists ++ (now ++ rest)) e
+    → (e ≡ load.Record faults.TooManyRows (last.max_rows + 1)) × (last.max_rows < earlier + last.accepted) → Refuses (judge (subject_in old)) (all_in lists ++ (now ++ rest)) e
 held-many old last lists latest now rest earlier e h subject taken same many =
     let rules = rules-are last old.last.rules.items old.last.max_rows subject in
     let limit = limit-is last old.last.rules.items old.last.max_rows subject in
@@ -107,7 +108,7 @@ held-many old last lists latest now rest earlier e h subject taken same many =
     let is = h.earlier in
     let lt = many.1 in
     let clean = rw (rules, limit) at taken.clean in
-    subst (Refuses (subject_in old) (all_in lists ++ (now ++ rest))) (sym (many.0 ∙ ap (λ m. load.Record faults.TooManyRows (m + 1)) limit))
+    subst (Refuses (judge (subject_in old)) (all_in lists ++ (now ++ rest))) (sym (many.0 ∙ ap (λ m. load.Record faults.TooManyRows (m + 1)) limit))
     (too-many old.last.rules.items old.last.max_rows (all_in lists) now rest h.no_key h.before clean (omega (arith, few, is)) (omega (arith, lt, same, is, count, limit)))
 
 -- one part more is done
@@ -133,7 +134,7 @@ held-next old new lists latest good columns h subject done are earlier taken few
 
 -- with one part more there are too many
 pub held-many-next : (old : Assembly) (last : TableIntake) (lists : List (List Fields)) (latest good rest : List Fields) (earlier : ℕ) (e : LoadFault) → IsHeld old lists latest → subject_of last ≡ subject_in old → IsLoading last good → earlier ≡ old.earlier + old.last.accepted
-    → (e ≡ load.Record faults.TooManyRows (last.max_rows + 1)) × (last.max_rows < earlier + last.accepted) → Refuses (subject_in old) (all_in lists ++ (latest ++ (good ++ rest))) e
+    → (e ≡ load.Record faults.TooManyRows (last.max_rows + 1)) × (last.max_rows < earlier + last.accepted) → Refuses (judge (subject_in old)) (all_in lists ++ (latest ++ (good ++ rest))) e
 held-many-next old last lists latest good rest earlier e h subject taken is many =
     let rules = rules-are last old.last.rules.items old.last.max_rows subject in
     let limit = limit-is last old.last.rules.items old.last.max_rows subject in
@@ -145,6 +146,6 @@ held-many-next old last lists latest good rest earlier e h subject taken is many
     let lt = many.1 in
     let sound = clean-few old.last.rules.items old.last.max_rows (all_in lists) latest h.no_key h.before h.taken.clean (omega (arith, count, before, few)) in
     let clean = rw (rules, limit) at taken.clean in
-    subst (Refuses (subject_in old) (all_in lists ++ (latest ++ (good ++ rest)))) (sym (many.0 ∙ ap (λ m. load.Record faults.TooManyRows (m + 1)) limit))
+    subst (Refuses (judge (subject_in old)) (all_in lists ++ (latest ++ (good ++ rest)))) (sym (many.0 ∙ ap (λ m. load.Record faults.TooManyRows (m + 1)) limit))
     (rw (append_assoc (all_in lists) latest (good ++ rest)) at
     (too-many old.last.rules.items old.last.max_rows (all_in lists ++ latest) good rest h.no_key sound clean (omega (arith, n, count, before, few)) (omega (arith, n, lt, is, count, more, before, limit))))

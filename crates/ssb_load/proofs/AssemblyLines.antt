@@ -6,7 +6,8 @@ use Rattle.std.proofs.lemmas.List.{append-nil, map-append}
 use Rattle.ssb_cells.specs.Cell.{Filled}
 use Rattle.ssb_load.specs.Assembly.{AreParts, Begins, Halts, IsAssembled, IsHeld, IsWhole, RefusesAll, all_in, lead, subject_in}
 use Rattle.ssb_records.specs.CutShort.{IsCutShort}
-use Rattle.ssb_load.specs.Subject.{AreGood, Refuses, Subject}
+use Rattle.ssb_records.specs.Intake.{AreGood, Refuses}
+use Rattle.ssb_load.specs.Subject.{Subject, judge}
 use Rattle.ssb_records.specs.Lines.{AreLines, EndsInLf, IsPartOfLine}
 use Rattle.ssb_load.specs.Moved.{moved}
 use Rattle.ssb_load.specs.Part.{IsBrokenOff, IsPart, IsRefused}
@@ -51,18 +52,18 @@ closed old now bytes text h lf held none cut = record {
 
 -- a record of the line that waits was refused
 pub closed-refuses : (old : Assembly) (s : Subject) (bytes text : List ℕ) (e : LoadFault) (h : IsAssembled old bytes) → EndsInLf text
-    → ((rest : List Fields) → Refuses s (all_in h.lists ++ (h.latest ++ (records_of (lead old.is_cut ++ (old.pending.items ++ text)) ++ rest))) e) → RefusesAll s (bytes ++ text) e
+    → ((rest : List Fields) → Refuses (judge s) (all_in h.lists ++ (h.latest ++ (records_of (lead old.is_cut ++ (old.pending.items ++ text)) ++ rest))) e) → RefusesAll s (bytes ++ text) e
 closed-refuses old s bytes text e h lf refuses more =
     let whole : List ℕ = h.lines ++ (old.pending.items ++ text) in
     let is : bytes ++ text ≡ whole = ap (λ t. t ++ text) h.split ∙ append_assoc h.lines old.pending.items text in
     let f = first-records whole more (inr (lf-behind h.lines (old.pending.items ++ text) (lf-behind old.pending.items text lf))) in
     let all : records_of whole ≡ (all_in h.lists ++ h.latest) ++ records_of (lead old.is_cut ++ (old.pending.items ++ text)) = records-begin old.is_cut h.lines (old.pending.items ++ text) h.begins ∙ ap (λ t. t ++ records_of (lead old.is_cut ++ (old.pending.items ++ text))) h.records in
-    subst (λ rs. Refuses s rs e) (sym (ap (λ t. records_of (t ++ more)) is ∙ f.1 ∙ ap (λ t. t ++ f.0) all ∙ regroup (all_in h.lists) h.latest (records_of (lead old.is_cut ++ (old.pending.items ++ text))) f.0)) (refuses f.0)
+    subst (λ rs. Refuses (judge s) rs e) (sym (ap (λ t. records_of (t ++ more)) is ∙ f.1 ∙ ap (λ t. t ++ f.0) all ∙ regroup (all_in h.lists) h.latest (records_of (lead old.is_cut ++ (old.pending.items ++ text))) f.0)) (refuses f.0)
 
 -- what is refused of a text is refused of a longer one
 pub refuses-on : (s : Subject) (bytes front rest more : List ℕ) (e : LoadFault) → more ≡ front ++ rest → RefusesAll s (bytes ++ front) e → RefusesAll s (bytes ++ more) e
 refuses-on s bytes front rest more e is h last =
-    subst (λ t. Refuses s (records_of t) e) (sym (append_assoc (bytes ++ front) rest last) ∙ ap (λ t. t ++ last) (append_assoc bytes front rest ∙ ap (λ t. bytes ++ t) (sym is))) (h (rest ++ last))
+    subst (λ t. Refuses (judge s) (records_of t) e) (sym (append_assoc (bytes ++ front) rest last) ∙ ap (λ t. t ++ last) (append_assoc bytes front rest ∙ ap (λ t. bytes ++ t) (sym is))) (h (rest ++ last))
 
 clash : {b : Bool} → b ≡ true → b ≡ false → ⊥
 clash t f = false≢true (sym f ∙ t)
@@ -123,12 +124,12 @@ added mid now p bytes more h part none cut held tail now_cut =
 
 -- a refusal among the rows of a part behind those so far
 pub added-refuses : (mid : Assembly) (s : Subject) (p : Part) (bytes more lines rest : List ℕ) (e : LoadFault) (h : IsAssembled mid (bytes ++ p.head.items)) → mid.pending.items ≡ [] → mid.is_cut ≡ true → more ≡ p.head.items ++ (lines ++ rest) → AreLines lines
-    → ((last : List Fields) → Refuses s (all_in h.lists ++ (h.latest ++ (records_of (10 ∷ lines) ++ last))) e) → RefusesAll s (bytes ++ more) e
+    → ((last : List Fields) → Refuses (judge s) (all_in h.lists ++ (h.latest ++ (records_of (10 ∷ lines) ++ last))) e) → RefusesAll s (bytes ++ more) e
 added-refuses mid s p bytes more lines rest e h none cut split are refuses last =
     let is : (bytes ++ more) ++ last ≡ (bytes ++ p.head.items) ++ (lines ++ (rest ++ last)) =
     ap (λ t. (bytes ++ t) ++ last) split ∙ ap (λ t. t ++ last) (sym (append_assoc bytes p.head.items (lines ++ rest))) ∙ append_assoc (bytes ++ p.head.items) (lines ++ rest) last
     ∙ ap (λ t. (bytes ++ p.head.items) ++ t) (append_assoc lines rest last) in
-    subst (λ rs. Refuses s rs e) (sym (ap records_of is ∙ behind mid (bytes ++ p.head.items) lines (rest ++ last) h none cut are ∙ append_assoc (all_in h.lists) h.latest (records_of (10 ∷ lines) ++ records_of (10 ∷ (rest ++ last))))) (refuses (records_of (10 ∷ (rest ++ last))))
+    subst (λ rs. Refuses (judge s) rs e) (sym (ap records_of is ∙ behind mid (bytes ++ p.head.items) lines (rest ++ last) h none cut are ∙ append_assoc (all_in h.lists) h.latest (records_of (10 ∷ lines) ++ records_of (10 ∷ (rest ++ last))))) (refuses (records_of (10 ∷ (rest ++ last))))
 
 -- ---- where a source was not read to its end
 
@@ -157,15 +158,15 @@ halts-refused mid p bytes more e h subject none cut r =
     let s = subject_in mid in
     refuses-halts mid (bytes ++ more) (moved (mid.earlier + mid.last.accepted) mid.last.max_rows e)
     (added-refuses mid s p bytes more r.lines r.rest (moved (mid.earlier + mid.last.accepted) mid.last.max_rows e) h none cut r.split r.whole
-    (λ last. subst (λ rs. Refuses s rs (moved (mid.earlier + mid.last.accepted) mid.last.max_rows e)) (append_assoc (all_in h.lists) h.latest (records_of (10 ∷ r.lines) ++ last))
+    (λ last. subst (λ rs. Refuses (judge s) rs (moved (mid.earlier + mid.last.accepted) mid.last.max_rows e)) (append_assoc (all_in h.lists) h.latest (records_of (10 ∷ r.lines) ++ last))
     (refuses-moved mid.last.rules.items mid.last.max_rows (mid.earlier + mid.last.accepted) (all_in h.lists ++ h.latest) (records_of (10 ∷ r.lines) ++ last) e h.held.no_key good.0 (sym good.1) few
-    (subst (λ t. Refuses t (records_of (10 ∷ r.lines) ++ last) e) subject (r.refuses last)))))
+    (subst (λ t. Refuses (judge t) (records_of (10 ∷ r.lines) ++ last) e) subject (r.refuses last)))))
 
 -- a read failed behind a part that was added
 pub halts-broken : (now : Assembly) (s : Subject) (p : Part) (bytes more : List ℕ) (b : IsBrokenOff p more) → subject_in now ≡ s → IsAssembled now (bytes ++ b.done) → Halts s (bytes ++ more) (load.Read (now.earlier + now.last.accepted + 1))
 halts-broken now s p bytes more b subject h =
     let good = held-good now h.lists h.latest h.held in
-    let P : Subject → Type 0 = λ t. IsCutShort (AreGood t) (bytes ++ more) (now.earlier + now.last.accepted + 1) in
+    let P : Subject → Type 0 = λ t. IsCutShort (AreGood (judge t)) (bytes ++ more) (now.earlier + now.last.accepted + 1) in
     subst P subject (record {
       lines = h.lines;
       rest = now.pending.items ++ b.rest;
@@ -191,9 +192,9 @@ pub whole-last : (old now : Assembly) (bytes : List ℕ) (h : IsAssembled old by
 whole-last old now bytes h held = record { lists = h.lists; latest = h.latest ++ records_of (lead old.is_cut ++ old.pending.items); records = last-records old bytes h; held = held }
 
 pub last-refuses : (old : Assembly) (s : Subject) (bytes : List ℕ) (e : LoadFault) (h : IsAssembled old bytes)
-    → ((rest : List Fields) → Refuses s (all_in h.lists ++ (h.latest ++ (records_of (lead old.is_cut ++ old.pending.items) ++ rest))) e) → Refuses s (records_of bytes) e
+    → ((rest : List Fields) → Refuses (judge s) (all_in h.lists ++ (h.latest ++ (records_of (lead old.is_cut ++ old.pending.items) ++ rest))) e) → Refuses (judge s) (records_of bytes) e
 last-refuses old s bytes e h refuses =
-    subst (λ rs. Refuses s rs e) (ap (λ t. all_in h.lists ++ (h.latest ++ t)) (append-nil (records_of (lead old.is_cut ++ old.pending.items))) ∙ sym (last-records old bytes h)) (refuses [])
+    subst (λ rs. Refuses (judge s) rs e) (ap (λ t. all_in h.lists ++ (h.latest ++ t)) (append-nil (records_of (lead old.is_cut ++ old.pending.items))) ∙ sym (last-records old bytes h)) (refuses [])
 
 -- the columns of all parts
 pub parts-are : (a : Assembly) (bytes : List ℕ) (parts : List (List Filled)) (columns : List Filled) (h : IsWhole a bytes) → columns ≡ columns_of a.last.rules.items h.latest → parts ≡ map (λ v. v.items) a.done.items ++ columns ∷ []

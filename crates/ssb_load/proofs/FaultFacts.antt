@@ -8,11 +8,9 @@ use Rattle.std.proofs.lemmas.Bool.{or_parts}
 use Rattle.ssb_catalog.proofs.Choices.{cond-none}
 use Rattle.ssb_records.specs.Records.{Fields, field}
 use Rattle.ssb_load.specs.Rules.{any_from, any_field, key_of}
-use Rattle.ssb_load.specs.Loader.{fails}
+use Rattle.ssb_load.specs.Loader.{fails, fault_by, fails_some}
 use Rattle.ssb_load.specs.Tables.{repeats, fault_of, first_fault, or_later}
-use Rattle.ssb_load.specs.Loader.{fault_by}
 use Rattle.ssb_records.specs.Width.{has_width}
-use Rattle.ssb_load.specs.Loader.{fails_some}
 use Rattle.ssb_terms.specs.declared.rule.Rule.{Rule}
 use Rattle.ssb_load.specs.declared.value.Test.TheVariants as tests
 use Rattle.ssb_records.specs.declared.fault.RecordFault.{RecordFault}

@@ -6,10 +6,9 @@ use Rattle.ssb_cells.specs.Cell.{Filled}
 use Rattle.ssb_cells.specs.Tables.{AreLong, rows_in}
 use Rattle.ssb_load.proofs.RuleFacts.{sized-len}
 use Rattle.ssb_records.specs.Records.{Fields}
-use Rattle.ssb_load.specs.Rules.{has_key, key_of, is_value, columns_from, columns_of}
+use Rattle.ssb_load.specs.Rules.{is_key_taken, key_of, is_value, columns_from, columns_of}
 use Rattle.ssb_load.specs.Tables.{repeats, fault_of}
-use Rattle.ssb_load.specs.Loader.{fault_by}
-use Rattle.ssb_load.specs.Loader.{Holds, AddsKey, AreSized, seen_in, with_front, with_record}
+use Rattle.ssb_load.specs.Loader.{fault_by, Holds, AddsKey, AreSized, seen_in, with_front, with_record}
 use Rattle.ssb_terms.specs.declared.rule.Rule.{Rule}
 
 -- the same keys give the same fault
@@ -19,7 +18,7 @@ repeats-same (Some z) a b h = h z
 
 pub same-fault : (rules : List Rule) (m : ℕ) (good : List Fields) (seen : List ℤ) (columns : List Filled) (r : Fields) → Holds rules good seen columns
     → fault_by rules m (length good) (seen_in seen) r ≡ fault_of rules m good r
-same-fault rules m good seen columns r h = rw (repeats-same (key_of rules r) (seen_in seen) (has_key rules good) h.held) refl
+same-fault rules m good seen columns r h = rw (repeats-same (key_of rules r) (seen_in seen) (is_key_taken rules good) h.held) refl
 
 -- a record more, key by key
 or-last : (a c : Bool) → a ≡ c → (a || false) ≡ cond c true false
@@ -31,9 +30,9 @@ or-more true true h = refl
 or-more true false h = refl
 or-more false c h = refl
 
-has-last : (rules : List Rule) (good : List Fields) (r : Fields) (z : ℤ) → has_key rules (good ++ r ∷ []) z ≡ cond (is_value (key_of rules r) z) true (has_key rules good z)
+has-last : (rules : List Rule) (good : List Fields) (r : Fields) (z : ℤ) → is_key_taken rules (good ++ r ∷ []) z ≡ cond (is_value (key_of rules r) z) true (is_key_taken rules good z)
 has-last rules [] r z = or-last (is_value (key_of rules r) z) (is_value (key_of rules r) z) refl
-has-last rules (g ∷ gs) r z = ap (λ t. is_value (key_of rules g) z || t) (has-last rules gs r z) ∙ or-more (is_value (key_of rules g) z) (is_value (key_of rules r) z) (has_key rules gs z)
+has-last rules (g ∷ gs) r z = ap (λ t. is_value (key_of rules g) z || t) (has-last rules gs r z) ∙ or-more (is_value (key_of rules g) z) (is_value (key_of rules r) z) (is_key_taken rules gs z)
 
 adds : (key : Option ℤ) (old new : List ℤ) (z : ℤ) → AddsKey key old new → seen_in new z ≡ cond (is_value key z) true (seen_in old z)
 adds None old new z h = rw h refl

@@ -9,7 +9,7 @@ use Rattle.std.proofs.lemmas.List.Concat.{flat_map-append}
 use Rattle.std.proofs.lemmas.List.Elements.{All-drop, All-head, All-nil, All-push, All-same, All-tail, All-take}
 use Rattle.std.specs.List.{All, flat_map}
 use Rattle.ssb_records.specs.Giving.{ends_at}
-use Rattle.ssb_load.specs.Joined.{IsJoined, all_of, given_upto, sources_in, unread}
+use Rattle.ssb_load.specs.Joined.{IsJoined, all_bytes, given_upto, sources_in, unread}
 use Rattle.ssb_load.specs.JoinedLaws.{joined_settled}
 use Rattle.ssb_load.specs.declared.joined.Joined.{Joined}
 use Rattle.ssb_load.specs.declared.lane.Lane.{Lane}
@@ -187,5 +187,5 @@ none-given s j unread = given-none s.given (sources_in j.lanes.items) j.at (j.jo
 
 -- once it met its end, it gave all bytes of its sources, where these are told
 pub all-settled : {S : Type 0} (s : Source S) → ((x : S) → IfSome (s.whole x) (λ all. take (length (s.given x)) all ≡ s.given x)) → ((x : S) → 0 < s.ends x → IfSome (s.whole x) (λ all. s.given x ≡ all))
-    → (j : Joined S s) → 0 < length j.ended.items → IfSome (all_of (map s.whole (sources_in j.lanes.items))) (λ all. given_upto s.given j.at (sources_in j.lanes.items) ≡ all)
+    → (j : Joined S s) → 0 < length j.ended.items → IfSome (all_bytes (map s.whole (sources_in j.lanes.items))) (λ all. given_upto s.given j.at (sources_in j.lanes.items) ≡ all)
 all-settled s begins settled j ended = joined_settled s.given s.ends s.whole begins settled (sources_in j.lanes.items) j.at (j.joined.over ended).1 j.joined.met

@@ -16,7 +16,7 @@ use Rattle.ssb_catalog.specs.Shapes.{is_int}
 use Rattle.ssb_records.specs.Records.{Fields, field, is_empty}
 use Rattle.ssb_load.specs.Numbers.{number_of}
 use Rattle.ssb_terms.specs.Roles.{needs_value, is_key, key_place}
-use Rattle.ssb_load.specs.Rules.{any_from, key_of, is_value, has_key, value_in, cell_in, columns_from, columns_of}
+use Rattle.ssb_load.specs.Rules.{any_from, key_of, is_value, is_key_taken, value_in, cell_in, columns_from, columns_of}
 use Rattle.ssb_load.specs.Loader.{fails}
 use Rattle.ssb_load.specs.Tables.{fault_of, first_fault}
 use Rattle.ssb_cells.specs.Lawful.{FitsType, EachObeys, HasOneKey, IsGiven, IsInt64, IsLawful}
@@ -181,7 +181,7 @@ key-number p f kind key number_passes value_passes =
     (n.0, n.1, cell-number f n.0 full n.1)
 
 -- a good record beside those before it
-good-at : (rules : List Rule) (m : ℕ) (rs : List Fields) (j : ℕ) → first_fault rules m [] rs ≡ None → j < length rs → Passes rules m (length (take j rs)) (has_key rules (take j rs)) (get_or rs j [])
+good-at : (rules : List Rule) (m : ℕ) (rs : List Fields) (j : ℕ) → first_fault rules m [] rs ≡ None → j < length rs → Passes rules m (length (take j rs)) (is_key_taken rules (take j rs)) (get_or rs j [])
 good-at rules m rs j e lt = passes rules m _ _ _ (each-good rules m [] rs j e lt)
 
 -- the key of a good record is a number, which its column holds
@@ -210,7 +210,7 @@ keys-differ rules m rs k p e at key int place i j lt lj same =
     let pj = good-at rules m rs j e lj in
     let a = key-at rules m _ _ (get_or rs i []) k p (good-at rules m rs i e (omega arith)) at key int place in
     let b = key-at rules m _ _ (get_or rs j []) k p pj at key int place in
-    let fresh : has_key rules (take j rs) b.value ≡ false = rw b.is_key at pj.fresh in
+    let fresh : is_key_taken rules (take j rs) b.value ≡ false = rw b.is_key at pj.fresh in
     let n = length-take j rs lj in
     let here = any-none-at (λ r. is_value (key_of rules r) b.value) (take j rs) i [] fresh (omega arith) in
     let there : is_value (key_of rules (get_or rs i [])) b.value ≡ false = rw (get-take i j rs [] lt) at here in

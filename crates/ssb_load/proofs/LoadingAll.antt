@@ -5,7 +5,8 @@ use Rattle.std.specs.declared.alloc.Global.{Global}
 use Rattle.std.proofs.Math.Seq.{drop-length, take-add}
 use Rattle.std.proofs.lemmas.List.{append-nil, drop-drop, length-append, take_all}
 use Rattle.ssb_records.specs.CutShort.{IfRead, IsCutShort}
-use Rattle.ssb_load.specs.Files.{AreLawful, Bytes, Columns, FailedAt, FailsAt, GrewEach, LoadsAll, RoseEach, file_table, given_each, loaded_from}
+use Rattle.ssb_load.specs.Files.{AreLawful, Bytes, FailedAt, FailsAt, GrewEach, LoadsAll, RoseEach, file_table, given_each, loaded_from}
+use Rattle.ssb_cells.specs.Tables.{Columns}
 use Rattle.ssb_records.specs.Giving.{given_since}
 use Rattle.ssb_cells.specs.Lawful.{most_rows}
 use Rattle.ssb_load.specs.Loading.{AreGoodRows, rules_at}

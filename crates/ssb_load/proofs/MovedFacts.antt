@@ -8,7 +8,7 @@ use Rattle.ssb_load.specs.Loader.{fails}
 use Rattle.ssb_load.specs.Moved.{comes_after_limit, moved_first, moved_record}
 use Rattle.ssb_records.specs.Records.{Fields}
 use Rattle.ssb_terms.specs.Roles.{key_place}
-use Rattle.ssb_load.specs.Rules.{any_field, has_key, number_at}
+use Rattle.ssb_load.specs.Rules.{any_field, is_key_taken, number_at}
 use Rattle.ssb_load.specs.Tables.{fault_of, first_fault, or_later, repeats}
 use Rattle.ssb_records.specs.Width.{has_width}
 use Rattle.ssb_terms.specs.declared.rule.Rule.{Rule}
@@ -49,7 +49,7 @@ fault-split : (rules : List Rule) (m : ℕ) (good : List Fields) (r : Fields) �
     → fault_of rules m good r ≡ first_of (early rules r) (late (nat_le m (length good)) (any_field (fails tests.Length) rules r))
 unfolding late
 fault-split rules m good r none =
-    rw (no-repeat (key_place rules) r (has_key rules good) none)
+    rw (no-repeat (key_place rules) r (is_key_taken rules good) none)
     (split-four (not (has_width (length rules) r)) (not (list_all is_utf8 r)) (any_field (fails tests.Number) rules r) (any_field (fails tests.Value) rules r) _ _ _ _ _)
 
 -- ---- one record

@@ -4,7 +4,8 @@ use Rattle.std.specs.Prelude.{IfErr, OnOk, Result, Ok, Err}
 use Rattle.std.proofs.Common.{◌==◌, ◌||◌, ◌≡◌, ◌++◌, ◌∙◌, ℕ, Bool, true, false, List, [], ◌∷◌, ◌⊎◌, inl, inr, refl, sym, ap, subst, append_assoc}
 use Rattle.std.proofs.lemmas.Bool.{false≢true, or_parts}
 use Rattle.std.proofs.lemmas.List.{append-nil}
-use Rattle.ssb_load.specs.Subject.{Refuses}
+use Rattle.ssb_load.specs.Subject.{judge}
+use Rattle.ssb_records.specs.Intake.{Refuses}
 use Rattle.ssb_records.specs.Lines.{AreLines, EndsInLf, IsCutAtLf, IsPartOfLine}
 use Rattle.ssb_load.specs.Part.{RefusesPart, IsPart}
 use Rattle.ssb_records.specs.Records.{Fields, records_of}
@@ -65,7 +66,7 @@ took-lines old now done text front rest cut none at same_cut same tail taken h =
 
 -- a record of the lines was refused
 pub refused-lines : (old now : Part) (e : LoadFault) (done text front rest : List ℕ) → old.is_cut ≡ true → old.tail.items ≡ [] → IsCutAtLf text front rest → now.is_cut ≡ old.is_cut → now.head ≡ old.head
-    → subject_of now.rows ≡ subject_of old.rows → ((good more : List Fields) → IsLoading old.rows good → Refuses (subject_of old.rows) (good ++ (records_of (10 ∷ front) ++ more)) e) → IsPart old done → RefusesPart now (done ++ text) e
+    → subject_of now.rows ≡ subject_of old.rows → ((good more : List Fields) → IsLoading old.rows good → Refuses (judge (subject_of old.rows)) (good ++ (records_of (10 ∷ front) ++ more)) e) → IsPart old done → RefusesPart now (done ++ text) e
 refused-lines old now (load.Record f n) done text front rest cut none at same_cut same subject refuses h = record {
   lines = h.lines ++ front;
   rest = rest;
@@ -73,7 +74,7 @@ refused-lines old now (load.Record f n) done text front rest cut none at same_cu
   whole = more-lines h.lines front h.whole at.whole;
   cut = same_cut ∙ cut;
   head = rw same (head-of old done cut h);
-  refuses = λ more. subst (λ s. Refuses s (records_of (10 ∷ (h.lines ++ front)) ++ more) (load.Record f n)) (sym subject)
+  refuses = λ more. subst (λ s. Refuses (judge s) (records_of (10 ∷ (h.lines ++ front)) ++ more) (load.Record f n)) (sym subject)
       (rw (lines-behind h.lines front h.whole, append_assoc (records_of (10 ∷ h.lines)) (records_of (10 ∷ front)) more) (refuses (records_of (10 ∷ h.lines)) more h.taken));
 }
 refused-lines old now (load.BadCatalog f n) done text front rest cut none at same_cut same subject refuses h = absurd (refuses (records_of (10 ∷ h.lines)) [] h.taken)

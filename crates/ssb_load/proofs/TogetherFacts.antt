@@ -7,7 +7,8 @@ use Rattle.std.proofs.lemmas.List.{append-nil, drop_all, get_or-map, length-map,
 use Rattle.ssb_load.specs.Assembly.{Halts}
 use Rattle.ssb_records.specs.CutShort.{IfRead}
 use Rattle.ssb_records.specs.Giving.{given_since}
-use Rattle.ssb_load.specs.Subject.{Refuses, RefusesRow, StopsBy, StopsIn, Subject}
+use Rattle.ssb_records.specs.Intake.{Refuses, StopsBy, StopsIn}
+use Rattle.ssb_load.specs.Subject.{RefusesRow, Subject, judge}
 use Rattle.ssb_load.specs.Joined.{failures_with, sources_in}
 use Rattle.ssb_records.specs.Records.{Fields, records_of}
 use Rattle.ssb_records.specs.declared.fault.LoadFault.{LoadFault}
@@ -44,14 +45,14 @@ pub grows-none : (base all : List ℕ) → base ≡ [] → all ≡ base ++ given
 grows-none base all none = grows base all all (ap (λ t. t ++ all) (sym none))
 
 -- why sources stop, of the bytes given
-pub halts-fails : (s : Subject) (bytes : List ℕ) (e : LoadFault) → Halts s bytes e → StopsBy s bytes e
+pub halts-fails : (s : Subject) (bytes : List ℕ) (e : LoadFault) → Halts s bytes e → StopsBy (judge s) bytes e
 halts-fails s bytes (load.Record f n) h = subst (λ t. RefusesRow s (records_of t) f n) (append-nil bytes) (h [])
 halts-fails s bytes (load.BadCatalog f n) h = absurd h
 halts-fails s bytes (load.Read n) h = h
 halts-fails s bytes load.Memory h = tt
 
 -- and of all bytes, of which these are a beginning
-pub halts-in : (s : Subject) (bytes more all : List ℕ) (e : LoadFault) → all ≡ bytes ++ more → Halts s bytes e → StopsIn s all e
+pub halts-in : (s : Subject) (bytes more all : List ℕ) (e : LoadFault) → all ≡ bytes ++ more → Halts s bytes e → StopsIn (judge s) all e
 halts-in s bytes more all (load.Record f n) is h = subst (λ t. RefusesRow s (records_of t) f n) (sym is) (h more)
 halts-in s bytes more all (load.BadCatalog f n) is h = absurd h
 halts-in s bytes more all (load.Read n) is h =
@@ -67,7 +68,7 @@ counted (load.Read n) before after is = omega (arith, is)
 counted load.Memory before after is = tt
 
 -- a refusal is no failed read
-pub no-read : (s : Subject) (rs : List Fields) (e : LoadFault) (P : ℕ → Type 0) → Refuses s rs e → IfRead e P
+pub no-read : (s : Subject) (rs : List Fields) (e : LoadFault) (P : ℕ → Type 0) → Refuses (judge s) rs e → IfRead e P
 no-read s rs (load.Record f n) P h = tt
 no-read s rs (load.BadCatalog f n) P h = tt
 no-read s rs (load.Read n) P h = absurd h

@@ -4,7 +4,8 @@ use Rattle.std.specs.Prelude.{◌≡◌, ◌+◌, ◌++◌, ◌≤◌, ◌<◌, 
 use Rattle.std.specs.List.{flat_map}
 use Rattle.ssb_cells.specs.Cell.{Filled}
 use Rattle.ssb_records.specs.CutShort.{IsCutShort}
-use Rattle.ssb_load.specs.Subject.{AreGood, Refuses, RefusesRow, Subject}
+use Rattle.ssb_records.specs.Intake.{AreGood, Refuses}
+use Rattle.ssb_load.specs.Subject.{RefusesRow, Subject, judge}
 use Rattle.ssb_records.specs.Lines.{EndsInLf, IsPartOfLine}
 use Rattle.ssb_records.specs.Records.{Fields, records_of}
 use Rattle.ssb_terms.specs.Roles.{key_place}
@@ -72,20 +73,20 @@ pub record AreParts (rules : List Rule) (max_rows : ℕ) (parts : List (List Fil
 
 -- behind the records that are held one of these is refused, whatever comes behind them
 abbrev pub RefusesBehind : Assembly → List Fields → LoadFault → Type 0
-RefusesBehind a more e = (lists : List (List Fields)) (latest rest : List Fields) → IsHeld a lists latest → Refuses (subject_in a) (all_in lists ++ (latest ++ (more ++ rest))) e
+RefusesBehind a more e = (lists : List (List Fields)) (latest rest : List Fields) → IsHeld a lists latest → Refuses (judge (subject_in a)) (all_in lists ++ (latest ++ (more ++ rest))) e
 
 -- behind them one of a part's rows is refused, whatever comes behind these
 abbrev pub RefusesRows : Assembly → TableIntake → LoadFault → Type 0
 RefusesRows a rows e =
-    (lists : List (List Fields)) (latest good rest : List Fields) → IsHeld a lists latest → IsLoading rows good → Refuses (subject_in a) (all_in lists ++ (latest ++ (good ++ rest))) e
+    (lists : List (List Fields)) (latest good rest : List Fields) → IsHeld a lists latest → IsLoading rows good → Refuses (judge (subject_in a)) (all_in lists ++ (latest ++ (good ++ rest))) e
 
 -- a record of these bytes is refused, whatever comes behind them
 abbrev pub RefusesAll : Subject → List ℕ → LoadFault → Type 0
-RefusesAll s bytes e = (more : List ℕ) → Refuses s (records_of (bytes ++ more)) e
+RefusesAll s bytes e = (more : List ℕ) → Refuses (judge s) (records_of (bytes ++ more)) e
 
 -- why not all records of these bytes were taken, whatever comes behind them
 abbrev pub Halts : Subject → List ℕ → LoadFault → Type 0
 Halts s bytes (load.Record f n) = (more : List ℕ) → RefusesRow s (records_of (bytes ++ more)) f n
 Halts s bytes (load.BadCatalog f n) = ⊥
-Halts s bytes (load.Read n) = IsCutShort (AreGood s) bytes n
+Halts s bytes (load.Read n) = IsCutShort (AreGood (judge s)) bytes n
 Halts s bytes load.Memory = ⊤

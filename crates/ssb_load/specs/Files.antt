@@ -2,7 +2,7 @@
 -- Source: own. A file is a table of its catalog entry's columns, with at most 4,294,967,295 rows.
 use Rattle.std.specs.Prelude.{◌≡◌, ◌+◌, ◌<◌, ◌++◌, ◌∷◌, ℕ, List, [], take, slice_get, slice_index, unwrap_or, Result, Ok, Err, ⊤, Vec}
 use Rattle.std.specs.declared.alloc.Global.{Global}
-use Rattle.ssb_cells.specs.Cell.{Filled}
+use Rattle.ssb_cells.specs.Tables.{Columns}
 use Rattle.ssb_records.specs.CutShort.{IsCutShort}
 use Rattle.ssb_records.specs.Giving.{given_since}
 use Rattle.ssb_cells.specs.Lawful.{IsLawful, most_rows}
@@ -17,10 +17,6 @@ use Rattle.ssb_records.specs.declared.fault.RecordFault.{RecordFault}
 
 abbrev pub Bytes : Type 0
 Bytes = List ℕ
-
--- a table is the list of its columns
-abbrev pub Columns : Type 0
-Columns = List Filled
 
 -- a table's number from 0, a fault of its file, and the number of the record
 abbrev pub FirstFault : Type 0

@@ -20,9 +20,9 @@ abbrev pub given_upto : {S : Type 0} → (S → List ℕ) → ℕ → List S →
 given_upto given at sources = flat_map given (take (at + 1) sources)
 
 -- the bytes of all sources, one after the other, where those of each are told
-abbrev pub all_of : List (Option (List ℕ)) → Option (List ℕ)
-all_of [] = Some []
-all_of (w ∷ ws) = option_append w (all_of ws)
+abbrev pub all_bytes : List (Option (List ℕ)) → Option (List ℕ)
+all_bytes [] = Some []
+all_bytes (w ∷ ws) = option_append w (all_bytes ws)
 
 -- how often reads failed, once more where the fault is that of a read
 abbrev pub failures_with : LoadFault → ℕ → ℕ

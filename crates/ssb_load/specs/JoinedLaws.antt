@@ -6,7 +6,7 @@ use Rattle.std.specs.Fmt.{option_append}
 use Rattle.std.proofs.Common.{◌∙◌, sym, ap, add-one, arith}
 use Rattle.std.proofs.lemmas.List.{append-nil, take-append-le, length-take, take_all}
 use Rattle.std.proofs.lemmas.List.Elements.{All-head, All-tail}
-use Rattle.ssb_load.specs.Joined.{given_upto, all_of}
+use Rattle.ssb_load.specs.Joined.{given_upto, all_bytes}
 
 -- where each of two is told, what is said of both
 both-told : (o p : Option (List ℕ)) (P Q R : List ℕ → Type 0) → ((w v : List ℕ) → P w → Q v → R (w ++ v)) → IfSome o P → IfSome p Q → IfSome (option_append o p) R
@@ -36,29 +36,29 @@ module _ {S : Type 0} (given : S → List ℕ) (ends : S → ℕ) (whole : S →
 
   module _ (begins : (s : S) → Begins s) (settles : (s : S) → Settles s) where
     fronts : (sources : List S) (at : ℕ) → All (λ s. 0 < ends s) (take at sources)
-        → IfSome (all_of (map whole sources)) (λ all. take (length (flat_map given (take (suc at) sources))) all ≡ flat_map given (take (suc at) sources))
+        → IfSome (all_bytes (map whole sources)) (λ all. take (length (flat_map given (take (suc at) sources))) all ≡ flat_map given (take (suc at) sources))
     fronts [] at met = refl
     fronts (s ∷ ss) zero met =
-        both-told (whole s) (all_of (map whole ss)) _ (λ v. Unit {0}) _
-        (λ w v e _. rw (append-nil (given s)) (front-longer (given s) w v e)) (begins s) (told-any (all_of (map whole ss)))
+        both-told (whole s) (all_bytes (map whole ss)) _ (λ v. Unit {0}) _
+        (λ w v e _. rw (append-nil (given s)) (front-longer (given s) w v e)) (begins s) (told-any (all_bytes (map whole ss)))
     fronts (s ∷ ss) (suc at) met =
-        both-told (whole s) (all_of (map whole ss)) _ _ _
+        both-told (whole s) (all_bytes (map whole ss)) _ _ _
         (λ w v e f. rw e (front-behind w _ v f)) (settles s (All-head (λ s. 0 < ends s) s (take at ss) met)) (fronts ss at (All-tail (λ s. 0 < ends s) s (take at ss) met))
 
-    alls : (sources : List S) → All (λ s. 0 < ends s) sources → IfSome (all_of (map whole sources)) (λ all. flat_map given sources ≡ all)
+    alls : (sources : List S) → All (λ s. 0 < ends s) sources → IfSome (all_bytes (map whole sources)) (λ all. flat_map given sources ≡ all)
     alls [] met = refl
     alls (s ∷ ss) met =
-        both-told (whole s) (all_of (map whole ss)) (λ w. given s ≡ w) (λ v. flat_map given ss ≡ v) (λ all. given s ++ flat_map given ss ≡ all)
+        both-told (whole s) (all_bytes (map whole ss)) (λ w. given s ≡ w) (λ v. flat_map given ss ≡ v) (λ all. given s ++ flat_map given ss ≡ all)
         (λ w v e f. rw (e, f) refl) (settles s (All-head (λ s. 0 < ends s) s ss met)) (alls ss (All-tail (λ s. 0 < ends s) s ss met))
 
     -- what the sources up to the one at the place gave is a beginning of all
     pub joined_begins : (sources : List S) (at : ℕ) → All (λ s. 0 < ends s) (take at sources)
-        → IfSome (all_of (map whole sources)) (λ all. take (length (given_upto given at sources)) all ≡ given_upto given at sources)
+        → IfSome (all_bytes (map whole sources)) (λ all. take (length (given_upto given at sources)) all ≡ given_upto given at sources)
     joined_begins sources at met = rw (add-one at) (fronts sources at met)
 
     -- it is all of them where the place is behind the last
     pub joined_settled : (sources : List S) (at : ℕ) → length sources ≤ at → All (λ s. 0 < ends s) (take at sources)
-        → IfSome (all_of (map whole sources)) (λ all. given_upto given at sources ≡ all)
+        → IfSome (all_bytes (map whole sources)) (λ all. given_upto given at sources ≡ all)
     joined_settled sources at over met =
         let most : take at sources ≡ sources = take_all at sources over in
         let every : take (at + 1) sources ≡ sources = take_all (at + 1) sources (omega arith) in

@@ -1,7 +1,7 @@
 -- What a `Joined` tells of itself.
 -- Source: own.
 use Rattle.std.specs.Prelude.{length, map}
-use Rattle.ssb_load.specs.Joined.{all_of, given_upto, sources_in}
+use Rattle.ssb_load.specs.Joined.{all_bytes, given_upto, sources_in}
 use Rattle.ssb_load.specs.declared.joined.Joined.{Joined}
 use Rattle.ssb_records.specs.declared.source.Source.{Ghosts as Source}
 
@@ -11,5 +11,5 @@ joined_source {s = s} = record {
   given = λ joined. given_upto s.given joined.at (sources_in joined.lanes.items);
   failures = λ joined. length joined.failed.items;
   ends = λ joined. length joined.ended.items;
-  whole = λ joined. all_of (map s.whole (sources_in joined.lanes.items));
+  whole = λ joined. all_bytes (map s.whole (sources_in joined.lanes.items));
 }

@@ -9,7 +9,7 @@ use Rattle.ssb_cells.specs.declared.value.Value.{Value}
 use Rattle.ssb_cells.specs.declared.value.Value.TheVariants as values
 use Rattle.ssb_load.specs.Numbers.{number_of}
 use Rattle.ssb_records.specs.Records.{Fields, field}
-use Rattle.ssb_load.specs.Rules.{any_field, cell_in, columns_of, has_key, is_bad_number, is_missing, is_too_long, key_of}
+use Rattle.ssb_load.specs.Rules.{any_field, cell_in, columns_of, is_key_taken, is_bad_number, is_missing, is_too_long, key_of}
 use Rattle.ssb_load.specs.Tables.{repeats}
 use Rattle.ssb_records.specs.Width.{has_width}
 use Rattle.ssb_terms.specs.declared.rule.Rule.{Rule}
@@ -85,7 +85,7 @@ AreSized count (p ∷ ps) (c ∷ cs) = (c.kind ≡ p.kind) × (length c.values �
 
 -- the columns, and the keys that were seen, are those of these records
 pub record Holds (rules : List Rule) (good : List Fields) (seen : List ℤ) (columns : List Filled) : Type 0 where
-  pub held : (z : ℤ) → seen_in seen z ≡ has_key rules good z
+  pub held : (z : ℤ) → seen_in seen z ≡ is_key_taken rules good z
   pub columns_are : columns ≡ columns_of rules good
 
 -- a record was refused for its fault, or for memory

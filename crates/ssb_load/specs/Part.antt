@@ -1,7 +1,8 @@
 -- What a thread keeps of the bytes that a source gave, which may begin and end in the middle of a line.
 -- For the contracts inside this crate.
 use Rattle.std.specs.Prelude.{◌≡◌, ◌++◌, ◌∷◌, [], ℕ, List, true, false, ⊤, ◌⊎◌}
-use Rattle.ssb_load.specs.Subject.{Refuses}
+use Rattle.ssb_load.specs.Subject.{judge}
+use Rattle.ssb_records.specs.Intake.{Refuses}
 use Rattle.ssb_records.specs.Lines.{AreLines, EndsInLf, IsPartOfLine}
 use Rattle.ssb_records.specs.Records.{Fields, records_of}
 use Rattle.ssb_load.specs.TableIntake.{IsLoading, subject_of}
@@ -37,7 +38,7 @@ pub record IsRefused (p : Part) (bytes : List ℕ) (e : LoadFault) : Type 0 wher
   pub whole : AreLines lines
   pub cut : p.is_cut ≡ true
   pub head : EndsInLf p.head.items
-  pub refuses : (more : List Fields) → Refuses (subject_of p.rows) (records_of (10 ∷ lines) ++ more) e
+  pub refuses : (more : List Fields) → Refuses (judge (subject_of p.rows)) (records_of (10 ∷ lines) ++ more) e
 
 -- why the lines of a piece were not all taken
 abbrev pub RefusesPart : Part → List ℕ → LoadFault → Type 0

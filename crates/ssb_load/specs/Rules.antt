@@ -1,6 +1,6 @@
 -- What a column takes of a field, and what it then holds.
 -- Source: own. An empty field is null; `int` is a number of 64 bits; a text has at most 4,096 bytes; `key` and `need` are not null.
-use Rattle.std.specs.Prelude.{◌+◌, ◌∷◌, ◌&&◌, ◌||◌, ℕ, ℤ, pos, Bool, true, false, List, [], length, map, not, nat_lt, is_none, Option, Some, None, unwrap_or, if◌then◌else◌}
+use Rattle.std.specs.Prelude.{◌+◌, ◌∷◌, ◌&&◌, ◌||◌, ℕ, ℤ, pos, Bool, false, List, [], length, map, not, nat_lt, is_none, Option, Some, None, unwrap_or, if◌then◌else◌}
 use Rattle.std.specs.List.{list_any}
 use Rattle.std.specs.Ordering.{int_eq}
 use Rattle.ssb_cells.specs.Cell.{Cell, Filled, null, number, text}
@@ -46,8 +46,8 @@ is_value None z = false
 is_value (Some k) z = int_eq z k
 
 -- a key stands in one of these records
-abbrev pub has_key : List Rule → List Fields → ℤ → Bool
-has_key rules good z = list_any (λ r. is_value (key_of rules r) z) good
+abbrev pub is_key_taken : List Rule → List Fields → ℤ → Bool
+is_key_taken rules good z = list_any (λ r. is_value (key_of rules r) z) good
 
 -- what a column of this type holds of a field that is not empty
 abbrev pub value_in : ColType → List ℕ → Cell

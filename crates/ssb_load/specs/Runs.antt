@@ -3,7 +3,8 @@
 use Rattle.std.specs.Prelude.{◌≡◌, ◌+◌, ◌++◌, ◌<◌, ◌≤◌, ◌∷◌, ℕ, List, [], drop, length, map, take, Result, Ok, Err, Vec}
 use Rattle.std.specs.declared.alloc.Global.{Global}
 use Rattle.ssb_records.specs.CutShort.{IfRead}
-use Rattle.ssb_load.specs.Files.{Columns, FailedAt, GrewEach, given_each}
+use Rattle.ssb_cells.specs.Tables.{Columns}
+use Rattle.ssb_load.specs.Files.{FailedAt, GrewEach, given_each}
 use Rattle.ssb_cells.specs.Lawful.{most_rows}
 use Rattle.ssb_load.specs.Loading.{LoadsFrom}
 use Rattle.ssb_catalog.specs.Shapes.{TableShape, rules_of}

@@ -1,6 +1,6 @@
 -- What the records of a table are taken for, and what is wrong with them.
 -- For the contracts inside this crate.
-use Rattle.std.specs.Prelude.{◌≡◌, ℕ, List, [], Option, Some}
+use Rattle.std.specs.Prelude.{◌≡◌, ℕ, List, [], Some}
 use Rattle.ssb_load.specs.Loading.{AreGoodRows}
 use Rattle.ssb_load.specs.Tables.{first_fault}
 use Rattle.ssb_records.specs.Intake as intake
@@ -30,18 +30,3 @@ FirstIs s records load.Memory = ⊥
 
 abbrev pub judge : Subject → intake.Judge
 judge s = record { are_good = AreGoodRows s.rules s.max_rows; first_is = FirstIs s }
-
-abbrev pub AreGood : Subject → List Fields → Type 0
-AreGood s = intake.AreGood (judge s)
-
-abbrev pub Refuses : Subject → List Fields → LoadFault → Type 0
-Refuses s = intake.Refuses (judge s)
-
-abbrev pub StopsBy : Subject → List ℕ → LoadFault → Type 0
-StopsBy s = intake.StopsBy (judge s)
-
-abbrev pub StopsIn : Subject → List ℕ → LoadFault → Type 0
-StopsIn s = intake.StopsIn (judge s)
-
-abbrev pub Stops : {S : Type 0} (given : S → List ℕ) (known : S → Option (List ℕ)) → Subject → S → S → LoadFault → Type 0
-Stops given known s = intake.Stops given known (judge s)

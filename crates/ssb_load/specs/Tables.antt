@@ -5,7 +5,7 @@ use Rattle.std.specs.List.{list_all}
 use Rattle.std.specs.Str.{is_utf8}
 use Rattle.ssb_cells.specs.Cell.{Filled}
 use Rattle.ssb_records.specs.Records.{Fields}
-use Rattle.ssb_load.specs.Rules.{any_field, is_bad_number, is_missing, is_too_long, key_of, has_key, columns_of}
+use Rattle.ssb_load.specs.Rules.{any_field, is_bad_number, is_missing, is_too_long, key_of, is_key_taken, columns_of}
 use Rattle.ssb_records.specs.Width.{has_width}
 use Rattle.ssb_terms.specs.declared.rule.Rule.{Rule}
 use Rattle.ssb_records.specs.declared.fault.RecordFault.{RecordFault}
@@ -23,7 +23,7 @@ fault_of rules max_rows good r =
     else (if not (list_all is_utf8 r) then Some faults.BadUtf8
     else (if any_field is_bad_number rules r then Some faults.BadNumber
     else (if any_field is_missing rules r then Some faults.NullNotAllowed
-    else (if repeats (key_of rules r) (has_key rules good) then Some faults.DuplicateKey
+    else (if repeats (key_of rules r) (is_key_taken rules good) then Some faults.DuplicateKey
     else (if nat_le max_rows (length good) then Some faults.TooManyRows
     else (if any_field is_too_long rules r then Some faults.TextTooLong
     else None))))))

@@ -2,7 +2,8 @@
 
 ghost use Rattle.std.specs.Prelude.{◌≡◌, ◌≢◌, ◌++◌, ◌+◌, ◌<◌, ◌≤◌, ◌∷◌, [], List, ℕ, IfErr, IfOk, OnOk, OnErr, None, map, true};
 ghost use Rattle.ssb_load.specs.Assembly.{AreParts, Halts, IsAssembled, IsHeld, IsWhole, RefusesAll, RefusesBehind, RefusesRows, all_in, lead, subject_in};
-ghost use Rattle.ssb_load.specs.Subject.{Refuses, Subject, table};
+ghost use Rattle.ssb_records.specs.Intake.{Refuses};
+ghost use Rattle.ssb_load.specs.Subject.{Subject, judge, table};
 ghost use Rattle.ssb_records.specs.Lines.{EndsInLf};
 ghost use Rattle.ssb_load.specs.Part.{HaltsAt, IsBrokenOff, IsPart, IsRefused};
 ghost use Rattle.ssb_records.specs.Records.{Fields, records_of};
@@ -211,7 +212,7 @@ impl Assembly {
         requires { (bytes : List ℕ) × IsAssembled self.old bytes }
         ensures subject { subject_in self.new ≡ subject_in self.old }
         ensures taken { OnOk result ((bytes : List ℕ) → IsAssembled self.old bytes → IsWhole self.new bytes) }
-        ensures refused { IfErr result (λ e. (bytes : List ℕ) → IsAssembled self.old bytes → Refuses (subject_in self.old) (records_of bytes) e) }
+        ensures refused { IfErr result (λ e. (bytes : List ℕ) → IsAssembled self.old bytes → Refuses (judge (subject_in self.old)) (records_of bytes) e) }
     {
         if self.pending.is_empty() {
             return Ok(());
@@ -223,7 +224,7 @@ impl Assembly {
     pub(crate) fn finish(mut self, alloc: Global) -> Result<Vec<Vec<Column>>, LoadFault>
         requires { (bytes : List ℕ) × IsAssembled self bytes }
         ensures taken { IfOk result (λ parts. (bytes : List ℕ) → IsAssembled self bytes → AreParts self.last.rules.items self.last.max_rows (map (λ v. v.items) parts.items) (records_of bytes)) }
-        ensures refused { IfErr result (λ e. (bytes : List ℕ) → IsAssembled self bytes → Refuses (subject_in self) (records_of bytes) e) }
+        ensures refused { IfErr result (λ e. (bytes : List ℕ) → IsAssembled self bytes → Refuses (judge (subject_in self)) (records_of bytes) e) }
     {
         self.take_last(alloc)?;
         let Assembly {

@@ -2,12 +2,13 @@
 
 ghost use Rattle.std.specs.Prelude.{◌≡◌, ◌↔◌, ◌++◌, ◌<◌, [], false, length, map, IfErr, IfOk, IsTrue, OnOk};
 ghost use Rattle.std.specs.List.{All};
-ghost use Rattle.ssb_load.specs.Assembly.{IsAssembled, subject_in};
 ghost use Rattle.ssb_records.specs.CutShort.{IfRead};
 ghost use Rattle.ssb_records.specs.Giving.{given_since};
-ghost use Rattle.ssb_load.specs.Subject.{Stops};
-ghost use Rattle.ssb_load.specs.Joined.{IsJoined, all_of, failures_with, given_upto, sources_in, unread};
+ghost use Rattle.ssb_records.specs.Intake.{Stops};
+ghost use Rattle.ssb_load.specs.Assembly.{IsAssembled, subject_in};
+ghost use Rattle.ssb_load.specs.Joined.{IsJoined, all_bytes, failures_with, given_upto, sources_in, unread};
 ghost use Rattle.ssb_load.specs.JoinedLaws.{joined_begins, joined_settled};
+ghost use Rattle.ssb_load.specs.Subject.{judge};
 
 use crate::assembly::Assembly;
 use crate::lane::Lane;
@@ -69,7 +70,7 @@ impl<S: Source + Drop> Joined<S> {
         ensures given { IfOk result (λ j. given_upto S.given j.at (sources_in j.lanes.items) ≡ []) }
         ensures failed { IfOk result (λ j. j.failed.items ≡ []) }
         ensures ended { IfOk result (λ j. j.ended.items ≡ []) }
-        ensures whole { IfOk result (λ j. all_of (map S.whole (sources_in j.lanes.items)) ≡ all_of (map S.whole sources.items)) }
+        ensures whole { IfOk result (λ j. all_bytes (map S.whole (sources_in j.lanes.items)) ≡ all_bytes (map S.whole sources.items)) }
     {
         Ok(Joined {
             lanes: lanes_of(alloc, sources)?,
@@ -115,7 +116,7 @@ impl<S: Source + Send> Joined<S> {
         ensures subject { OnOk result (subject_in assembly.new ≡ subject_in assembly.old) }
         ensures taken { OnOk result (IsAssembled assembly.new (given_since (⟦<Joined<S> as Source>⟧.given self.old) (⟦<Joined<S> as Source>⟧.given self.new))) }
         ensures ended { OnOk result (⟦<Joined<S> as Source>⟧.ends self.old < ⟦<Joined<S> as Source>⟧.ends self.new) }
-        ensures stops { IfErr result (Stops ⟦<Joined<S> as Source>⟧.given ⟦<Joined<S> as Source>⟧.whole (subject_in assembly.old) self.old self.new) }
+        ensures stops { IfErr result (Stops ⟦<Joined<S> as Source>⟧.given ⟦<Joined<S> as Source>⟧.whole (judge (subject_in assembly.old)) self.old self.new) }
         ensures broken { IfErr result (λ e. IfRead e (λ n. ⟦<Joined<S> as Source>⟧.failures self.old < ⟦<Joined<S> as Source>⟧.failures self.new)) }
     {
         self.begun = true;
@@ -142,7 +143,7 @@ impl<S: Source> Source for Joined<S> {
 
     ghost ends = { λ joined. length joined.ended.items };
 
-    ghost whole = { λ joined. all_of (map S.whole (sources_in joined.lanes.items)) };
+    ghost whole = { λ joined. all_bytes (map S.whole (sources_in joined.lanes.items)) };
 
     fn read(&mut self, room: &mut [u8]) -> Result<usize, SourceFault> {
         self.begun = true;

@@ -12,7 +12,7 @@ use Rattle.ssb_groups.specs.Seen.{seen}
 use Rattle.ssb_groups.specs.Stands.{GroupMap, Stands}
 use Rattle.ssb_groups.proofs.Permuted.{any_order}
 use Rattle.ssb_pipeline.specs.Finish.{IsMerged, section_of}
-use Rattle.ssb_pipeline.specs.Joined.{rows_in, seen_in}
+use Rattle.ssb_pipeline.specs.Joined.{morsel_rows, seen_in}
 use Rattle.ssb_pipeline.specs.Morsels.{morsel, morsel_count, morsel_cut, row_cut, section}
 use Rattle.ssb_pipeline.specs.Part.{Grows, IsLawful, IsWhole, PartState, ours}
 use Rattle.ssb_pipeline.specs.Pass.{IsPassOfParts, PartsState, PassState, known}
@@ -28,31 +28,31 @@ use Rattle.ssb_pipeline.proofs.RunFacts.{whole}
 use Rattle.ssb_pipeline.proofs.SetFacts.{same-set}
 
 -- the groups of a part all of whose section came back
-pub of-whole : (p : PartState) → IsLawful p → IsWhole p → p.groups.counted ≤ length (rows_in p.job p.size p.returned) → AreOver p.job p.size (ours p) p.groups
+pub of-whole : (p : PartState) → IsLawful p → IsWhole p → p.groups.counted ≤ length (morsel_rows p.job p.size p.returned) → AreOver p.job p.size (ours p) p.groups
 of-whole p l all few =
-    let same = same-set (rows_in p.job p.size) refl (rows-cons p.job p.size) p.returned (ours p) l.returned (distinct-range _ _) (λ i h. l.within i (l.among i h)) all in
+    let same = same-set (morsel_rows p.job p.size) refl (rows-cons p.job p.size) p.returned (ours p) l.returned (distinct-range _ _) (λ i h. l.within i (l.among i h)) all in
     record { job = l.job; stands = whole p l all; few = subst (λ n. p.groups.counted ≤ n) (sym (length_permutation _ _ same)) few }
 
 -- the groups of a part that grew so
-pub of-grown : (p q : PartState) (g : GroupMap) → Grows p q → IsLawful q → IsWhole q → g ≡ q.groups → g.counted ≤ length (rows_in q.job q.size q.returned) → AreOver p.job p.size (ours p) g
+pub of-grown : (p q : PartState) (g : GroupMap) → Grows p q → IsLawful q → IsWhole q → g ≡ q.groups → g.counted ≤ length (morsel_rows q.job q.size q.returned) → AreOver p.job p.size (ours p) g
 of-grown p q g grows lawful all is few =
-    let over : AreOver q.job q.size (ours q) g = subst (AreOver q.job q.size (ours q)) (sym is) (of-whole q lawful all (subst (λ (h : GroupMap). h.counted ≤ length (rows_in q.job q.size q.returned)) is few)) in
+    let over : AreOver q.job q.size (ours q) g = subst (AreOver q.job q.size (ours q)) (sym is) (of-whole q lawful all (subst (λ (h : GroupMap). h.counted ≤ length (morsel_rows q.job q.size q.returned)) is few)) in
     let f = grows.follows in rw (f.job, f.size, f.section, f.sections) at over
 
 module _ (j : JobShape) (size : ℕ) where
-  rows-append : (is js : List ℕ) → rows_in j size (is ++ js) ≡ rows_in j size is ++ rows_in j size js
+  rows-append : (is js : List ℕ) → morsel_rows j size (is ++ js) ≡ morsel_rows j size is ++ morsel_rows j size js
   rows-append is js = flat_map-append (morsel (fact_rows j) size) is js
 
   seen-append : (is js : List ℕ) → seen_in j size (is ++ js) ≡ seen_in j size is ++ seen_in j size js
   seen-append is js =
-      ap (λ rs. map (seen j) (joined j rs)) (rows-append is js) ∙ ap (map (seen j)) (joined-append j (rows_in j size is) (rows_in j size js))
-      ∙ map-append (seen j) (joined j (rows_in j size is)) (joined j (rows_in j size js))
+      ap (λ rs. map (seen j) (joined j rs)) (rows-append is js) ∙ ap (map (seen j)) (joined-append j (morsel_rows j size is) (morsel_rows j size js))
+      ∙ map-append (seen j) (joined j (morsel_rows j size is)) (joined j (morsel_rows j size js))
 
   -- the first so many morsels have no more rows than the fact table
-  pub few-rows : (n : ℕ) → length (rows_in j size (range_with_len 0 n)) ≤ fact_rows j
+  pub few-rows : (n : ℕ) → length (morsel_rows j size (range_with_len 0 n)) ≤ fact_rows j
   few-rows n =
       let rows = fact_rows j in
-      let many : length (rows_in j size (range_with_len 0 n)) ≡ row_cut rows size n =
+      let many : length (morsel_rows j size (range_with_len 0 n)) ≡ row_cut rows size n =
       ap length (all-pieces (row_cut rows size) (row-begins rows size) (row-rises rows size) n) ∙ length-range_with_len 0 (row_cut rows size n) in
       omega (arith, many)
 
@@ -60,8 +60,8 @@ module _ (j : JobShape) (size : ℕ) where
     both-ranges : range_with_len 0 b ≡ range_with_len 0 a ++ range_with_len a (b - a)
     both-ranges = sym (range-append 0 a (b - a) a b (omega arith) (omega (arith, order)))
 
-    both-rows : length (rows_in j size (range_with_len 0 b)) ≡ length (rows_in j size (range_with_len 0 a)) + length (rows_in j size (range_with_len a (b - a)))
-    both-rows = ap length (ap (rows_in j size) both-ranges ∙ rows-append (range_with_len 0 a) (range_with_len a (b - a))) ∙ length-append (rows_in j size (range_with_len 0 a)) _
+    both-rows : length (morsel_rows j size (range_with_len 0 b)) ≡ length (morsel_rows j size (range_with_len 0 a)) + length (morsel_rows j size (range_with_len a (b - a)))
+    both-rows = ap length (ap (morsel_rows j size) both-ranges ∙ rows-append (range_with_len 0 a) (range_with_len a (b - a))) ∙ length-append (morsel_rows j size (range_with_len 0 a)) _
 
     -- groups over some first morsels and groups over the next count no more rows than the fact table has
     pub fits : (g h : GroupMap) → AreOver j size (range_with_len 0 a) g → AreOver j size (range_with_len a (b - a)) h → fact_rows j < 2 ^ 32 → g.counted + h.counted < 2 ^ 32

@@ -6,7 +6,7 @@ use lib.ListN.{replicate}
 use Rattle.std.proofs.lemmas.List.FromFn.{length-range_with_len}
 use Rattle.ssb_job.specs.Kept.{AreOneJob, JobShape, fact_rows}
 use Rattle.ssb_groups.specs.Stands.{GroupMap, Stands}
-use Rattle.ssb_pipeline.specs.Joined.{rows_in, seen_in}
+use Rattle.ssb_pipeline.specs.Joined.{morsel_rows, seen_in}
 use Rattle.ssb_pipeline.specs.Marks.{IsKept, marked}
 use Rattle.ssb_pipeline.specs.Morsels.{morsel, morsel_count, morsel_cut, row_cut}
 use Rattle.ssb_pipeline.proofs.JoinedFacts.{seen-none}
@@ -28,26 +28,26 @@ free-all n bs e i h = none n i (sym (ap (λ xs. slice_get xs i) e) ∙ h)
     none (suc n) (suc i) h = none n i h
 
 -- how many rows consecutive morsels have
-rows-of : (j : JobShape) (size a n : ℕ) → length (rows_in j size (range_with_len a n)) + row_cut (fact_rows j) size a ≡ row_cut (fact_rows j) size (a + n)
+rows-of : (j : JobShape) (size a n : ℕ) → length (morsel_rows j size (range_with_len a n)) + row_cut (fact_rows j) size a ≡ row_cut (fact_rows j) size (a + n)
 rows-of j size a zero = let z : a ≡ a + 0 = omega arith in nothing (row_cut (fact_rows j) size a) (row_cut (fact_rows j) size (a + 0)) (ap (row_cut (fact_rows j) size) z)
   where
     nothing : (x y : ℕ) → x ≡ y → 0 + x ≡ y
     nothing x y e = omega (arith, e)
 rows-of j size a (suc n) =
     let rest = rows-of j size (a + 1) n in
-    let all = length-append (morsel (fact_rows j) size a) (rows_in j size (range_with_len (a + 1) n)) in
+    let all = length-append (morsel (fact_rows j) size a) (morsel_rows j size (range_with_len (a + 1) n)) in
     let one = length-range_with_len (row_cut (fact_rows j) size a) (row_cut (fact_rows j) size (a + 1) - row_cut (fact_rows j) size a) in
     let up = row-rises (fact_rows j) size a in
     let next : a + 1 + n ≡ a + suc n = omega arith in
-    added (length (rows_in j size (a ∷ range_with_len (a + 1) n))) (length (morsel (fact_rows j) size a)) (length (rows_in j size (range_with_len (a + 1) n))) (row_cut (fact_rows j) size a) (row_cut (fact_rows j) size (a + 1))
+    added (length (morsel_rows j size (a ∷ range_with_len (a + 1) n))) (length (morsel (fact_rows j) size a)) (length (morsel_rows j size (range_with_len (a + 1) n))) (row_cut (fact_rows j) size a) (row_cut (fact_rows j) size (a + 1))
     (row_cut (fact_rows j) size (a + 1 + n)) all one up rest
     ∙ ap (row_cut (fact_rows j) size) next
   where
     added : (all first rest low high end : ℕ) → all ≡ first + rest → first ≡ high - low → low ≤ high → rest + high ≡ end → all + low ≡ end
     added all first rest low high end h f u r = omega (arith, h, f, u, r)
 
-pub rows-fit : (j : JobShape) (size a n : ℕ) → length (rows_in j size (range_with_len a n)) ≤ fact_rows j
-rows-fit j size a n = fit (length (rows_in j size (range_with_len a n))) (row_cut (fact_rows j) size a) (fact_rows j) ((a + n) * size) (rows-of j size a n)
+pub rows-fit : (j : JobShape) (size a n : ℕ) → length (morsel_rows j size (range_with_len a n)) ≤ fact_rows j
+rows-fit j size a n = fit (length (morsel_rows j size (range_with_len a n))) (row_cut (fact_rows j) size a) (fact_rows j) ((a + n) * size) (rows-of j size a n)
   where
     fit : (all low rows x : ℕ) → all + low ≡ min rows x → all ≤ rows
     fit all low rows x h = omega (arith, h)

@@ -10,7 +10,7 @@ use Rattle.ssb_job.specs.Kept.{AreOneJob, JobShape, fact_rows}
 use Rattle.ssb_groups.specs.Rows.{SeenRow}
 use Rattle.ssb_groups.specs.Stands.{GroupMap, Stands}
 use Rattle.ssb_groups.proofs.Permuted.{any_order}
-use Rattle.ssb_pipeline.specs.Joined.{rows_in, seen_in}
+use Rattle.ssb_pipeline.specs.Joined.{morsel_rows, seen_in}
 use Rattle.ssb_pipeline.specs.Marks.{IsKept, marked}
 use Rattle.ssb_pipeline.specs.Morsels.{morsel_count, morsel_cut, section}
 use Rattle.ssb_pipeline.specs.Part.{Hands, IsLawful, PartState, Returns, has}
@@ -117,19 +117,19 @@ module _ (j : JobShape) (size s k first : ℕ) where
     stands-here : Stands x.groups (seen_in j size (i ∷ []))
     stands-here = rw (due.one, due.same) at due.of.over.stands
 
-    few-here : x.groups.counted ≤ length (rows_in j size (i ∷ []))
+    few-here : x.groups.counted ≤ length (morsel_rows j size (i ∷ []))
     few-here = rw (due.one, due.same) at due.of.over.few
 
-    rows-more : length (rows_in j size (marked first marks)) + length (rows_in j size (i ∷ [])) ≡ length (rows_in j size (marked first after))
-    rows-more = sym (length-append (rows_in j size (marked first marks)) (rows_in j size (i ∷ []))) ∙ sym (length_permutation _ _ (one-more (rows_in j size) refl (rows-cons j size) first marks p i is free))
+    rows-more : length (morsel_rows j size (marked first marks)) + length (morsel_rows j size (i ∷ [])) ≡ length (morsel_rows j size (marked first after))
+    rows-more = sym (length-append (morsel_rows j size (marked first marks)) (morsel_rows j size (i ∷ []))) ∙ sym (length_permutation _ _ (one-more (morsel_rows j size) refl (rows-cons j size) first marks p i is free))
 
     still : length after ≡ length marks
     still = length-set marks p true
 
-    rows-few : length (rows_in j size (marked first after)) < 2 ^ 32
+    rows-few : length (morsel_rows j size (marked first after)) < 2 ^ 32
     rows-few =
-        let most = no-more (rows_in j size) refl (rows-cons j size) first after in
-        let room = subst (λ n. length (rows_in j size (range_with_len first n)) < 2 ^ 32) (sym still) h.room in
+        let most = no-more (morsel_rows j size) refl (rows-cons j size) first after in
+        let room = subst (λ n. length (morsel_rows j size (range_with_len first n)) < 2 ^ 32) (sym still) h.room in
         omega (arith, most, room)
 
     -- there is room in a count of rows
@@ -185,7 +185,7 @@ module _ (j : JobShape) (size s k first : ℕ) where
           stands = stands-more n merges;
           few = let a = h.few in let b = few-here in let m = rows-more in omega (arith, counted, a, b, m);
           bound = omega (arith, e, bound);
-          room = subst (λ m. length (rows_in j size (range_with_len first m)) < 2 ^ 32) (sym e) h.room;
+          room = subst (λ m. length (morsel_rows j size (range_with_len first m)) < 2 ^ 32) (sym e) h.room;
         }
 
     -- the morsel comes back

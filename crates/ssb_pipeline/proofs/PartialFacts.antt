@@ -6,11 +6,11 @@ use Rattle.std.proofs.lemmas.List.FromFn.{length-range_with_len}
 use Rattle.ssb_job.specs.Kept.{AreOneJob, JobShape, fact_rows, joined}
 use Rattle.ssb_groups.specs.Seen.{seen}
 use Rattle.ssb_groups.specs.Stands.{GroupMap, Stands}
-use Rattle.ssb_pipeline.specs.Joined.{rows_in}
+use Rattle.ssb_pipeline.specs.Joined.{morsel_rows}
 use Rattle.ssb_pipeline.specs.Morsels.{morsel, row_cut}
 use Rattle.ssb_pipeline.specs.State.{IsOfTicket, TicketState}
 
-one-morsel : (j : JobShape) (size i : ℕ) → rows_in j size (i ∷ []) ≡ morsel (fact_rows j) size i
+one-morsel : (j : JobShape) (size i : ℕ) → morsel_rows j size (i ∷ []) ≡ morsel (fact_rows j) size i
 one-morsel j size i = append-nil (morsel (fact_rows j) size i)
 
 by-rows : (j : JobShape) (size i : ℕ) (g : GroupMap) → Stands g (map (seen j) (joined j (morsel (fact_rows j) size i))) → AreOneJob g.job j

@@ -4,7 +4,7 @@ use Rattle.std.specs.Prelude.{◌≡◌, ◌≤◌, ◌<◌, ◌+◌, ◌^◌, �
 use Rattle.std.specs.List.{range_with_len}
 use Rattle.ssb_job.specs.Kept.{AreOneJob, JobShape, fact_rows}
 use Rattle.ssb_groups.specs.Stands.{GroupMap, Stands}
-use Rattle.ssb_pipeline.specs.Joined.{rows_in, seen_in}
+use Rattle.ssb_pipeline.specs.Joined.{morsel_rows, seen_in}
 use Rattle.ssb_pipeline.specs.Morsels.{morsel_count, morsel_cut}
 
 -- the numbers of the marked places, the first of which is a
@@ -23,6 +23,6 @@ pub record IsKept (j : JobShape) (size s k first next : ℕ) (marks : List Bool)
   pub came : back ≡ length (marked first marks)
   pub job : AreOneJob g.job j
   pub stands : Stands g (seen_in j size (marked first marks))
-  pub few : g.counted ≤ length (rows_in j size (marked first marks))
+  pub few : g.counted ≤ length (morsel_rows j size (marked first marks))
   pub bound : first + length marks < 2 ^ 32
-  pub room : length (rows_in j size (range_with_len first (length marks))) < 2 ^ 32
+  pub room : length (morsel_rows j size (range_with_len first (length marks))) < 2 ^ 32

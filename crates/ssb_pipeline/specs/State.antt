@@ -3,7 +3,7 @@
 use Rattle.std.specs.Prelude.{ℕ, ◌≤◌, List, ◌∷◌, [], length}
 use Rattle.ssb_job.specs.Kept.{AreOneJob, JobShape}
 use Rattle.ssb_groups.specs.Stands.{GroupMap, Stands}
-use Rattle.ssb_pipeline.specs.Joined.{rows_in, seen_in}
+use Rattle.ssb_pipeline.specs.Joined.{morsel_rows, seen_in}
 
 -- a morsel of a job that was handed out: its number, among morsels of this size
 pub record TicketState : Type 0 where
@@ -20,7 +20,7 @@ pub record PartialState : Type 0 where
 pub record AreOver (j : JobShape) (size : ℕ) (morsels : List ℕ) (g : GroupMap) : Type 0 where
   pub job : AreOneJob g.job j
   pub stands : Stands g (seen_in j size morsels)
-  pub few : g.counted ≤ length (rows_in j size morsels)
+  pub few : g.counted ≤ length (morsel_rows j size morsels)
 
 -- the groups are of the ticket's job, over its morsel
 pub record IsOfTicket (p : PartialState) : Type 0 where

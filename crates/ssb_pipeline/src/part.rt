@@ -3,7 +3,7 @@
 ghost use Rattle.std.specs.Prelude.{◌≡◌, ◌<◌, ◌≤◌, ◌-◌, ℕ, true, false, IfOk, OnErr, OnOk, length};
 ghost use Rattle.std.specs.List.{range_with_len};
 ghost use Rattle.std.specs.Arc.{arc_value};
-ghost use Rattle.ssb_pipeline.specs.Joined.{rows_in};
+ghost use Rattle.ssb_pipeline.specs.Joined.{morsel_rows};
 ghost use Rattle.ssb_pipeline.specs.Morsels.{morsel_cut};
 ghost use Rattle.ssb_pipeline.specs.Part.{GivesBack, GivesUp, Grows, HandsOut, IsBack, IsHandedOut, IsLawful, IsOpening, IsWhole, Returns, has, ours};
 ghost use Rattle.ssb_job.specs.Kept.{AreOneJob};
@@ -290,7 +290,7 @@ impl Part {
     /// The groups over the morsels that came back; they count no more rows than lie there.
     pub fn into_groups(self) -> Groups
         ensures groups { result ≡ self.groups }
-        ensures few { result.counted ≤ length (rows_in self.job self.size self.returned) }
+        ensures few { result.counted ≤ length (morsel_rows self.job self.size self.returned) }
     {
         let Part {
             alloc: _,

@@ -13,7 +13,8 @@ use Rattle.ssb_bind.specs.Faults.{Means, least_fault}
 use Rattle.ssb_bind.specs.declared.fault.BindFault.{BindFault}
 use Rattle.ssb_query.specs.declared.query.QueryParts.{QueryParts}
 use Rattle.ssb_groups.specs.Rows.{SeenRow}
-use Rattle.ssb_load.specs.Files.{Bytes, Columns, FirstFault, loaded}
+use Rattle.ssb_load.specs.Files.{Bytes, FirstFault, loaded}
+use Rattle.ssb_cells.specs.Tables.{Columns}
 use Rattle.ssb_records.specs.declared.fault.RecordFault.{RecordFault}
 use Rattle.ssb_rows.specs.Order.{Row}
 use Rattle.ssb_reply.specs.Reply.{Replies, Asks, IsUnbound, AreTables, seen_rows}

@@ -1,7 +1,8 @@
 -- What a run replies to a query over the files of a catalog's tables: it loads, reads, binds and answers, and the first fault ends it.
 -- Source: own; the order is that of the work.
 use Rattle.std.specs.Prelude.{◌≡◌, ◌++◌, ℕ, List, map, Some, Result, Ok, Err, ⊤}
-use Rattle.ssb_load.specs.Files.{Bytes, Columns, loaded}
+use Rattle.ssb_load.specs.Files.{Bytes, loaded}
+use Rattle.ssb_cells.specs.Tables.{Columns}
 use Rattle.ssb_catalog.specs.Shapes.{TableShape}
 use Rattle.ssb_records.specs.declared.fault.LoadFault.TheVariants as load
 use Rattle.ssb_sql.specs.Spells.{IsRead, ReadsText}

@@ -1,6 +1,5 @@
 // What takes bytes.
-ghost use Rattle.std.specs.Prelude.{◌≡◌, ◌+◌, ◌++◌, ◌≤◌, ℕ, List, Option, length, IfOk, OnOk, OnErr};
-ghost use Rattle.std.specs.Prelude.{◌<◌};
+ghost use Rattle.std.specs.Prelude.{◌≡◌, ◌+◌, ◌++◌, ◌≤◌, ℕ, List, Option, length, IfOk, OnOk, OnErr, ◌<◌};
 ghost use Rattle.std.specs.Io.KnownBytes.{Appends};
 ghost use Rattle.ssb_rows.specs.Taking.{taken_of, failures_of, GrewAlike, IsBeginning};
 

@@ -1,7 +1,7 @@
 use Rattle.std.proofs.Common.{◌≡◌, map, take, vec_len}
 use Rattle.std.specs.Io.Take.{take_limit}
 use Rattle.ssb_load.specs.Joined.{sources_in}
-use Rattle.ssb_files.specs.Sections.{AreOpened}
+use Rattle.ssb_files.specs.Opening.{AreOpened}
 use Rattle.ssb_files.proofs.files.open_all.Given as goal
 
 abbrev pub invariant-loop-table : goal.invariant-loop-table

@@ -1,7 +1,6 @@
-use Rattle.std.proofs.Common.{◌∙◌, [], ap, refl, string_bytes, sym, unwrap_or}
+use Rattle.std.proofs.Common.{refl, string_bytes, sym}
 use Rattle.std.proofs.lemmas.Bool.{ltb-true}
 use Rattle.std.proofs.lemmas.Option.{slice_get-map, slice_get_read}
-use Rattle.ssb_files.specs.Faults.{name_told}
 use Rattle.ssb_files.proofs.report.name_in.Goals as goal
 
 pub returns-in-Some : goal.returns-in-Some

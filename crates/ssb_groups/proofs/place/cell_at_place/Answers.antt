@@ -1,7 +1,6 @@
 use Rattle.std.proofs.Common.{◌<◌, ap, arith, length, subst}
 use Rattle.std.proofs.lemmas.Option.{unwrap_or-slice_get}
-use Rattle.ssb_cells.specs.Tables.{rows_in}
-use Rattle.ssb_job.specs.Kept.{Columns}
+use Rattle.ssb_cells.specs.Tables.{rows_in, Columns}
 use Rattle.ssb_groups.specs.Places.{HasRow, HasSomeRow, IsPlace, IsSomePlace}
 use Rattle.ssb_groups.proofs.ColumnFacts.{table-here}
 use Rattle.ssb_groups.proofs.place.cell_at_place.Goals as goal

@@ -1,6 +1,6 @@
 use Rattle.std.proofs.Common.{◌<◌, ◌≡◌, Some, length, slice_get, subst, sym}
 use Rattle.ssb_cells.specs.Codes.{texts_of}
-use Rattle.ssb_job.specs.Kept.{Columns}
+use Rattle.ssb_cells.specs.Tables.{Columns}
 use Rattle.ssb_groups.specs.Places.{IsPlace, IsSomePlace}
 use Rattle.ssb_groups.proofs.ColumnFacts.{table-here, values-here}
 use Rattle.ssb_groups.proofs.place.text_at_place.Goals as goal

@@ -4,7 +4,8 @@ use Rattle.std.proofs.lemmas.Option.{slice_get_within}
 use Rattle.ssb_cells.specs.Codes.{with_text}
 use Rattle.ssb_cells.specs.Cell.{text}
 use Rattle.ssb_cells.specs.Joined.{with_texts}
-use Rattle.ssb_cells.proofs.JoinFacts.{length-both, one-more, recodes-more, with-one}
+use Rattle.ssb_cells.proofs.JoinFacts.{length-both, recodes-more, with-one}
+use Rattle.ssb_packed.proofs.Loops.{one-more}
 use Rattle.ssb_cells.proofs.dictionary.Dictionary.add_all.Goals as goal
 
 pub place_of-requires : goal.place_of-requires

@@ -1,7 +1,8 @@
 use Rattle.std.proofs.Common.{◌++◌, ◌∷◌, ◌∙◌, ap, refl, subst, arith}
 use Rattle.std.proofs.lemmas.Result.{err_from_is_err_and}
 use Rattle.ssb_load.specs.Assembly.{all_in, subject_in}
-use Rattle.ssb_load.specs.Subject.{Refuses}
+use Rattle.ssb_load.specs.Subject.{judge}
+use Rattle.ssb_records.specs.Intake.{Refuses}
 use Rattle.ssb_records.specs.Records.{records_of}
 use Rattle.ssb_load.proofs.AssemblyFacts.{held-after}
 use Rattle.ssb_load.proofs.AssemblyLines.{added, added-refuses, refuses-on, waits-on}
@@ -31,7 +32,7 @@ returns-in_err-add_rows-clause-refused c =
     let mid = rw c.deref-2.ensures.value at (c.in_ok-close.ensures.taken bytes h) in
     let none = c.in_ok-close.ensures.none in
     added-refuses c.close.new.self (subject_in c.args.self.now) c.args.part bytes more part.lines c.args.part.tail.items e mid none.0 none.1 part.split part.whole
-    (λ last. subst (λ s. Refuses s (all_in mid.lists ++ (mid.latest ++ (records_of (10 ∷ part.lines) ++ last))) e) c.close.ensures.subject
+    (λ last. subst (λ s. Refuses (judge s) (all_in mid.lists ++ (mid.latest ++ (records_of (10 ∷ part.lines) ++ last))) e) c.close.ensures.subject
     (c.in_err-add_rows.ensures.refused mid.lists mid.latest (records_of (10 ∷ part.lines)) last mid.held part.taken)))
 
 pub returns-clause-taken : goal.returns-clause-taken

@@ -1,6 +1,7 @@
 use Rattle.std.proofs.Common.{◌++◌, append_assoc, refl, subst, arith}
 use Rattle.ssb_load.specs.Assembly.{all_in, lead, subject_in}
-use Rattle.ssb_load.specs.Subject.{Refuses}
+use Rattle.ssb_load.specs.Subject.{judge}
+use Rattle.ssb_records.specs.Intake.{Refuses}
 use Rattle.ssb_records.specs.Records.{records_of}
 use Rattle.ssb_load.proofs.AssemblyFacts.{held-many, held-refuses}
 use Rattle.ssb_load.proofs.PartTaking.{if-err}
@@ -15,7 +16,7 @@ returns-in-Ok-clause-refused c =
     let more = records_of (lead a.is_cut ++ a.pending.items) in
     let taken = rw (c.lead-before.ensures, c.deref.ensures.value) at (c.in-Ok.ensures.taken latest h.taken) in
     let r = held-many a c.take_text.new.intake lists latest (latest ++ more) rest _ e h c.take_text.ensures.subject taken refl many in
-    subst (λ rs. Refuses (subject_in a) (all_in lists ++ rs) e) (append_assoc latest more rest) r) c.check_limit.ensures.many
+    subst (λ rs. Refuses (judge (subject_in a)) (all_in lists ++ rs) e) (append_assoc latest more rest) r) c.check_limit.ensures.many
 
 pub returns-clause-refused : goal.returns-clause-refused
 returns-clause-refused c lists latest rest h =

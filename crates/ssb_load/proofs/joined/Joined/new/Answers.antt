@@ -1,5 +1,5 @@
 use Rattle.std.proofs.Common.{◌≡◌, ◌∙◌, map, ap}
-use Rattle.ssb_load.specs.Joined.{all_of, given_upto, sources_in}
+use Rattle.ssb_load.specs.Joined.{all_bytes, given_upto, sources_in}
 use Rattle.ssb_load.proofs.JoinedFacts.{given-none, joined-new, sources-unread}
 use Rattle.ssb_load.proofs.joined.Joined.new.Goals as goal
 
@@ -19,4 +19,4 @@ returns-clause-given g c =
 
 pub returns-clause-whole : goal.returns-clause-whole
 returns-clause-whole g c =
-    ap (λ lanes. all_of (map g.S.Source.whole (sources_in lanes))) c.in_ok-lanes_of.ensures ∙ ap (λ sources. all_of (map g.S.Source.whole sources)) (sources-unread c.args.sources.items)
+    ap (λ lanes. all_bytes (map g.S.Source.whole (sources_in lanes))) c.in_ok-lanes_of.ensures ∙ ap (λ sources. all_bytes (map g.S.Source.whole sources)) (sources-unread c.args.sources.items)

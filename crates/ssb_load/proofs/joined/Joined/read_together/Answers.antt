@@ -2,8 +2,9 @@
 use Rattle.std.proofs.Common.{◌≡◌, ◌∙◌, length, map, drop, take, [], ap, arith, rules, subst, sym}
 use Rattle.std.specs.List.{All}
 use Rattle.ssb_load.specs.Assembly.{IsAssembled, subject_in}
-use Rattle.ssb_load.specs.Subject.{StopsBy, StopsIn}
-use Rattle.ssb_load.specs.Joined.{all_of, given_upto, sources_in}
+use Rattle.ssb_load.specs.Subject.{judge}
+use Rattle.ssb_records.specs.Intake.{StopsBy, StopsIn}
+use Rattle.ssb_load.specs.Joined.{all_bytes, given_upto, sources_in}
 use Rattle.ssb_load.specs.JoinedLaws.{joined_begins}
 use Rattle.ssb_load.proofs.JoinedFacts.{given-all, joined-over, joined-stopped, none-given}
 use Rattle.ssb_records.proofs.TakingAll.{always, holds-of, later-is}
@@ -55,19 +56,19 @@ returns-in-Err-clause-stops g c =
     let given = given_upto g.S.Source.given at sources in
     let back = came-back c.args.self.now.lanes c.read_together.new.lanes (search rules) in
     let laws = g.met.S.Source g.world.𝓛 g.world.𝓜 g.world.𝓡 ((λ s x. x), (λ x. x), (λ x. x), λ x. x) in
-    let same = ap all_of c.read_together.ensures.whole ∙ ap (λ lanes. all_of (map g.S.Source.whole (sources_in lanes))) c.deref_mut.ensures.value in
+    let same = ap all_bytes c.read_together.ensures.whole ∙ ap (λ lanes. all_bytes (map g.S.Source.whole (sources_in lanes))) c.deref_mut.ensures.value in
     let now = ap (λ lanes. given_upto g.S.Source.given at (sources_in lanes)) back.is in
     record {
-      fails = subst (λ t. StopsBy s t e) (sym (since-none _ _ (none-given g.S.Source c.args.self.now c.requires.unread) ∙ now)) (halts-fails s given e c.in-Err.ensures.stops.halts);
-      told = always (all_of (map g.S.Source.whole (sources_in c.args.self.now.lanes.items))) _ (λ all known.
+      fails = subst (λ t. StopsBy (judge s) t e) (sym (since-none _ _ (none-given g.S.Source c.args.self.now c.requires.unread) ∙ now)) (halts-fails s given e c.in-Err.ensures.stops.halts);
+      told = always (all_bytes (map g.S.Source.whole (sources_in c.args.self.now.lanes.items))) _ (λ all known.
           let front = holds-of _ (λ w. take (length given) w ≡ given) all (same ∙ known) (joined_begins g.S.Source.given g.S.Source.ends g.S.Source.whole laws.begins laws.settled sources at c.in-Err.ensures.stops.met) in
-          subst (λ t. StopsIn s t e) (sym (since-none _ all (none-given g.S.Source c.args.self.now c.requires.unread))) (halts-in s given (drop (length given) all) all e (later-is all given front) c.in-Err.ensures.stops.halts));
+          subst (λ t. StopsIn (judge s) t e) (sym (since-none _ all (none-given g.S.Source c.args.self.now c.requires.unread))) (halts-in s given (drop (length given) all) all e (later-is all given front) c.in-Err.ensures.stops.halts));
     }
 
 pub returns-in-Err-clause-whole : goal.returns-in-Err-clause-whole
 returns-in-Err-clause-whole g c =
     let back = came-back c.args.self.now.lanes c.read_together.new.lanes (search rules) in
-    ap (λ lanes. all_of (map g.S.Source.whole (sources_in lanes))) back.is ∙ ap all_of c.read_together.ensures.whole ∙ ap (λ lanes. all_of (map g.S.Source.whole (sources_in lanes))) c.deref_mut.ensures.value
+    ap (λ lanes. all_bytes (map g.S.Source.whole (sources_in lanes))) back.is ∙ ap all_bytes c.read_together.ensures.whole ∙ ap (λ lanes. all_bytes (map g.S.Source.whole (sources_in lanes))) c.deref_mut.ensures.value
 
 pub returns-in-Ok-clause-ended : goal.returns-in-Ok-clause-ended
 returns-in-Ok-clause-ended g c = one-more c.args.self.now.ended.items c.and-self.result.items tt c.and-self.ensures
@@ -75,7 +76,7 @@ returns-in-Ok-clause-ended g c = one-more c.args.self.now.ended.items c.and-self
 pub returns-in-Ok-clause-whole : goal.returns-in-Ok-clause-whole
 returns-in-Ok-clause-whole g c =
     let back = came-back c.args.self.now.lanes c.read_together.new.lanes (search rules) in
-    ap (λ lanes. all_of (map g.S.Source.whole (sources_in lanes))) back.is ∙ ap all_of c.read_together.ensures.whole ∙ ap (λ lanes. all_of (map g.S.Source.whole (sources_in lanes))) c.deref_mut.ensures.value
+    ap (λ lanes. all_bytes (map g.S.Source.whole (sources_in lanes))) back.is ∙ ap all_bytes c.read_together.ensures.whole ∙ ap (λ lanes. all_bytes (map g.S.Source.whole (sources_in lanes))) c.deref_mut.ensures.value
 
 pub returns-in-Err-clause-broken : goal.returns-in-Err-clause-broken
 returns-in-Err-clause-broken g c = counted c.in-Err.field-0.fault (length c.args.self.now.failed.items) (length c.count_failure.new.failed.items) c.count_failure.ensures

@@ -1,7 +1,7 @@
 -- What a read of the lane at turn leaves: where it gave bytes, where it met its end, and where it failed.
 use Rattle.std.proofs.Common.{◌≡◌, ◌++◌, ◌∙◌, ◌<◌, length, map, take, ap, arith}
 use Rattle.std.proofs.lemmas.List.{append-nil}
-use Rattle.ssb_load.specs.Joined.{all_of, given_upto, sources_in}
+use Rattle.ssb_load.specs.Joined.{all_bytes, given_upto, sources_in}
 use Rattle.ssb_load.proofs.JoinedFacts.{IsRead, at-end, given-after, given-moved, joined-after, joined-next, no-end-counted, whole-after}
 use Rattle.ssb_load.proofs.joined.JoinedSource.read.Goals as goal
 use Rattle.ssb_load.proofs.joined.JoinedSource.read.Goals.{then-count-gt0-via-then-count-gt0, then-count-gt0-via-else-count-gt0+then-is_empty}
@@ -28,10 +28,10 @@ returns-then-count-gt0-clause-given g c =
 pub returns-then-count-gt0-clause-whole : goal.returns-then-count-gt0-clause-whole
 returns-then-count-gt0-clause-whole g c =
     let is : IsRead c.loop-self.self.lanes.items c.loop-self.self.at c.index_mut.result.now c.read.new.self = record { inside = omega (arith, c.loop-self.self.lanes.ok.0); here = c.index_mut.ensures.value } in
-    let e = ap all_of (whole-after g.S.Source.whole _ _ _ _ is c.in-Ok.ensures.whole ∙ c.loop-self.invariant.whole) in
+    let e = ap all_bytes (whole-after g.S.Source.whole _ _ _ _ is c.in-Ok.ensures.whole ∙ c.loop-self.invariant.whole) in
     elim c.then-count-gt0.branch [
-      | then-count-gt0-via-then-count-gt0 w ↦ ap (λ j. all_of (map g.S.Source.whole (sources_in j.lanes.items))) w.self-is ∙ e
-      | then-count-gt0-via-else-count-gt0+then-is_empty w ↦ ap (λ j. all_of (map g.S.Source.whole (sources_in j.lanes.items))) w.self-is ∙ e
+      | then-count-gt0-via-then-count-gt0 w ↦ ap (λ j. all_bytes (map g.S.Source.whole (sources_in j.lanes.items))) w.self-is ∙ e
+      | then-count-gt0-via-else-count-gt0+then-is_empty w ↦ ap (λ j. all_bytes (map g.S.Source.whole (sources_in j.lanes.items))) w.self-is ∙ e
     ]
 
 pub invariant_of-self-in-Ok : goal.invariant_of-self-in-Ok

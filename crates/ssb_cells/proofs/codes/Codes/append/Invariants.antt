@@ -1,6 +1,0 @@
-use Rattle.std.proofs.Common.{◌≡◌, ◌++◌, map, take}
-use Rattle.ssb_cells.specs.Joined.{recoded}
-use Rattle.ssb_cells.proofs.codes.Codes.append.Given as goal
-
-abbrev pub invariant-loop-i : goal.invariant-loop-i
-invariant-loop-i l = l.self ≡ l.fn.self ++ map (recoded l.table) (take l.i l.other)

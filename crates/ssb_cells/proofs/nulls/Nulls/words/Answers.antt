@@ -1,5 +1,0 @@
-use Rattle.ssb_cells.proofs.LentFacts.{words-tell}
-use Rattle.ssb_cells.proofs.nulls.Nulls.words.Goals as goal
-
-pub returns : goal.returns
-returns c = rw (← c.self.view_is, c.as_slice.ensures.value) (words-tell c.self.inside.words.items c.self.inside.len c.self.invariant)

@@ -1,9 +1,0 @@
-use Rattle.std.proofs.Common.{◌≡◌}
-use Rattle.ssb_cells.specs.Narrow.{left, numbers_of}
-use Rattle.ssb_cells.proofs.numbers.Numbers.push.Given as goal
-
-abbrev pub invariant-loop-self : goal.invariant-loop-self
-invariant-loop-self l = numbers_of l.self-inside.kept ≡ l.fn.self
-
-abbrev pub decreases-loop-self : goal.decreases-loop-self
-decreases-loop-self l = left l.self-inside.kept

@@ -1,0 +1,2 @@
+mod FlagFacts
+pub mod Loops

@@ -1,0 +1,68 @@
+// Slices that a column lends to code that goes over many rows.
+
+ghost use Rattle.std.specs.Prelude.{◌≡◌, ◌<◌, length, slice_get, Some};
+ghost use Rattle.ssb_packed.specs.Lent.{codes_in, flag_at, numbers_in};
+
+/// The numbers of a column, one for each row, each in as many bytes as the widest of them needs.
+#[derive(Clone, Copy)]
+pub enum NumberSlice<'a> {
+    /// In a byte each.
+    One(&'a [i8]),
+    /// In two.
+    Two(&'a [i16]),
+    /// In four.
+    Four(&'a [i32]),
+    /// In eight.
+    Eight(&'a [i64]),
+}
+
+/// The codes of a column, one for each row, each in as many bytes as the greatest of them needs.
+#[derive(Clone, Copy)]
+pub enum CodeSlice<'a> {
+    /// In a byte each.
+    One(&'a [u8]),
+    /// In two.
+    Two(&'a [u16]),
+    /// In four.
+    Four(&'a [u32]),
+}
+
+impl<'a> NumberSlice<'a> {
+    /// The number of a row, counted from 0.
+    pub fn get(self, row: usize) -> i64
+        requires { row < length (numbers_in self) }
+        ensures { slice_get (numbers_in self.entry) row ≡ Some result }
+    {
+        match self {
+            NumberSlice::One(numbers) => i64::from(numbers[row]),
+            NumberSlice::Two(numbers) => i64::from(numbers[row]),
+            NumberSlice::Four(numbers) => i64::from(numbers[row]),
+            NumberSlice::Eight(numbers) => numbers[row],
+        }
+    }
+}
+
+impl<'a> CodeSlice<'a> {
+    /// The code of a row, counted from 0.
+    pub fn get(self, row: usize) -> u32
+        requires { row < length (codes_in self) }
+        ensures { slice_get (codes_in self.entry) row ≡ Some result }
+    {
+        match self {
+            CodeSlice::One(codes) => u32::from(codes[row]),
+            CodeSlice::Two(codes) => u32::from(codes[row]),
+            CodeSlice::Four(codes) => codes[row],
+        }
+    }
+}
+
+/// Whether a row's bit is set in words of 64 bits each, as it is for a null of the column that lends
+/// them. Behind the last word none is.
+pub fn flag_at(words: &[u64], row: u32) -> bool
+    ensures { result ≡ flag_at words.now row }
+{
+    match words.get((row / 64) as usize) {
+        Some(word) => (*word >> (row % 64)) & 1 == 1,
+        None => false,
+    }
+}

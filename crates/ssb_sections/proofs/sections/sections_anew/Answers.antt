@@ -1,0 +1,16 @@
+use Rattle.std.proofs.Common.{◌≡◌, ◌∙◌, ◌∷◌, []}
+use Rattle.std.specs.Io.Take.{take_limit}
+use Rattle.std.proofs.lemmas.List.{map-append}
+use Rattle.std.proofs.lemmas.List.Elements.{All-push}
+use Rattle.ssb_sections.proofs.SpanFacts.{sizes-more}
+use Rattle.ssb_sections.proofs.sections.sections_anew.Goals as goal
+
+pub loop-span-preserved : goal.loop-span-preserved
+loop-span-preserved g c =
+    let l = c.loop-span in
+    let section = c.in-Some.section in
+    rw c.in_ok-push-in-Some.ensures.items (
+      All-push (λ s. s.given.items ≡ []) l.sections.items section l.invariant.0 c.in-Some.ensures.unread,
+      map-append (λ s. take_limit s.begun.value) l.sections.items (section ∷ [])
+          ∙ sizes-more c.args.spans.now l.span-index _ _ _ c.loop-span-test.true c.in-Some.ensures.size l.invariant.1,
+    )

@@ -1,0 +1,159 @@
+// The sections of a file: ranges of its bytes, each read through a handle of its own.
+
+ghost use Rattle.std.specs.Prelude.{◌≡◌, ◌≤◌, [], ◌∷◌, Some, All, IfOk, IfSome, IsTrue, map, vec_len};
+ghost use Rattle.std.specs.Fs.{metadata_len};
+ghost use Rattle.std.specs.Io.Take.{take_inner, take_limit};
+ghost use Rattle.ssb_sections.specs.Sections.{AreSizes};
+
+use crate::spans::{ENDLESS, Span, spans_of};
+use ssb_records::In;
+use std::alloc::{AllocError, Global};
+use std::fs;
+use std::fs::{Metadata, OpenFile};
+use std::io::{Read, Seek, SeekFrom, Take};
+use std::os::unix::fs::MetadataExt;
+use std::rt::Files;
+
+/// Some bytes of a file, from where its handle stands.
+pub type Section<F> = In<Take<F>>;
+
+// How a file is divided: how many bytes the first section may give, and the sections behind it.
+type Division<F> = (u64, Vec<Section<F>>);
+
+// So many bytes from where the handle stands.
+fn section_here<F: Read>(file: F, size: u64) -> Section<F>
+    ensures unread { result.given.items ≡ [] }
+    ensures size { take_limit result.begun.value ≡ size }
+    ensures handle { take_inner result.begun.value ≡ file }
+{
+    In::new(file.take(size))
+}
+
+// The bytes of a range, through a handle that is moved to its first byte; none where it can't be moved.
+fn section_at<F: Read + Seek + Drop>(file: F, span: Span) -> Option<Section<F>>
+    ensures unread { IfSome result (λ section. section.given.items ≡ []) }
+    ensures size { IfSome result (λ section. take_limit section.begun.value ≡ span.size) }
+    ensures place { IfSome (F.stream_position file) (λ _. IfSome result (λ section. F.stream_position (take_inner section.begun.value) ≡ Some span.start)) }
+{
+    let mut file = file;
+    match file.seek(SeekFrom::Start(span.start)) {
+        Ok(_) => Some(section_here(file, span.size)),
+        Err(_) => None,
+    }
+}
+
+// Whether two handles are of one file, which is as long for both.
+fn is_same(first: &Metadata, other: &Metadata) -> bool
+    ensures { IsTrue result → metadata_len first.now ≡ metadata_len other.now }
+{
+    first.dev() == other.dev() && first.ino() == other.ino() && first.len() == other.len()
+}
+
+// The bytes of a range, through a new handle; none where that can't be had, or is of another file.
+fn section_anew<R: Files>(
+    rt: &R,
+    path: &str,
+    known: &Metadata,
+    span: Span,
+) -> Option<Section<R::File>>
+    ensures unread { IfSome result (λ section. section.given.items ≡ []) }
+    ensures size { IfSome result (λ section. take_limit section.begun.value ≡ span.size) }
+{
+    let Ok(file) = fs::open(rt, path) else {
+        return None;
+    };
+    match file.metadata() {
+        Ok(other) if is_same(known, &other) => section_at(file, span),
+        _ => None,
+    }
+}
+
+// A section for each range, through new handles; none where one of them can't be had.
+fn sections_anew<R: Files + AllocGlobal>(
+    rt: &R,
+    path: &str,
+    known: &Metadata,
+    spans: &[Span],
+) -> Result<Option<Vec<Section<R::File>>>, AllocError>
+    ensures unread { IfOk result (λ made. IfSome made (λ sections. All (λ s. s.given.items ≡ []) sections.items)) }
+    ensures sizes { IfOk result (λ made. IfSome made (λ sections. map (λ s. take_limit s.begun.value) sections.items ≡ map (λ s. s.size) spans.now)) }
+{
+    let mut sections = Vec::new(rt.alloc());
+    for span in spans {
+        match section_anew(rt, path, known, *span) {
+            Some(section) => sections.push(section)?,
+            None => return Ok(None),
+        }
+    }
+    Ok(Some(sections))
+}
+
+// All bytes in the first section.
+fn undivided<F: Read>(alloc: Global) -> Division<F>
+    ensures alone { result.1.items ≡ [] }
+    ensures sizes { AreSizes (result.0 ∷ map (λ s. take_limit s.begun.value) result.1.items) }
+{
+    (ENDLESS, Vec::new(alloc))
+}
+
+// The division of a regular file.
+fn divide<R: Files + AllocGlobal>(
+    rt: &R,
+    path: &str,
+    known: &Metadata,
+    count: u64,
+) -> Result<Division<R::File>, AllocError>
+    ensures unread { IfOk result (λ d. All (λ s. s.given.items ≡ []) d.1.items) }
+    ensures sizes { IfOk result (λ d. AreSizes (d.0 ∷ map (λ s. take_limit s.begun.value) d.1.items)) }
+    ensures alone { count ≤ 1 → IfOk result (λ d. vec_len d.1 ≡ 0) }
+{
+    let spans = spans_of(rt.alloc(), known.len(), count)?;
+    let first = spans[0].size;
+    match sections_anew(rt, path, known, &spans[1..])? {
+        Some(later) => Ok((first, later)),
+        None => Ok(undivided(rt.alloc())),
+    }
+}
+
+// The division of any file. One that is no regular file can't be divided.
+fn division_of<R: Files + AllocGlobal>(
+    rt: &R,
+    path: &str,
+    file: &R::File,
+    count: u64,
+) -> Result<Division<R::File>, AllocError>
+    ensures unread { IfOk result (λ d. All (λ s. s.given.items ≡ []) d.1.items) }
+    ensures sizes { IfOk result (λ d. AreSizes (d.0 ∷ map (λ s. take_limit s.begun.value) d.1.items)) }
+    ensures alone { count ≤ 1 → IfOk result (λ d. vec_len d.1 ≡ 0) }
+{
+    match file.metadata() {
+        Ok(known) if known.is_file() => divide(rt, path, &known, count),
+        _ => Ok(undivided(rt.alloc())),
+    }
+}
+
+/// The sections of a file that was just opened by this path, in the order of their bytes: as many as
+/// asked for, where it is a regular file of more than 16 MB, and one otherwise. The last goes to the
+/// file's end, wherever that is when it is read.
+///
+/// The first is read through the handle given. The others have new ones; where one of these can't be
+/// had, or is of another file, since the path names another one now, the handle given has all bytes.
+///
+/// # Errors
+///
+/// Where memory is refused.
+pub fn sections_of<R: Files + AllocGlobal>(
+    rt: &R,
+    path: &str,
+    file: R::File,
+    count: u64,
+) -> Result<Vec<Section<R::File>>, AllocError>
+    ensures unread { IfOk result (λ sections. All (λ s. s.given.items ≡ []) sections.items) }
+    ensures sizes { IfOk result (λ sections. AreSizes (map (λ s. take_limit s.begun.value) sections.items)) }
+    ensures alone { count ≤ 1 → IfOk result (λ sections. vec_len sections ≡ 1) }
+{
+    let (first, later) = division_of(rt, path, &file, count)?;
+    let mut sections = later;
+    sections.insert(0, section_here(file, first))?;
+    Ok(sections)
+}

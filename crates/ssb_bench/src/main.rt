@@ -120,13 +120,12 @@ fn workers(workers: &str, morsel_size: &str, parts: &str) -> Option<By> {
     Some(By::Workers(Settings::new(workers, morsel_size, parts)?))
 }
 
-fn status<R: Files<File = File> + Clock + Print + Env + Threads + Wait + Sync + AllocGlobal>(
+// Does what the words ask, and gives the exit status.
+fn act<R: Files<File = File> + Clock + Print + Threads + Wait + Sync + AllocGlobal>(
     rt: &R,
+    given: &[String],
 ) -> u8 {
-    let Some(given) = words(rt) else {
-        return FAILED;
-    };
-    match given.as_slice() {
+    match given {
         [] | [_] => 0,
         [_, command, path] if command.as_str() == "read" => print_count(rt, path.as_str()),
         [_, command, folder, count] if command.as_str() == "load" => {
@@ -146,6 +145,17 @@ fn status<R: Files<File = File> + Clock + Print + Env + Threads + Wait + Sync + 
             }
         _ => BAD_WORDS,
     }
+}
+
+fn status<R: Files<File = File> + Clock + Print + Env + Threads + Wait + Sync + AllocGlobal>(
+    rt: &R,
+) -> u8 {
+    let Some(given) = words(rt) else {
+        return FAILED;
+    };
+    let status = act(rt, given.as_slice());
+    drop(given);
+    status
 }
 
 fn main(rt: HostRuntime) -> ExitCode {

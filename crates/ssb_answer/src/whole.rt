@@ -29,8 +29,13 @@ use std::alloc::{AllocError, Global};
 use std::sync::{Arc, Wait};
 use std::thread::Threads;
 
-// The query of a text over a catalog.
-fn query_of(alloc: Global, catalog: &Catalog, text: &str) -> Result<Query, RunFault>
+/// The query that a text asks over a catalog.
+///
+/// # Errors
+///
+/// `Sql` where the text is no query, `Bind` where the query means nothing over the catalog; `Memory` where a
+/// growth was refused.
+pub fn query_of(alloc: Global, catalog: &Catalog, text: &str) -> Result<Query, RunFault>
     ensures { Asked catalog.now text.now result }
 {
     let select = read(alloc, text)?;

@@ -1,7 +1,10 @@
-//! The program `ssb`, which answers queries over the tables of the Star Schema Benchmark.
+//! The program `ssb`, which answers queries over the tables of the Star Schema Benchmark: words, files, one
+//! run, and one line and a status for a fault.
 #![tactic(auto)]
 
-use ssb_program::status_of_program;
+mod program;
+
+use program::status_of_program;
 use std::process::ExitCode;
 
 fn main(rt: HostRuntime) -> ExitCode {

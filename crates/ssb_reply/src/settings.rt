@@ -1,6 +1,6 @@
 // How the work of a run is cut and shared.
 
-ghost use Rattle.std.specs.Prelude.{◌≡◌, MatchOption};
+ghost use Rattle.std.specs.Prelude.{◌≡◌, IfSome, IsNone, MatchOption, unwrap_or};
 ghost use Rattle.ssb_reply.specs.Settings.{AreInRange};
 
 /// How many workers there are where nothing else is said.
@@ -49,5 +49,23 @@ impl Settings {
             morsel_size,
             parts,
         })
+    }
+
+    /// Settings of the numbers that are given, and the defaults; none where one is outside its range.
+    pub fn with_defaults(
+        workers: Option<u32>,
+        morsel_size: Option<u32>,
+        parts: Option<u32>,
+    ) -> Option<Settings>
+        ensures workers { IfSome result (λ s. s.workers ≡ unwrap_or workers DEFAULT_WORKERS) }
+        ensures morsel_size { IfSome result (λ s. s.morsel_size ≡ unwrap_or morsel_size DEFAULT_MORSEL_SIZE) }
+        ensures parts { IfSome result (λ s. s.parts ≡ unwrap_or parts DEFAULT_PARTS) }
+        ensures none { IsNone result → AreInRange (unwrap_or workers DEFAULT_WORKERS) (unwrap_or morsel_size DEFAULT_MORSEL_SIZE) (unwrap_or parts DEFAULT_PARTS) → ⊥ }
+    {
+        Settings::new(
+            workers.unwrap_or(DEFAULT_WORKERS),
+            morsel_size.unwrap_or(DEFAULT_MORSEL_SIZE),
+            parts.unwrap_or(DEFAULT_PARTS),
+        )
     }
 }

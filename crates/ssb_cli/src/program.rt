@@ -2,12 +2,10 @@
 // by a call of `drop`, since the prover writes out all that it holds where the end of a scope lets go
 // of it.
 
-ghost use Rattle.std.specs.Prelude.{◌≡◌, ◌⊎◌, IfSome, IsNone, length, unwrap_or, vec_len};
-ghost use Rattle.ssb_reply.specs.Settings.{AreInRange};
+ghost use Rattle.std.specs.Prelude.{◌≡◌, ◌⊎◌, length, vec_len};
 ghost use Rattle.ssb_files.specs.Faults.{IsStatus, out_of_memory, program_status};
 
-use crate::check::check_text;
-use ssb_answer::{NoGate, run_from};
+use ssb_answer::{NoGate, query_of, run_from};
 use ssb_catalog::Catalog;
 use ssb_files::{
     OUT_OF_MEMORY, ProgramFault, Section, catalog_of, names_of, open_all, program_line,
@@ -15,9 +13,7 @@ use ssb_files::{
 };
 use ssb_load::Joined;
 use ssb_records::Source;
-use ssb_reply::{
-    DEFAULT_MORSEL_SIZE, DEFAULT_PARTS, DEFAULT_WORKERS, MEMORY_LINE, Out, RunFault, Settings,
-};
+use ssb_reply::{MEMORY_LINE, Out, RunFault, Settings};
 use ssb_rows::AnswerFault;
 use ssb_words::{QuerySource, Task, WordsFault, task_of};
 use std::alloc::{AllocError, Global};
@@ -60,20 +56,6 @@ fn flush<W: Write + Drop>(writer: W) -> Result<(), RunFault> {
         Ok(()) => Ok(()),
         Err(_) => Err(RunFault::Answer(AnswerFault::Write)),
     }
-}
-
-// Settings of the numbers that were given, and the defaults; none where one is outside its range.
-fn settings_of(workers: Option<u32>, morsel: Option<u32>, parts: Option<u32>) -> Option<Settings>
-    ensures workers { IfSome result (λ s. s.workers ≡ unwrap_or workers DEFAULT_WORKERS) }
-    ensures morsel_size { IfSome result (λ s. s.morsel_size ≡ unwrap_or morsel DEFAULT_MORSEL_SIZE) }
-    ensures parts { IfSome result (λ s. s.parts ≡ unwrap_or parts DEFAULT_PARTS) }
-    ensures none { IsNone result → AreInRange (unwrap_or workers DEFAULT_WORKERS) (unwrap_or morsel DEFAULT_MORSEL_SIZE) (unwrap_or parts DEFAULT_PARTS) → ⊥ }
-{
-    Settings::new(
-        workers.unwrap_or(DEFAULT_WORKERS),
-        morsel.unwrap_or(DEFAULT_MORSEL_SIZE),
-        parts.unwrap_or(DEFAULT_PARTS),
-    )
 }
 
 // Answers a text over sources, and writes the answer to a writer that tells what it took.
@@ -241,10 +223,13 @@ fn check_over<R: Files + Print + AllocGlobal>(
     catalog: &Catalog,
 ) -> Result<(), ProgramFault> {
     let text = read_query(rt, query)?;
-    let checked = check_text(rt.alloc(), catalog, text.as_str());
+    let asked = query_of(rt.alloc(), catalog, text.as_str());
     drop(text);
-    match checked {
-        Ok(()) => print_text(rt, "ok\n"),
+    match asked {
+        Ok(query) => {
+            drop(query);
+            print_text(rt, "ok\n")
+        }
         Err(fault) => Err(ProgramFault::Run {
             names: Vec::new(rt.alloc()),
             fault,
@@ -296,7 +281,7 @@ fn act_on_task<R: Files<File = File> + Print + AllocGlobal + Threads + Wait + Sy
             workers,
             morsel,
             parts,
-        } => match settings_of(workers, morsel, parts) {
+        } => match Settings::with_defaults(workers, morsel, parts) {
             Some(settings) => run(
                 rt,
                 RunWords {
@@ -359,7 +344,7 @@ fn tell<R: Eprint + AllocGlobal>(rt: &R, fault: &ProgramFault) -> u8
 }
 
 /// Does what the words of the command line ask, and gives the exit status.
-pub fn status_of_program<
+pub(crate) fn status_of_program<
     R: Files<File = File> + Print + Eprint + Env + AllocGlobal + Threads + Wait + Sync,
 >(rt: &R) -> u8
     ensures { IsStatus result }

@@ -1,5 +1,5 @@
+pub mod Coded
 pub mod Flags
 pub mod Lent
 pub mod Narrow
-pub mod NarrowCodes
 pub mod Recoded

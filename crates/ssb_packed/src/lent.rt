@@ -1,7 +1,7 @@
 // Slices that a column lends to code that goes over many rows.
 
 ghost use Rattle.std.specs.Prelude.{◌≡◌, ◌<◌, length, slice_get, Some};
-ghost use Rattle.ssb_packed.specs.Lent.{codes_in, flag_at, numbers_in};
+ghost use Rattle.ssb_packed.specs.Lent.{code_of, codes_in, flag_at, numbers_in};
 
 /// The numbers of a column, one for each row, each in as many bytes as the widest of them needs.
 #[derive(Clone, Copy)]
@@ -16,15 +16,11 @@ pub enum NumberSlice<'a> {
     Eight(&'a [i64]),
 }
 
-/// The codes of a column, one for each row, each in as many bytes as the greatest of them needs.
+/// The codes of a column, one for each row.
 #[derive(Clone, Copy)]
-pub enum CodeSlice<'a> {
-    /// In a byte each.
-    One(&'a [u8]),
-    /// In two.
-    Two(&'a [u16]),
-    /// In four.
-    Four(&'a [u32]),
+pub struct CodeSlice<'a> {
+    /// For each the number that is 128 less.
+    pub numbers: NumberSlice<'a>,
 }
 
 impl<'a> NumberSlice<'a> {
@@ -42,17 +38,20 @@ impl<'a> NumberSlice<'a> {
     }
 }
 
+// The code that a number is kept for.
+fn code_of(number: i64) -> u32
+    ensures { result ≡ code_of number }
+{
+    ((number.cast_unsigned() % 0x1_0000_0000) as u32).wrapping_add(128)
+}
+
 impl<'a> CodeSlice<'a> {
     /// The code of a row, counted from 0.
     pub fn get(self, row: usize) -> u32
         requires { row < length (codes_in self) }
         ensures { slice_get (codes_in self.entry) row ≡ Some result }
     {
-        match self {
-            CodeSlice::One(codes) => u32::from(codes[row]),
-            CodeSlice::Two(codes) => u32::from(codes[row]),
-            CodeSlice::Four(codes) => codes[row],
-        }
+        code_of(self.numbers.get(row))
     }
 }
 

@@ -1,6 +1,6 @@
 // Whole numbers in as few bytes as the widest of them needs.
 
-ghost use Rattle.std.specs.Prelude.{◌≡◌, ◌<◌, List, [], ◌∷◌, ◌++◌, length, true, map, if◌then◌else◌, IfOk, OnOk, OnErr, slice_get, Some};
+ghost use Rattle.std.specs.Prelude.{◌≡◌, ◌<◌, ◌-◌, List, [], ◌∷◌, ◌++◌, length, true, take, if◌then◌else◌, IfOk, OnOk, OnErr, slice_get, Some};
 ghost use Rattle.ssb_packed.specs.Lent.{numbers_in};
 ghost use Rattle.ssb_packed.specs.Narrow.{left, numbers_of};
 
@@ -199,6 +199,19 @@ impl Numbers {
             }
         }
         Ok(())
+    }
+
+    /// Takes the last number away.
+    pub fn pop(&mut self)
+        requires { 0 < length self.old }
+        ensures { self.new ≡ take (length self.old - 1) self.old }
+    {
+        match &mut self.kept {
+            Kept::One(numbers) => numbers.truncate(numbers.len() - 1),
+            Kept::Two(numbers) => numbers.truncate(numbers.len() - 1),
+            Kept::Four(numbers) => numbers.truncate(numbers.len() - 1),
+            Kept::Eight(numbers) => numbers.truncate(numbers.len() - 1),
+        }
     }
 
     /// The numbers.

@@ -9,16 +9,16 @@ pub enum Width {
     Two,
     /// Four.
     Four,
-    /// Eight, which numbers alone ask for.
+    /// Eight.
     Eight,
 }
 
 impl Width {
-    /// The least for the codes of so many texts.
+    /// The least for the codes of so many texts, each of which is kept as the number 128 below it.
     pub fn of_codes(texts: u32) -> Width {
         match texts {
             0..=0x100 => Width::One,
-            0x101..=0x1_0000 => Width::Two,
+            0x101..=0x8080 => Width::Two,
             _ => Width::Four,
         }
     }

@@ -13,11 +13,11 @@ numbers_in (numbers.Four s) = s.now
 numbers_in (numbers.Eight s) = s.now
 
 -- the code that a number is kept for: 128 more, and 32 bits of it
-abbrev pub code_of : ℤ → ℕ
-code_of n = (cast_unsigned w64 n + 128) % 2 ^ 32
+abbrev pub kept_code : ℤ → ℕ
+kept_code n = (cast_unsigned w64 n + 128) % 2 ^ 32
 
 abbrev pub codes_in : CodeSlice → List ℕ
-codes_in s = map code_of (numbers_in s.numbers)
+codes_in s = map kept_code (numbers_in s.numbers)
 
 -- the flag at a place: a bit of the word there, and false where there is no such word
 abbrev pub flag_at : List ℕ → ℕ → Bool

@@ -1,4 +1,3 @@
-pub mod Coded
 pub mod Flags
 pub mod Lent
 pub mod Narrow

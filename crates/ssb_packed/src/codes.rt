@@ -2,7 +2,7 @@
 
 ghost use Rattle.std.specs.Prelude.{◌≡◌, ◌<◌, ◌-◌, [], ◌∷◌, ◌++◌, length, OnOk, OnErr, slice_get, Some, take, map};
 ghost use Rattle.ssb_packed.specs.Recoded.{recoded};
-ghost use Rattle.ssb_packed.specs.Lent.{code_of, codes_in};
+ghost use Rattle.ssb_packed.specs.Lent.{kept_code, codes_in};
 
 use crate::lent::CodeSlice;
 use crate::numbers::Numbers;
@@ -10,26 +10,26 @@ use crate::width::Width;
 use std::alloc::{AllocError, Global};
 use std::marker::Model;
 
-/// A list of codes, seen as that list. Each takes as many bytes as the number that is kept for it, which
-/// is 128 less: one while all are below 256.
+/// A list of codes, seen as that list. Each takes as many bytes as the number that is kept for it: one
+/// while all are below 256.
 #[derive(Drop)]
 pub struct Codes {
+    // For each the number that is 128 less.
     numbers: Numbers,
 }
 
 impl Model for Codes {
-    ghost use Rattle.std.specs.Prelude.{List, ℕ};
+    ghost use Rattle.std.specs.Prelude.{List, ℕ, map};
+    ghost use Rattle.ssb_packed.specs.Lent.{kept_code};
 
     ghost Value = { List ℕ };
 
-    ghost use Rattle.ssb_packed.specs.Coded.{listed};
-
-    ghost view = { listed };
+    ghost view = { λ c. map kept_code c.numbers };
 }
 
 // The number that is kept for a code.
 fn number_of(code: u32) -> i64
-    ensures { code_of result ≡ code }
+    ensures { kept_code result ≡ code }
 {
     i64::from(code) - 128
 }

@@ -1,7 +1,7 @@
 // Slices that a column lends to code that goes over many rows.
 
 ghost use Rattle.std.specs.Prelude.{◌≡◌, ◌<◌, length, slice_get, Some};
-ghost use Rattle.ssb_packed.specs.Lent.{code_of, codes_in, flag_at, numbers_in};
+ghost use Rattle.ssb_packed.specs.Lent.{kept_code, codes_in, flag_at, numbers_in};
 
 /// The numbers of a column, one for each row, each in as many bytes as the widest of them needs.
 #[derive(Clone, Copy)]
@@ -39,8 +39,8 @@ impl<'a> NumberSlice<'a> {
 }
 
 // The code that a number is kept for.
-fn code_of(number: i64) -> u32
-    ensures { result ≡ code_of number }
+fn kept_code(number: i64) -> u32
+    ensures { result ≡ kept_code number }
 {
     ((number.cast_unsigned() % 0x1_0000_0000) as u32).wrapping_add(128)
 }
@@ -51,7 +51,7 @@ impl<'a> CodeSlice<'a> {
         requires { row < length (codes_in self) }
         ensures { slice_get (codes_in self.entry) row ≡ Some result }
     {
-        code_of(self.numbers.get(row))
+        kept_code(self.numbers.get(row))
     }
 }
 

@@ -162,6 +162,19 @@ impl Numbers {
         Ok(())
     }
 
+    /// Takes the last number away.
+    pub fn pop(&mut self)
+        requires { 0 < length self.old }
+        ensures { self.new ≡ take (length self.old - 1) self.old }
+    {
+        match &mut self.kept {
+            Kept::One(numbers) => numbers.truncate(numbers.len() - 1),
+            Kept::Two(numbers) => numbers.truncate(numbers.len() - 1),
+            Kept::Four(numbers) => numbers.truncate(numbers.len() - 1),
+            Kept::Eight(numbers) => numbers.truncate(numbers.len() - 1),
+        }
+    }
+
     /// In how many bytes each is kept.
     pub fn width(&self) -> Width {
         match self.kept {
@@ -199,19 +212,6 @@ impl Numbers {
             }
         }
         Ok(())
-    }
-
-    /// Takes the last number away.
-    pub fn pop(&mut self)
-        requires { 0 < length self.old }
-        ensures { self.new ≡ take (length self.old - 1) self.old }
-    {
-        match &mut self.kept {
-            Kept::One(numbers) => numbers.truncate(numbers.len() - 1),
-            Kept::Two(numbers) => numbers.truncate(numbers.len() - 1),
-            Kept::Four(numbers) => numbers.truncate(numbers.len() - 1),
-            Kept::Eight(numbers) => numbers.truncate(numbers.len() - 1),
-        }
     }
 
     /// The numbers.

@@ -1,4 +1,4 @@
-// Loading alone: the tables of a folder, the one without a key from several sections of its file.
+// Loading alone: the tables of a folder, the fact table from several sections of its file.
 
 ghost use Rattle.std.specs.Prelude.{◌≡◌, IfSome, length, vec_len};
 
@@ -14,14 +14,7 @@ use std::rt::{Clock, Files};
 use std::thread::Threads;
 use std::time::Instant;
 
-fn has_key(table: &TableDef) -> bool {
-    table
-        .columns()
-        .iter()
-        .any(|column| column.rule.role.is_key())
-}
-
-// The file of a table, in sections where the table has no key.
+// The file of a table, the fact table's in so many sections.
 fn source_of<R: Files + AllocGlobal>(
     rt: &R,
     folder: &str,
@@ -30,7 +23,7 @@ fn source_of<R: Files + AllocGlobal>(
 ) -> Option<Joined<Section<R::File>>> {
     let name = table.name();
     let path = format!(in rt.alloc(); "{folder}/{name}.tbl").ok()?;
-    let count = if has_key(table) { 1 } else { count };
+    let count = if table.is_fact() { count } else { 1 };
     let file = fs::open(rt, path.as_str()).ok()?;
     let sections = sections_of(rt, path.as_str(), file, count).ok()?;
     Joined::new(rt.alloc(), sections).ok()
@@ -68,7 +61,7 @@ fn time_of<R: Clock + Threads + Sync + AllocGlobal, F: Read + Drop + Send>(
 }
 
 /// How long it takes to load the tables of a folder, whose catalog lies in it as `catalog`, in
-/// microseconds: the table without a key from so many sections of its file, where that has more than 16 MB,
+/// microseconds: the fact table from so many sections of its file, where that has more than 16 MB,
 /// each by a thread of its own. None where a file is missing, or is not what it should be.
 pub(crate) fn loading_time<R: Files<File = File> + Clock + Threads + Sync + AllocGlobal>(
     rt: &R,

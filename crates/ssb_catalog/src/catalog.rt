@@ -1,8 +1,9 @@
 // The catalog: tables, their columns, and what each column takes.
 
 ghost use Rattle.std.specs.Prelude.{◌≡◌, ◌++◌, ◌∷◌, IfOk, OnOk, length, List};
-ghost use Rattle.ssb_catalog.specs.Catalog.{is_column_named, is_table_named};
+ghost use Rattle.ssb_catalog.specs.Catalog.{is_column_named, is_fact, is_table_named};
 
+use crate::draft::has_key;
 use ssb_terms::{Name, Rule};
 use std::alloc::AllocError;
 use std::marker::Model;
@@ -107,6 +108,13 @@ impl TableDef {
         ensures { result.now ≡ self.now.columns }
     {
         self.columns.as_slice()
+    }
+
+    /// Whether it is the fact table, the one that has no key.
+    pub fn is_fact(&self) -> bool
+        ensures { result ≡ is_fact self.now }
+    {
+        !has_key(self.columns())
     }
 }
 

@@ -5,7 +5,7 @@ ghost use Rattle.ssb_catalog.specs.Catalog.{fact_tables, with_one};
 ghost use Rattle.ssb_catalog.specs.Drafting.{IsDraft, told};
 
 use crate::catalog::{Catalog, TableDef};
-use crate::draft::{accept, has_key};
+use crate::draft::accept;
 use csv::ByteRecord;
 use ssb_records::{CatalogFault, Intake, LoadFault};
 use std::alloc::Global;
@@ -21,10 +21,7 @@ pub(crate) struct CatalogIntake {
 fn fact_count(tables: &[TableDef]) -> usize
     ensures { result ≡ length (fact_tables tables.now) }
 {
-    tables
-        .iter()
-        .filter(|table| !has_key(table.columns()))
-        .count()
+    tables.iter().filter(|table| table.is_fact()).count()
 }
 
 // The catalog of these tables, if one of them alone has no key.

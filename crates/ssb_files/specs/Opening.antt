@@ -1,14 +1,14 @@
 -- What opening the files of tables gives: a source for each, in sections.
 -- Source: own.
-use Rattle.std.specs.Prelude.{◌≡◌, ◌++◌, [], ◌∷◌, ℕ, List, length, true}
+use Rattle.std.specs.Prelude.{◌≡◌, ◌++◌, [], ◌∷◌, ℕ, List, length, false}
 use Rattle.std.specs.List.{AllZip}
+use Rattle.ssb_catalog.specs.Catalog.{is_fact}
 use Rattle.ssb_catalog.specs.Shapes.{TableShape}
-use Rattle.ssb_files.specs.Files.{has_key}
 use Rattle.ssb_sections.specs.Sections.{AreSizes}
 
--- sections of these sizes have all bytes of a table's file, and there is one where the table has a key
+-- sections of these sizes have all bytes of a table's file, and there is one where it is not the fact table
 abbrev pub AreSectionsOf : TableShape → List ℕ → Type 0
-AreSectionsOf table sizes = AreSizes sizes × (has_key table.columns ≡ true → length sizes ≡ 1)
+AreSectionsOf table sizes = AreSizes sizes × (is_fact table ≡ false → length sizes ≡ 1)
 
 -- sources in sections of such sizes have all bytes of the tables' files, table by table
 abbrev pub AreOpened : {A : Type 0} → (A → List ℕ) → List TableShape → List A → Type 0

@@ -5,12 +5,12 @@ ghost use Rattle.std.specs.Io.Take.{take_limit};
 ghost use Rattle.ssb_catalog.specs.BuiltIn.{ssb_tables};
 ghost use Rattle.ssb_load.specs.Joined.{sources_in};
 ghost use Rattle.ssb_files.specs.Faults.{IsNoCatalog, IsNoQuery, IsOpenFault, IsQueryFault};
-ghost use Rattle.ssb_files.specs.Files.{has_key, longest_query, section_count};
+ghost use Rattle.ssb_files.specs.Files.{longest_query, section_count};
 ghost use Rattle.ssb_files.specs.Opening.{AreOpened, AreSectionsOf, GainsTable};
 ghost use Rattle.ssb_sections.specs.Sections.{AreSizes};
 
 use crate::fault::ProgramFault;
-use ssb_catalog::{Catalog, ColumnDef, TableDef};
+use ssb_catalog::{Catalog, TableDef};
 use ssb_load::Joined;
 use ssb_reply::RunFault;
 use ssb_sections::{Section, sections_of};
@@ -135,21 +135,14 @@ fn path_of(alloc: Global, data: &str, table: &str) -> Result<String, AllocError>
     format!(in alloc; "{data}/{table}.tbl")
 }
 
-// Whether one of these columns is its table's key.
-fn has_key(columns: &[ColumnDef]) -> bool
-    ensures { result ≡ has_key columns.now }
+// How often the file of a table is opened: the fact table's four times for each worker.
+fn section_count(table: &TableDef, workers: u32) -> u64
+    ensures { result ≡ section_count table.now workers }
 {
-    columns.iter().any(|column| column.rule.role.is_key())
-}
-
-// How often the file of a table is opened: four times for each worker, where the table has no key.
-fn section_count(columns: &[ColumnDef], workers: u32) -> u64
-    ensures { result ≡ section_count columns.now workers }
-{
-    if has_key(columns) {
-        1
-    } else {
+    if table.is_fact() {
         4 * u64::from(workers)
+    } else {
+        1
     }
 }
 
@@ -178,7 +171,7 @@ fn open_table<R: Files + AllocGlobal>(
     ensures fault { IfErr result IsOpenFault }
 {
     let path = path_of(rt.alloc(), data, table.name())?;
-    let count = section_count(table.columns(), workers);
+    let count = section_count(table, workers);
     let opened = open_sections(rt, path.as_str(), count);
     drop(path);
     opened
@@ -203,7 +196,7 @@ fn add_source<R: Files + AllocGlobal>(
     Ok(())
 }
 
-/// The files of the tables as sources, in the catalog's order. The file of the table without a key is
+/// The files of the tables as sources, in the catalog's order. The file of the fact table is
 /// opened in sections, four for each worker, where handles of its own can be had for each; so each may be
 /// read by a thread of its own.
 ///

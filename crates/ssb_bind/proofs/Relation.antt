@@ -22,7 +22,7 @@ use Rattle.ssb_bind.specs.Columns.{bound_name, fit_of, table_number, the_one}
 use Rattle.ssb_bind.specs.Faults.{is_ungrouped, unknown_table}
 use Rattle.ssb_bind.specs.Names.{filter_names, operand_names, own_columns}
 use Rattle.ssb_bind.specs.Orders.{bad_from, fits_one, places_for}
-use Rattle.ssb_bind.specs.Query.{aggregate_number, Each, having_numbers, IsHaving, IsItem, IsOrder, IsQueryOf, operand_number, Shows, StandsFor}
+use Rattle.ssb_bind.specs.Query.{aggregate_number, Each, having_numbers, MeansHaving, IsItem, IsOrder, IsQueryOf, operand_number, Shows, StandsFor}
 use Rattle.ssb_query.specs.Tables.{fact_place}
 use Rattle.ssb_query.specs.declared.column.BoundColumn.{BoundColumn}
 use Rattle.ssb_query.specs.declared.query.BoundItem.{BoundItem}
@@ -98,7 +98,7 @@ module _ (c : List TableShape) (p q : QueryParts) (from : p.from ≡ q.from) (gr
       let both = same_operand o b d h.0 g.0 (filter_map operand_number bs) (filter_map operand_number ds) e in
       ap₂ (λ z zs. z ∷ zs) both.0 (same_operands os bs ds h.1 g.1 both.1)
 
-  same_having : (w : Option (Filter Output)) (a b : Option (Filter Origin)) → IsHaving c p w a → IsHaving c q w b → having_numbers a ≡ having_numbers b → a ≡ b
+  same_having : (w : Option (Filter Output)) (a b : Option (Filter Origin)) → MeansHaving c p w a → MeansHaving c q w b → having_numbers a ≡ having_numbers b → a ≡ b
   same_having None None None h g e = refl
   same_having None None (Some b) h g e = absurd g
   same_having None (Some a) b h g e = absurd h
@@ -199,7 +199,7 @@ module _ (c : List TableShape) (q : QueryParts) where
       )
 
   pub having_is : (w : Option (Filter Output)) (b : Option (Filter Origin)) (front : List (Aggregate BoundColumn)) → BindsHaving c q.from q.groups front w b → q.aggregates ≡ front ++ having_aggregates c q.from w
-      → find (is_ungrouped c q.from q.groups) (filter_names own_columns w) ≡ None → IsHaving c q w b
+      → find (is_ungrouped c q.from q.groups) (filter_names own_columns w) ≡ None → MeansHaving c q w b
   having_is None None front h all grouped = tt
   having_is None (Some b) front h all grouped = absurd h
   having_is (Some w) None front h all grouped = absurd h

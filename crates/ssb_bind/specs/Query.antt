@@ -50,10 +50,10 @@ StandsFor c q (operand.Column o) (operand.Column x) = Shows c q o x
 StandsFor c q (operand.Literal l) (operand.Literal m) = m ≡ l
 StandsFor c q o x = ⊥
 
-abbrev pub IsHaving : List TableShape → QueryParts → Option (Filter Output) → Option (Filter Origin) → Type 0
-IsHaving c q None None = ⊤
-IsHaving c q (Some h) (Some b) = (form b ≡ form h) × Each (StandsFor c q) (operands (Operand Output) h) (operands (Operand Origin) b)
-IsHaving c q h b = ⊥
+abbrev pub MeansHaving : List TableShape → QueryParts → Option (Filter Output) → Option (Filter Origin) → Type 0
+MeansHaving c q None None = ⊤
+MeansHaving c q (Some h) (Some b) = (form b ≡ form h) × Each (StandsFor c q) (operands (Operand Output) h) (operands (Operand Origin) b)
+MeansHaving c q h b = ⊥
 
 abbrev pub aggregate_number : Origin → Option ℕ
 aggregate_number (origin.Group k) = None
@@ -86,6 +86,6 @@ pub record IsQueryOf (c : List TableShape) (s : Select) (q : QueryParts) : Type 
   pub groups : q.groups ≡ map (bound_name c q.from) s.groups
   pub aggregates : q.aggregates ≡ aggregates_of c q.from s.items ++ having_aggregates c q.from s.having
   pub items : Each (IsItem c q) s.items q.items
-  pub having : IsHaving c q s.having q.having
+  pub having : MeansHaving c q s.having q.having
   pub numbers : numbers q ≡ range_with_len 0 (length q.aggregates)
   pub orders : Each (IsOrder s.items) s.orders q.orders

@@ -2,11 +2,11 @@
 use Rattle.std.proofs.Common.{◌≡◌, ◌∙◌, ◌<◌, ℕ, length, sym, ap, subst, false, true≢false}
 use Rattle.ssb_job.specs.Kept.{JobShape}
 use Rattle.ssb_groups.specs.Stands.{Stands}
-use Rattle.ssb_pipeline.specs.Part.{Grows, IsBack, IsLawful, IsOpening, IsWhole, OneSectionIsAll, PartState, has}
+use Rattle.ssb_pipeline.specs.Part.{Grows, IsBack, IsLawfulPart, IsOpening, IsWhole, OneSectionIsAll, PartState, has}
 use Rattle.ssb_reply.specs.Reply.{seen_rows}
 
 -- a part of the one section that grew to the whole stands for all that is kept
-pub worked-off : OneSectionIsAll → (j : JobShape) (size : ℕ) (o p : PartState) → 0 < size → j.query.fact < length j.query.from → IsOpening j size 0 1 o → Grows o p → IsLawful p → (IsBack o → o.gave_up ≡ false → IsWhole p) → Stands p.groups (seen_rows j)
+pub worked-off : OneSectionIsAll → (j : JobShape) (size : ℕ) (o p : PartState) → 0 < size → j.query.fact < length j.query.from → IsOpening j size 0 1 o → Grows o p → IsLawfulPart p → (IsBack o → o.gave_up ≡ false → IsWhole p) → Stands p.groups (seen_rows j)
 worked-off one j size o p some named begins grows lawful done =
     let none : IsBack o = λ i h. absurd (true≢false (sym h ∙ ap (λ xs. has xs i) begins.handed)) in
     let f = grows.follows in

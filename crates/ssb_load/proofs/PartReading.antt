@@ -6,7 +6,7 @@ use Rattle.ssb_records.specs.CutShort.{IfRead}
 use Rattle.ssb_records.specs.Giving.{given_since}
 use Rattle.ssb_records.specs.Lines.{EndsInLf}
 use Rattle.ssb_load.specs.Part.{HaltsAt, IsBrokenOff, IsPart, RefusesPart}
-use Rattle.ssb_records.specs.Pieces.{Follows, Hands, IsBroken, IsOver, handed, piece_of, rest_of}
+use Rattle.ssb_records.specs.Pieces.{IsPassedOn, IsPiece, IsBroken, IsOver, handed, piece_of, rest_of}
 use Rattle.ssb_load.specs.TableIntake.{subject_of}
 use Rattle.ssb_records.specs.declared.fault.LoadFault.{LoadFault}
 use Rattle.ssb_records.specs.declared.fault.LoadFault.TheVariants as load
@@ -16,7 +16,7 @@ use Rattle.ssb_records.proofs.TakingAll.{grows, never-over, since-is, told-of}
 
 -- The pieces handed out so far were taken; only behind the last a part of a line waits.
 pub record IsReadingPart {S : Type 0} (given : S → List ℕ) (failures ends : S → ℕ) (all : S → Option (List ℕ)) (pieces : Pieces S) (source_then source_now : S) (old now : Part) : Type 0 where
-  pub follows : Follows given failures ends pieces source_now
+  pub follows : IsPassedOn given failures ends pieces source_now
   pub whole : all source_now ≡ all source_then
   pub begun : pieces.begun.value ≡ source_then
   pub same : subject_of now.rows ≡ subject_of old.rows
@@ -28,7 +28,7 @@ pub no-tail : (p : Part) (over : Type 0) (piece : List ℕ) → 0 < length piece
 no-tail p over piece some none (inl e) = e
 no-tail p over piece some none (inr o) = absurd (never-over over piece some none o)
 
-pub tail-next : {S : Type 0} (p : Part) (q : Pieces S) → Hands true q → (EndsInLf (piece_of q) → p.tail.items ≡ []) → (p.tail.items ≡ []) ⊎ IsOver q
+pub tail-next : {S : Type 0} (p : Part) (q : Pieces S) → IsPiece true q → (EndsInLf (piece_of q) → p.tail.items ≡ []) → (p.tail.items ≡ []) ⊎ IsOver q
 tail-next p q hands none = elim (hands.1) [ inl lf ↦ inl (none lf) | inr over ↦ inr over ]
 
 clash : {b : Bool} → b ≡ true → b ≡ false → ⊥
@@ -46,7 +46,7 @@ nothing-more : (old piece done : List ℕ) → done ≡ old ++ piece → piece �
 nothing-more old piece done e none = e ∙ ap (λ t. old ++ t) none ∙ append-nil old
 
 -- the source has ended, and all that it gave was taken
-pub all-taken : {S : Type 0} (now : Part) (p q : Pieces S) (base given : List ℕ) → q.failed ≡ false → Hands false q → handed q ≡ handed p ++ piece_of q → given ≡ base ++ (handed q ++ rest_of q)
+pub all-taken : {S : Type 0} (now : Part) (p q : Pieces S) (base given : List ℕ) → q.failed ≡ false → IsPiece false q → handed q ≡ handed p ++ piece_of q → given ≡ base ++ (handed q ++ rest_of q)
     → IsPart now (handed p) → IsPart now (given_since base given)
 all-taken now p q base given going hands split told part =
     let o = over-of q going hands.1 in
@@ -55,7 +55,7 @@ all-taken now p q base given going hands split told part =
     subst (IsPart now) (sym is) part
 
 -- a read failed behind what was taken
-pub broken-off : {S : Type 0} (now : Part) (p q : Pieces S) (base given : List ℕ) → q.failed ≡ true → Hands false q → handed q ≡ handed p ++ piece_of q → given ≡ base ++ (handed q ++ rest_of q)
+pub broken-off : {S : Type 0} (now : Part) (p q : Pieces S) (base given : List ℕ) → q.failed ≡ true → IsPiece false q → handed q ≡ handed p ++ piece_of q → given ≡ base ++ (handed q ++ rest_of q)
     → (p.stopped ≡ true → q.failed ≡ p.failed) → (now.tail.items ≡ []) ⊎ IsOver p → IsPart now (handed p) → IsBrokenOff now (given_since base given)
 broken-off now p q base given failed hands split told same tail part = record {
   done = handed p;
@@ -94,15 +94,15 @@ read-never p bytes (load.Read n) P h = absurd h
 read-never p bytes load.Memory P h = tt
 
 -- what a source gave since the pieces began stands behind what it gave before
-pub grows-since : {S : Type 0} (given : S → List ℕ) (failures ends : S → ℕ) (q : Pieces S) (now base : S) → Follows given failures ends q now → q.begun.value ≡ base → given now ≡ given base ++ given_since (given base) (given now)
+pub grows-since : {S : Type 0} (given : S → List ℕ) (failures ends : S → ℕ) (q : Pieces S) (now base : S) → IsPassedOn given failures ends q now → q.begun.value ≡ base → given now ≡ given base ++ given_since (given base) (given now)
 grows-since given failures ends q now base f begun = grows (given base) (handed q ++ rest_of q) (given now) (told-of given failures ends q now base f begun)
 
 -- the source met its end
-pub ends-since : {S : Type 0} (given : S → List ℕ) (failures ends : S → ℕ) (q : Pieces S) (now base : S) → Follows given failures ends q now → q.begun.value ≡ base → q.failed ≡ false → Hands false q → ends base < ends now
+pub ends-since : {S : Type 0} (given : S → List ℕ) (failures ends : S → ℕ) (q : Pieces S) (now base : S) → IsPassedOn given failures ends q now → q.begun.value ≡ base → q.failed ≡ false → IsPiece false q → ends base < ends now
 ends-since given failures ends q now base f begun going hands =
     let o = over-of q going hands.1 in
     subst (λ s. ends s < ends now) begun (f.over o.stopped going)
 
 -- a read of the source failed
-pub fails-since : {S : Type 0} (given : S → List ℕ) (failures ends : S → ℕ) (q : Pieces S) (now base : S) → Follows given failures ends q now → q.begun.value ≡ base → q.failed ≡ true → failures base < failures now
+pub fails-since : {S : Type 0} (given : S → List ℕ) (failures ends : S → ℕ) (q : Pieces S) (now base : S) → IsPassedOn given failures ends q now → q.begun.value ≡ base → q.failed ≡ true → failures base < failures now
 fails-since given failures ends q now base f begun failed = subst (λ s. failures s < failures now) begun (f.broken failed)

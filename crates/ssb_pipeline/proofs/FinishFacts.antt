@@ -14,7 +14,7 @@ use Rattle.ssb_groups.proofs.Permuted.{any_order}
 use Rattle.ssb_pipeline.specs.Finish.{IsMerged, section_of}
 use Rattle.ssb_pipeline.specs.Joined.{morsel_rows, seen_in}
 use Rattle.ssb_pipeline.specs.Morsels.{morsel, morsel_count, morsel_cut, row_cut, section}
-use Rattle.ssb_pipeline.specs.Part.{Grows, IsLawful, IsWhole, PartState, ours}
+use Rattle.ssb_pipeline.specs.Part.{Grows, IsLawfulPart, IsWhole, PartState, ours}
 use Rattle.ssb_pipeline.specs.Pass.{IsPassOfParts, PartsState, PassState, known}
 use Rattle.ssb_pipeline.specs.Rule.{Knows, fresh}
 use Rattle.ssb_pipeline.specs.State.{AreOver}
@@ -28,13 +28,13 @@ use Rattle.ssb_pipeline.proofs.RunFacts.{whole}
 use Rattle.ssb_pipeline.proofs.SetFacts.{same-set}
 
 -- the groups of a part all of whose section came back
-pub of-whole : (p : PartState) → IsLawful p → IsWhole p → p.groups.counted ≤ length (morsel_rows p.job p.size p.returned) → AreOver p.job p.size (ours p) p.groups
+pub of-whole : (p : PartState) → IsLawfulPart p → IsWhole p → p.groups.counted ≤ length (morsel_rows p.job p.size p.returned) → AreOver p.job p.size (ours p) p.groups
 of-whole p l all few =
     let same = same-set (morsel_rows p.job p.size) refl (rows-cons p.job p.size) p.returned (ours p) l.returned (distinct-range _ _) (λ i h. l.within i (l.among i h)) all in
     record { job = l.job; stands = whole p l all; few = subst (λ n. p.groups.counted ≤ n) (sym (length_permutation _ _ same)) few }
 
 -- the groups of a part that grew so
-pub of-grown : (p q : PartState) (g : GroupMap) → Grows p q → IsLawful q → IsWhole q → g ≡ q.groups → g.counted ≤ length (morsel_rows q.job q.size q.returned) → AreOver p.job p.size (ours p) g
+pub of-grown : (p q : PartState) (g : GroupMap) → Grows p q → IsLawfulPart q → IsWhole q → g ≡ q.groups → g.counted ≤ length (morsel_rows q.job q.size q.returned) → AreOver p.job p.size (ours p) g
 of-grown p q g grows lawful all is few =
     let over : AreOver q.job q.size (ours q) g = subst (AreOver q.job q.size (ours q)) (sym is) (of-whole q lawful all (subst (λ (h : GroupMap). h.counted ≤ length (morsel_rows q.job q.size q.returned)) is few)) in
     let f = grows.follows in rw (f.job, f.size, f.section, f.sections) at over

@@ -4,7 +4,7 @@ use mathlib.Core.Option.{some, some-injective, some-ne-none}
 use lib.ListN.{get_elem?}
 use Rattle.crossbeam_queue.specs.Fifo.{Pushes, Pops, Forks, Learns}
 use Rattle.crossbeam_queue.proofs.Lists.{at_set, at_snoc, at_longer, set_here, set_again}
-use Rattle.ssb_pipeline.specs.Part.{Follows, IsLawful, PartState}
+use Rattle.ssb_pipeline.specs.Part.{Follows, IsLawfulPart, PartState}
 use Rattle.ssb_pipeline.specs.Rule.{Knows, knows, fresh, newcomer, putter, taker, AllPasses, Ruled}
 use Rattle.ssb_pipeline.proofs.Later.{follows_after, follows_self}
 
@@ -50,7 +50,7 @@ pub begins : Ruled [] (fresh ∷ [])
 begins = inl (refl, refl)
 
 -- the opening part is put by the first pass
-opens-free : (pass : ℕ) (x : PartState) (views : List Knows) → views ≡ fresh ∷ [] → get_elem? views pass ≡ some fresh → IsLawful x → Ruled (x ∷ []) (set views pass (knows false x []))
+opens-free : (pass : ℕ) (x : PartState) (views : List Knows) → views ≡ fresh ∷ [] → get_elem? views pass ≡ some fresh → IsLawfulPart x → Ruled (x ∷ []) (set views pass (knows false x []))
 opens-free pass x views is at law =
     inr (inl (record {
       part = x;
@@ -69,14 +69,14 @@ opens-free pass x views is at law =
     only-one : (j : ℕ) (u : Knows) → get_elem? views j ≡ some u → j ≡ pass
     only-one j u e = first views j u is e ∙ sym (first views pass fresh is at)
 
-opens-at : (pass : ℕ) (x : PartState) (items : List PartState) (views : List Knows) → IsLawful x → get_elem? views pass ≡ some fresh → Ruled items views → Ruled (items ++ x ∷ []) (set views pass (knows false x []))
+opens-at : (pass : ℕ) (x : PartState) (items : List PartState) (views : List Knows) → IsLawfulPart x → get_elem? views pass ≡ some fresh → Ruled items views → Ruled (items ++ x ∷ []) (set views pass (knows false x []))
 opens-at pass x items views law at (inl n) = subst (λ l. Ruled (l ++ x ∷ []) (set views pass (knows false x []))) (sym n.0) (opens-free pass x views n.1 at law)
 opens-at pass x items views law at (inr (inl f)) = absurd (true≢false (f.passes pass fresh at).0)
 opens-at pass x items views law at (inr (inr o)) =
     let is : fresh ≡ o.known = same_at views pass o.holder fresh o.known ((o.passes pass fresh at).0 refl) at o.there in
     absurd (true≢false (sym (ap (λ (k : Knows). k.opened) is ∙ o.opened)))
 
-pub opens : (n pass : ℕ) (v : Knows) (x : PartState) → v ≡ fresh → IsLawful x → Pushes Ruled n pass v x (λ w. w ≡ knows false x [])
+pub opens : (n pass : ℕ) (v : Knows) (x : PartState) → v ≡ fresh → IsLawfulPart x → Pushes Ruled n pass v x (λ w. w ≡ knows false x [])
 opens n pass v x is law items views room rule at = (knows false x [], opens-at pass x items views law (at ∙ ap some is) rule, refl)
 
 empty-at : (pass : ℕ) (items : List PartState) (views : List Knows) → get_elem? views pass ≡ some fresh → Ruled items views → items ≡ []
@@ -87,7 +87,7 @@ empty-at pass items views at (inr (inr o)) = o.empty
 pub new-empty : (pass : ℕ) (v : Knows) → v ≡ fresh → Learns Ruled pass v (λ items. items ≡ [])
 new-empty pass v is items views rule at = empty-at pass items views (at ∙ ap some is) rule
 
-put_keeps : (pass : ℕ) (v : Knows) (x : PartState) (items : List PartState) (views : List Knows) → v.holds ≡ true → v.opened ≡ true → IsLawful x → Follows x v.seen → get_elem? views pass ≡ some v → Ruled items views
+put_keeps : (pass : ℕ) (v : Knows) (x : PartState) (items : List PartState) (views : List Knows) → v.holds ≡ true → v.opened ≡ true → IsLawfulPart x → Follows x v.seen → get_elem? views pass ≡ some v → Ruled items views
     → Ruled (items ++ x ∷ []) (set views pass (putter v x))
 put_keeps pass v x items views holds opened law follows at (inl n) = absurd (true≢false (sym opened ∙ alone views pass v n.1 at))
 put_keeps pass v x items views holds opened law follows at (inr (inl f)) = absurd (true≢false (sym holds ∙ (f.passes pass v at).0))
@@ -103,7 +103,7 @@ put_keeps pass v x items views holds opened law follows at (inr (inr o)) =
           (λ j u other e. (not_true u.holds (λ h. other ((o.passes j u e).0 h ∙ sym here)), follows_after x o.known.seen u.seen after (o.passes j u e).1));
     }))
 
-pub puts : (n pass : ℕ) (v : Knows) (x : PartState) → v.holds ≡ true → v.opened ≡ true → IsLawful x → Follows x v.seen → Pushes Ruled n pass v x (λ w. w ≡ putter v x)
+pub puts : (n pass : ℕ) (v : Knows) (x : PartState) → v.holds ≡ true → v.opened ≡ true → IsLawfulPart x → Follows x v.seen → Pushes Ruled n pass v x (λ w. w ≡ putter v x)
 puts n pass v x holds opened law follows items views room rule at = (putter v x, put_keeps pass v x items views holds opened law follows at rule, refl)
 
 pub full : (pass : ℕ) (v : Knows) → v.holds ≡ true → Learns Ruled pass v (λ items. items ≡ [])
@@ -111,11 +111,11 @@ full pass v holds items views (inl n) at = n.0
 full pass v holds items views (inr (inl f)) at = absurd (true≢false (sym holds ∙ (f.passes pass v at).0))
 full pass v holds items views (inr (inr o)) at = o.empty
 
-pub takes : (pass : ℕ) (v : Knows) → Pops Ruled pass v (λ x w. (w ≡ taker v x) × IsLawful x × Follows x v.seen)
+pub takes : (pass : ℕ) (v : Knows) → Pops Ruled pass v (λ x w. (w ≡ taker v x) × IsLawfulPart x × Follows x v.seen)
 takes pass v x items views (inl n) at = absurd (no_item x items n.0)
 takes pass v x items views (inr (inl f)) at =
     let is = first_is x f.part items f.only in
-    let law : IsLawful x = subst IsLawful (sym is.0) f.lawful in
+    let law : IsLawfulPart x = subst IsLawfulPart (sym is.0) f.lawful in
     let after : (j : ℕ) (u : Knows) → get_elem? views j ≡ some u → Follows x u.seen = λ j u e. subst (λ y. Follows y u.seen) (sym is.0) (f.passes j u e).1 in (
       taker v x,
       inr (inr (record {

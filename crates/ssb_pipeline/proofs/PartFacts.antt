@@ -13,7 +13,7 @@ use Rattle.ssb_groups.proofs.Permuted.{any_order}
 use Rattle.ssb_pipeline.specs.Joined.{morsel_rows, seen_in}
 use Rattle.ssb_pipeline.specs.Marks.{IsKept, marked}
 use Rattle.ssb_pipeline.specs.Morsels.{morsel_count, morsel_cut, section}
-use Rattle.ssb_pipeline.specs.Part.{Hands, IsLawful, PartState, Returns, has}
+use Rattle.ssb_pipeline.specs.Part.{Hands, IsLawfulPart, PartState, Returns, has}
 use Rattle.ssb_pipeline.specs.State.{IsOfTicket, PartialState}
 use Rattle.ssb_pipeline.proofs.JoinedFacts.{rows-cons, seen-cons, seen-none}
 use Rattle.ssb_pipeline.proofs.MarkFacts.{distinct-marked, marked-lacks, no-more, one-more, place-of}
@@ -30,7 +30,7 @@ module _ (j : JobShape) (size s k first : ℕ) where
       let many : morsel_cut c k (s + 1) - morsel_cut c k s ≡ length marks = let b = h.begins in let e = h.ends in omega (arith, b, e) in
       ap (λ n. range_with_len (morsel_cut c k s) n) many ∙ ap (λ a. range_with_len a (length marks)) (sym h.begins)
 
-  pub lawful-of : (next back : ℕ) (marks : List Bool) (gave : Bool) (g : GroupMap) → IsKept j size s k first next marks back g → IsLawful (state next marks gave g)
+  pub lawful-of : (next back : ℕ) (marks : List Bool) (gave : Bool) (g : GroupMap) → IsKept j size s k first next marks back g → IsLawfulPart (state next marks gave g)
   lawful-of next back marks gave g h =
       let fits = h.fits in
       record {

@@ -2,7 +2,7 @@
 use Rattle.std.proofs.Common.{◌≡◌, ◌∙◌, ◌≤◌, ◌<◌, ◌+◌, ◌-◌, ℕ, true, inl, inr, refl, sym, ap, subst, arith}
 use Rattle.std.specs.List.{range_with_len}
 use Rattle.std.proofs.lemmas.Bool.{cases_lt}
-use Rattle.ssb_pipeline.specs.Part.{Grows, IsLawful, PartState, Returns, has, ours}
+use Rattle.ssb_pipeline.specs.Part.{Grows, IsLawfulPart, PartState, Returns, has, ours}
 use Rattle.ssb_pipeline.proofs.Later.{all-follows, back-follows, grows-more, is-back}
 use Rattle.ssb_pipeline.proofs.RangeFacts.{range-has, within-range}
 
@@ -12,10 +12,10 @@ pub record IsSwept (old now : PartState) (first end morsel : ℕ) : Type 0 where
   pub ours : ours now ≡ range_with_len first (end - first)
   pub handed : now.handed ≡ range_with_len first (end - first)
   pub done : (i : ℕ) → first ≤ i → i < morsel → has now.returned i ≡ true
-  pub lawful : IsLawful now
+  pub lawful : IsLawfulPart now
 
 -- all of the section is handed out at once
-pub begins : (p q : PartState) (first end : ℕ) → IsLawful p → q ≡ record p { handed = ours p } → IsLawful q → ours q ≡ range_with_len first (end - first) → IsSwept p q first end first
+pub begins : (p q : PartState) (first end : ℕ) → IsLawfulPart p → q ≡ record p { handed = ours p } → IsLawfulPart q → ours q ≡ range_with_len first (end - first) → IsSwept p q first end first
 begins p q first end l e m is = record {
   grows = record { follows = all-follows p q l e; gave_up = ap (λ (x : PartState). x.gave_up) e };
   ours = is;
@@ -29,7 +29,7 @@ pub passes : (old now : PartState) (first end morsel : ℕ) → IsSwept old now 
 passes old now first end morsel s h = record { grows = s.grows; ours = s.ours; handed = s.handed; lawful = s.lawful; done = λ i from to. elim (cases_lt i morsel) [ inl l ↦ s.done i from l | inr g ↦ let same : morsel ≡ i = omega (arith, to, g) in subst (λ n. has now.returned n ≡ true) same h ] }
 
 -- a morsel that is done now
-pub goes-on : (old now next : PartState) (first end morsel : ℕ) → IsSwept old now first end morsel → Returns morsel now next → IsLawful next → IsSwept old next first end (morsel + 1)
+pub goes-on : (old now next : PartState) (first end morsel : ℕ) → IsSwept old now first end morsel → Returns morsel now next → IsLawfulPart next → IsSwept old next first end (morsel + 1)
 goes-on old now next first end morsel s r l =
     let e = r.after in
     let later = back-follows morsel now next r in

@@ -1,7 +1,7 @@
 -- A part that is worked off: what it hands out comes back before the next.
 use Rattle.std.proofs.Common.{◌≡◌, ◌∙◌, ◌∷◌, [], ◌<◌, ◌-◌, ℕ, true, false, true≢false, None, inl, inr, length, sym, ap, subst, arith, length-append}
 use Rattle.std.proofs.lemmas.Bool.{false_from_ne_true}
-use Rattle.ssb_pipeline.specs.Part.{Grows, Hands, HandsOut, IsBack, IsLawful, IsWhole, PartState, Returns, has, ours}
+use Rattle.ssb_pipeline.specs.Part.{Grows, Hands, HandsOut, IsBack, IsLawfulPart, IsWhole, PartState, Returns, has, ours}
 use Rattle.ssb_pipeline.proofs.Later.{back-follows, follows_after, grows-more, grows_self, hand-follows, is-back}
 use Rattle.ssb_pipeline.proofs.RangeFacts.{range-has}
 use Rattle.ssb_pipeline.proofs.SetFacts.{has-last, has-right, no-longer}
@@ -10,20 +10,20 @@ use Rattle.ssb_pipeline.proofs.SetFacts.{has-last, has-right, no-longer}
 pub record IsWorked (old now : PartState) : Type 0 where
   pub grows : Grows old now
   pub back : IsBack old → IsBack now
-  pub lawful : IsLawful now
+  pub lawful : IsLawfulPart now
 
-pub nothing-yet : (p : PartState) → IsLawful p → IsWorked p p
+pub nothing-yet : (p : PartState) → IsLawfulPart p → IsWorked p p
 nothing-yet p l = record { grows = grows_self p; back = λ b. b; lawful = l }
 
 -- what is handed out is handed out then, and did not come back
 pub is-out : (i : ℕ) (p q : PartState) → Hands i p q → has q.handed i ≡ true
 is-out i p q h = ap (λ (x : PartState). has x.handed i) h.after ∙ has-right p.handed (i ∷ []) i (range-has i 1 i (omega arith) (omega arith))
 
-pub is-fresh : (i : ℕ) (p q : PartState) → IsLawful p → Hands i p q → has q.returned i ≡ false
+pub is-fresh : (i : ℕ) (p q : PartState) → IsLawfulPart p → Hands i p q → has q.returned i ≡ false
 is-fresh i p q l h = ap (λ (x : PartState). has x.returned i) h.after ∙ false_from_ne_true (has p.returned i) (λ there. true≢false (sym (l.among i there) ∙ h.fresh))
 
 -- fewer of the section are left
-pub fewer-left : (i : ℕ) (p q r : PartState) → Hands i p q → IsLawful q → Returns i q r → length (ours r) - length r.handed < length (ours p) - length p.handed
+pub fewer-left : (i : ℕ) (p q r : PartState) → Hands i p q → IsLawfulPart q → Returns i q r → length (ours r) - length r.handed < length (ours p) - length p.handed
 fewer-left i p q r h l b =
     let room = no-longer q.handed (ours q) l.handed l.within in
     let more = ap (λ (x : PartState). length x.handed) h.after ∙ length-append p.handed (i ∷ []) in
@@ -33,7 +33,7 @@ fewer-left i p q r h l b =
     omega (arith, room, more, same, still, kept)
 
 -- one morsel was handed out and came back
-pub one-more : (i : ℕ) (old now mid next : PartState) → IsWorked old now → Hands i now mid → Returns i mid next → IsLawful next → IsWorked old next
+pub one-more : (i : ℕ) (old now mid next : PartState) → IsWorked old now → Hands i now mid → Returns i mid next → IsLawfulPart next → IsWorked old next
 one-more i old now mid next w h b l =
     let e = h.after in
     let f = b.after in

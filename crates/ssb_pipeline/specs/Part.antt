@@ -34,7 +34,7 @@ ours p = section (morsel_count (fact_rows p.job) p.size) p.sections p.section
 
 -- the handed-out numbers are distinct members of the section, the returned ones are distinct and among them, and the groups stand for the kept
 -- combinations of the returned morsels
-pub record IsLawful (p : PartState) : Type 0 where
+pub record IsLawfulPart (p : PartState) : Type 0 where
   pub handed : IsDistinct nat_eq p.handed
   pub within : (i : ℕ) → has p.handed i ≡ true → has (ours p) i ≡ true
   pub returned : IsDistinct nat_eq p.returned
@@ -139,15 +139,15 @@ Runs (e ∷ es) p q = (m : PartState) × Happens e p m × Runs es m q
 
 -- a law: a core run keeps a part lawful
 abbrev pub RunsStayLawful : Type 0
-RunsStayLawful = (es : List Event) (p q : PartState) → IsLawful p → Runs es p q → IsLawful q
+RunsStayLawful = (es : List Event) (p q : PartState) → IsLawfulPart p → Runs es p q → IsLawfulPart q
 
 -- a law: where all of its section came back, a lawful part's groups stand for the kept combinations of the whole section
 abbrev pub WholeSectionsStand : Type 0
-WholeSectionsStand = (p : PartState) → IsLawful p → IsWhole p → Stands p.groups (seen_in p.job p.size (ours p))
+WholeSectionsStand = (p : PartState) → IsLawfulPart p → IsWhole p → Stands p.groups (seen_in p.job p.size (ours p))
 
 -- a law: a part that comes of an opening one by a core run, any number that is out coming back at any turn, is lawful
 abbrev pub EveryRunIsLawful : Type 0
-EveryRunIsLawful = (es : List Event) (j : JobShape) (m s k : ℕ) (opening p : PartState) → IsOpening j m s k opening → IsLawful opening → Runs es opening p → IsLawful p
+EveryRunIsLawful = (es : List Event) (j : JobShape) (m s k : ℕ) (opening p : PartState) → IsOpening j m s k opening → IsLawfulPart opening → Runs es opening p → IsLawfulPart p
 
 -- a part's groups stand for the kept combinations of a whole section
 abbrev pub StandsForSection : JobShape → ℕ → ℕ → ℕ → PartState → Type 0
@@ -155,8 +155,8 @@ StandsForSection j m s k p = Stands p.groups (seen_in j m (section (morsel_count
 
 -- a law: where all of its section came back, its groups stand for the kept combinations of the whole section
 abbrev pub EveryRunStands : Type 0
-EveryRunStands = (es : List Event) (j : JobShape) (m s k : ℕ) (opening p : PartState) → IsOpening j m s k opening → IsLawful opening → Runs es opening p → IsWhole p → StandsForSection j m s k p
+EveryRunStands = (es : List Event) (j : JobShape) (m s k : ℕ) (opening p : PartState) → IsOpening j m s k opening → IsLawfulPart opening → Runs es opening p → IsWhole p → StandsForSection j m s k p
 
 -- a law: where the one section of a lawful part came back, its groups stand for all that WHERE keeps
 abbrev pub OneSectionIsAll : Type 0
-OneSectionIsAll = (p : PartState) → IsLawful p → IsWhole p → p.section ≡ 0 → p.sections ≡ 1 → 0 < p.size → p.job.query.fact < length p.job.query.from → Stands p.groups (map (seen p.job) (kept p.job))
+OneSectionIsAll = (p : PartState) → IsLawfulPart p → IsWhole p → p.section ≡ 0 → p.sections ≡ 1 → 0 < p.size → p.job.query.fact < length p.job.query.from → Stands p.groups (map (seen p.job) (kept p.job))

@@ -4,7 +4,7 @@ use Rattle.std.specs.Prelude.{◌≡◌, ℕ, Bool, true, false, List, [], ◌�
 use mathlib.Core.Option.{some}
 use lib.ListN.{get_elem?}
 use Rattle.ssb_job.specs.Kept.{JobShape}
-use Rattle.ssb_pipeline.specs.Part.{Follows, IsLawful, PartState, handed_between}
+use Rattle.ssb_pipeline.specs.Part.{Follows, IsLawfulPart, PartState, handed_between}
 
 -- what a pass knows of a part: whether the queue is in use, whether the pass holds the part, the part at its last take or put, and the numbers that were handed out in its holds
 pub record Knows : Type 0 where
@@ -55,7 +55,7 @@ AllPasses F views = (pass : ℕ) (v : Knows) → get_elem? views pass ≡ some v
 pub record IsFree (items : List PartState) (views : List Knows) : Type 0 where
   pub part : PartState
   pub only : items ≡ part ∷ []
-  pub lawful : IsLawful part
+  pub lawful : IsLawfulPart part
   pub passes : AllPasses (λ pass v. (v.holds ≡ false) × Follows part v.seen) views
 
 -- the queue is empty and one pass holds the part, which was lawful and had at least what every pass has seen
@@ -66,7 +66,7 @@ pub record IsOut (items : List PartState) (views : List Knows) : Type 0 where
   pub there : get_elem? views holder ≡ some known
   pub holds : known.holds ≡ true
   pub opened : known.opened ≡ true
-  pub lawful : IsLawful known.seen
+  pub lawful : IsLawfulPart known.seen
   pub passes : AllPasses (λ pass v. (v.holds ≡ true → pass ≡ holder) × Follows known.seen v.seen) views
 
 -- or the queue is new

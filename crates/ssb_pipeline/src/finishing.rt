@@ -5,7 +5,7 @@ ghost use Rattle.ssb_job.specs.Kept.{AreOneJob, kept};
 ghost use Rattle.ssb_groups.specs.Seen.{seen};
 ghost use Rattle.ssb_groups.specs.Stands.{Stands};
 ghost use Rattle.ssb_pipeline.specs.Finish.{IsMerged, section_of};
-ghost use Rattle.ssb_pipeline.specs.Part.{IsLawful, ours};
+ghost use Rattle.ssb_pipeline.specs.Part.{IsLawfulPart, ours};
 ghost use Rattle.ssb_pipeline.specs.Pass.{HoldsNone, IsPassOfParts, known};
 ghost use Rattle.ssb_pipeline.specs.State.{AreOver};
 ghost use Rattle.ssb_pipeline.specs.Work.{OnlyIn};
@@ -19,7 +19,7 @@ use std::sync::Wait;
 // The groups of a part, after all of its section that did not come back is done here; none where a
 // ticket was given up.
 fn swept(part: Part) -> Result<Groups, AllocError>
-    requires { IsLawful part }
+    requires { IsLawfulPart part }
     ensures over { IfOk result (AreOver part.job part.size (ours part)) }
     ensures refused { part.gave_up ≡ true → IsErr result }
 {

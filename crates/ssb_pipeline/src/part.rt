@@ -5,7 +5,7 @@ ghost use Rattle.std.specs.List.{range_with_len};
 ghost use Rattle.std.specs.Arc.{arc_value};
 ghost use Rattle.ssb_pipeline.specs.Joined.{morsel_rows};
 ghost use Rattle.ssb_pipeline.specs.Morsels.{morsel_cut};
-ghost use Rattle.ssb_pipeline.specs.Part.{GivesBack, GivesUp, Grows, HandsOut, IsBack, IsHandedOut, IsLawful, IsOpening, IsWhole, Returns, has, ours};
+ghost use Rattle.ssb_pipeline.specs.Part.{GivesBack, GivesUp, Grows, HandsOut, IsBack, IsHandedOut, IsLawfulPart, IsOpening, IsWhole, Returns, has, ours};
 ghost use Rattle.ssb_job.specs.Kept.{AreOneJob};
 
 use crate::fault::ReturnFault;
@@ -87,7 +87,7 @@ impl Part {
         requires size { 0 < morsel_size }
         requires section { section < sections }
         ensures opening { IfOk result (IsOpening (arc_value job) morsel_size section sections) }
-        ensures lawful { IfOk result IsLawful }
+        ensures lawful { IfOk result IsLawfulPart }
     {
         let morsels = job.fact_rows().div_ceil(morsel_size);
         let first = morsel_cut(morsels, sections, section);
@@ -112,7 +112,7 @@ impl Part {
     /// A part is lawful: its handed-out morsels are disjoint, the returned ones are among them, and its
     /// groups stand for the kept combinations of those.
     pub fn lawful(&self)
-        ensures { IsLawful self.now }
+        ensures { IsLawfulPart self.now }
     {
         let _ = &self.next;
     }
@@ -222,7 +222,7 @@ impl Part {
     pub fn work_off(&mut self) -> Result<(), AllocError>
         ensures grows { Grows self.old self.new }
         ensures whole { OnOk result (IsBack self.old → self.old.gave_up ≡ false → IsWhole self.new) }
-        ensures lawful { IsLawful self.new }
+        ensures lawful { IsLawfulPart self.new }
     {
         self.lawful();
         while let Some(ticket) = self.hand_out() {
@@ -243,7 +243,7 @@ impl Part {
     pub fn sweep(&mut self) -> Result<(), AllocError>
         ensures grows { Grows self.old self.new }
         ensures whole { OnOk result (IsWhole self.new) }
-        ensures lawful { IsLawful self.new }
+        ensures lawful { IsLawfulPart self.new }
     {
         self.lawful();
         self.hand_out_all();

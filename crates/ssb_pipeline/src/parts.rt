@@ -4,7 +4,7 @@ ghost use Rattle.std.specs.Prelude.{◌≡◌, ◌<◌, ◌≤◌, ◌^◌, true
 ghost use Rattle.std.specs.Arc.{arc_value};
 ghost use Rattle.crossbeam_queue.specs.Passes.{view, IsPassOf, ruled_capacity};
 ghost use Rattle.ssb_job.specs.Kept.{AreOneJob, fact_rows};
-ghost use Rattle.ssb_pipeline.specs.Part.{Follows, IsLawful, IsOpening};
+ghost use Rattle.ssb_pipeline.specs.Part.{Follows, IsLawfulPart, IsOpening};
 ghost use Rattle.ssb_pipeline.specs.Rule.{knows, taker, putter};
 ghost use Rattle.ssb_pipeline.specs.Pass.{IsPassOfParts, HoldsNone, KnowsNothing, known, knowing, newcomers};
 ghost use Rattle.std.specs.Borrow.{sem};
@@ -115,7 +115,7 @@ impl Parts {
         requires pass { IsPassOfParts self.now pass.old }
         requires holds_none { HoldsNone pass.old }
         ensures section { result.section ≡ section }
-        ensures lawful { IsLawful result.part }
+        ensures lawful { IsLawfulPart result.part }
         ensures follows { Follows result.part (known pass.old section).seen }
         ensures view { pass.new ≡ knowing pass.old section (taker (known pass.old section) result.part) }
         ensures pass { IsPassOfParts self.now pass.new }
@@ -128,7 +128,7 @@ impl Parts {
         requires section { section < length self.now.queues }
         requires pass { IsPassOfParts self.now pass.old }
         ensures section { result.section ≡ section }
-        ensures lawful { IsLawful result.part }
+        ensures lawful { IsLawfulPart result.part }
         ensures follows { Follows result.part (known pass.old section).seen }
         ensures view { pass.new ≡ knowing pass.old section (taker (known pass.old section) result.part) }
         ensures pass { IsPassOfParts self.now pass.new }

@@ -3,7 +3,7 @@ use Rattle.std.proofs.Common.{◌≡◌, ◌++◌, ◌∙◌, ◌<◌, ◌≤◌
 use Rattle.std.proofs.lemmas.Grind.{common_steps}
 use Rattle.std.proofs.lemmas.List.{length-take-le, drop_all}
 use Rattle.ssb_records.specs.Lines.{EndsInLf, IsPartOfLine}
-use Rattle.ssb_records.specs.Pieces.{Hands, IsCut, IsPlace, piece_of, rest_of}
+use Rattle.ssb_records.specs.Pieces.{IsPiece, IsCut, IsPlace, piece_of, rest_of}
 use Rattle.ssb_records.specs.declared.pieces.Pieces.{Pieces}
 
 pub front-none : (xs ys : List ℕ) → [] ≡ xs ++ ys → xs ≡ []
@@ -24,14 +24,14 @@ pub record IsCutOff {S : Type 0} (old now : Pieces S) (end : ℕ) : Type 0 where
   pub failed : now.failed ≡ old.failed
   pub long : old.filled ≤ length old.buffer.items
 
-nothing : {S : Type 0} (old now : Pieces S) → IsPlace 0 old → IsCutOff old now 0 → IsCut 0 old → Hands false now
+nothing : {S : Type 0} (old now : Pieces S) → IsPlace 0 old → IsCutOff old now 0 → IsCut 0 old → IsPiece false now
 nothing old now p c (inl l) = absurd (not-empty (take 0 old.buffer.items) refl l)
 nothing old now p c (inr (inl e)) =
     let none : take old.filled old.buffer.items ≡ [] = ap (λ n. take n old.buffer.items) (sym e.2) in
     (c.piece, inl (record { stopped = c.stopped ∙ e.0; failed = c.failed ∙ e.1; rest = c.rest ∙ none }))
 nothing old now p c (inr (inr b)) = (c.piece, inr (record { failed = c.failed ∙ b.0; rest = let P : List ℕ → Type 0 = IsPartOfLine in subst P (sym c.rest) b.2 }))
 
-some : {S : Type 0} (old now : Pieces S) (n : ℕ) → IsPlace (suc n) old → IsCutOff old now (suc n) → IsCut (suc n) old → Hands true now
+some : {S : Type 0} (old now : Pieces S) (n : ℕ) → IsPlace (suc n) old → IsCutOff old now (suc n) → IsCut (suc n) old → IsPiece true now
 some old now n p c cut =
     let inside = p.inside in
     let room = c.long in
@@ -50,6 +50,6 @@ some old now n p c cut =
       ],
     )
 
-pub hands : {S : Type 0} (old now : Pieces S) (n : ℕ) → IsPlace n old → IsCutOff old now n → Hands (nat_lt 0 n) now
+pub hands : {S : Type 0} (old now : Pieces S) (n : ℕ) → IsPlace n old → IsCutOff old now n → IsPiece (nat_lt 0 n) now
 hands old now zero p c = nothing old now p c p.cut
 hands old now (suc n) p c = let more : nat_lt 0 (suc n) ≡ true = search (rules, common_steps) in rw more (some old now n p c p.cut)

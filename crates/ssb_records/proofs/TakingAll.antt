@@ -7,7 +7,7 @@ use Rattle.ssb_records.specs.Giving.{given_since}
 use Rattle.ssb_records.specs.CutShort.{IsCutShort, IsGoodBefore}
 use Rattle.ssb_records.specs.Intake.{AreGood, Judge, Refuses, StopsBy, StopsIn}
 use Rattle.ssb_records.specs.Lines.{AreLines, EndsInLf, IsPartOfLine}
-use Rattle.ssb_records.specs.Pieces.{Follows, Hands, IsOver, IsBroken, begun_with, handed, piece_of, rest_of}
+use Rattle.ssb_records.specs.Pieces.{IsPassedOn, IsPiece, IsOver, IsBroken, begun_with, handed, piece_of, rest_of}
 use Rattle.ssb_records.specs.Records.{Fields, records_of}
 use Rattle.ssb_records.specs.declared.fault.LoadFault.{LoadFault}
 use Rattle.ssb_records.specs.declared.fault.LoadFault.TheVariants as load
@@ -31,7 +31,7 @@ holds-of (Some y) P x e h = let is : y ≡ x = cc in subst P is h
 -- The pieces handed out so far were taken.
 pub record IsTaking {S T B : Type 0} (given : S → List ℕ) (failures ends : S → ℕ) (all : S → Option (List ℕ)) (subject : T → B) (stands : T → List Fields → Type 0)
     (pieces : Pieces S) (before : List ℕ) (source_then source_now : S) (old now : T) : Type 0 where
-  pub follows : Follows given failures ends pieces source_now
+  pub follows : IsPassedOn given failures ends pieces source_now
   pub whole : all source_now ≡ all source_then
   pub begun : pieces.begun.value ≡ source_then
   pub same : subject now ≡ subject old
@@ -39,7 +39,7 @@ pub record IsTaking {S T B : Type 0} (given : S → List ℕ) (failures ends : S
   pub lead : Lead before (handed pieces) (IsOver pieces)
 
 -- what a source gave since the pieces began
-pub told-of : {S : Type 0} (given : S → List ℕ) (failures ends : S → ℕ) (q : Pieces S) (now base : S) → Follows given failures ends q now → begun_with q ≡ base → given now ≡ given base ++ (handed q ++ rest_of q)
+pub told-of : {S : Type 0} (given : S → List ℕ) (failures ends : S → ℕ) (q : Pieces S) (now base : S) → IsPassedOn given failures ends q now → begun_with q ≡ base → given now ≡ given base ++ (handed q ++ rest_of q)
 told-of given failures ends q now base f begun = f.told ∙ ap (λ s. given s ++ (handed q ++ rest_of q)) begun
 
 -- ---- a record that is refused
@@ -105,14 +105,14 @@ refused-bytes s e before old piece done more bytes over lead some none split is 
     subst P (sym (is ∙ ap (λ t. t ++ more) split)) (stays-refused s e before old piece more over lead (never-over over piece some none) h (lines-end old piece more ends))
 
 -- a refusal in a piece is one of all that the source gave
-pub refused-given : {S : Type 0} (s : Judge) (e : LoadFault) (p q : Pieces S) (before base now : List ℕ) → Lead before (handed p) (IsOver p) → Hands true q → (IsOver p → piece_of q ≡ []) → handed q ≡ handed p ++ piece_of q
+pub refused-given : {S : Type 0} (s : Judge) (e : LoadFault) (p q : Pieces S) (before base now : List ℕ) → Lead before (handed p) (IsOver p) → IsPiece true q → (IsOver p → piece_of q ≡ []) → handed q ≡ handed p ++ piece_of q
     → now ≡ base ++ (handed q ++ rest_of q) → ((rest : List Fields) → Refuses s (records_of (handed p) ++ (records_of (before ++ piece_of q) ++ rest)) e) → Refuses s (records_of (given_since base now)) e
 refused-given s e p q before base now lead hands none split told h =
     refused-bytes s e before (handed p) (piece_of q) (handed q) (rest_of q) (given_since base now) (IsOver p) lead hands.0 none split (since-is base (handed q ++ rest_of q) now told) h
     (elim (hands.1) [ inl l ↦ inl l | inr o ↦ inr (o.rest) ])
 
 -- a refusal in a piece is one of all bytes of the source, given and to come
-pub refused-all : {S : Type 0} (s : Judge) (e : LoadFault) (p q : Pieces S) (before base now all : List ℕ) → Lead before (handed p) (IsOver p) → Hands true q → (IsOver p → piece_of q ≡ []) → handed q ≡ handed p ++ piece_of q
+pub refused-all : {S : Type 0} (s : Judge) (e : LoadFault) (p q : Pieces S) (before base now all : List ℕ) → Lead before (handed p) (IsOver p) → IsPiece true q → (IsOver p → piece_of q ≡ []) → handed q ≡ handed p ++ piece_of q
     → now ≡ base ++ (handed q ++ rest_of q) → ((rest : List Fields) → Refuses s (records_of (handed p) ++ (records_of (before ++ piece_of q) ++ rest)) e)
     → take (length now) all ≡ now → (IsOver q → now ≡ all) → Refuses s (records_of (given_since base all)) e
 refused-all s e p q before base now all lead hands none split told h front over =
@@ -136,7 +136,7 @@ broken-of q failed (inr b) = b.rest
 same-front : (old piece done : List ℕ) → done ≡ old ++ piece → piece ≡ [] → done ≡ old
 same-front old piece done e none = e ∙ ap (λ t. old ++ t) none ∙ append-nil old
 
-pub stops-at : {S : Type 0} (s : Judge) (p q : Pieces S) (before base now : List ℕ) (n : ℕ) → Lead before (handed p) (IsOver p) → q.failed ≡ true → (p.stopped ≡ true → q.failed ≡ p.failed) → Hands false q
+pub stops-at : {S : Type 0} (s : Judge) (p q : Pieces S) (before base now : List ℕ) (n : ℕ) → Lead before (handed p) (IsOver p) → q.failed ≡ true → (p.stopped ≡ true → q.failed ≡ p.failed) → IsPiece false q
     → handed q ≡ handed p ++ piece_of q → now ≡ base ++ (handed q ++ rest_of q) → AreGood s (records_of (handed p)) → n ≡ length (records_of (handed p)) + 1 → IsCutShort (AreGood s) (given_since base now) n
 stops-at s p q before base now n lead failed same hands split told good number = record {
   lines = handed p;
@@ -150,7 +150,7 @@ stops-at s p q before base now n lead failed same hands split told good number =
   number = number;
 }
 
-pub good-before : {S : Type 0} (s : Judge) (p q : Pieces S) (before base now all : List ℕ) (n : ℕ) → Lead before (handed p) (IsOver p) → q.failed ≡ true → (p.stopped ≡ true → q.failed ≡ p.failed) → Hands false q
+pub good-before : {S : Type 0} (s : Judge) (p q : Pieces S) (before base now all : List ℕ) (n : ℕ) → Lead before (handed p) (IsOver p) → q.failed ≡ true → (p.stopped ≡ true → q.failed ≡ p.failed) → IsPiece false q
     → handed q ≡ handed p ++ piece_of q → now ≡ base ++ (handed q ++ rest_of q) → AreGood s (records_of (handed p)) → n ≡ length (records_of (handed p)) + 1
     → take (length now) all ≡ now → IsGoodBefore (AreGood s) (records_of (given_since base all)) n
 good-before s p q before base now all n lead failed same hands split told good number front =
@@ -160,14 +160,14 @@ good-before s p q before base now all n lead failed same hands split told good n
 
 -- ---- one piece more
 
-pub over-settled : {S : Type 0} (given : S → List ℕ) (failures ends : S → ℕ) (q : Pieces S) (source : S) → Follows given failures ends q source → IsOver q → 0 < ends source
+pub over-settled : {S : Type 0} (given : S → List ℕ) (failures ends : S → ℕ) (q : Pieces S) (source : S) → IsPassedOn given failures ends q source → IsOver q → 0 < ends source
 over-settled given failures ends q source f o = let h = f.over o.stopped o.failed in omega (arith, h)
 
-pub piece-behind : {S : Type 0} (p q : Pieces S) → handed q ≡ handed p ++ piece_of q → Hands true q → EndsInLf (handed q) ⊎ IsOver q
+pub piece-behind : {S : Type 0} (p q : Pieces S) → handed q ≡ handed p ++ piece_of q → IsPiece true q → EndsInLf (handed q) ⊎ IsOver q
 piece-behind p q split hands = elim (hands.1) [ inl l ↦ inl (let P : List ℕ → Type 0 = EndsInLf in subst P (sym split) (lf-behind (handed p) (piece_of q) l)) | inr o ↦ inr o ]
 
 pub follows-start : {S : Type 0} (given : S → List ℕ) (failures ends : S → ℕ) (p : Pieces S) (source : S) → handed p ≡ [] → rest_of p ≡ [] → p.stopped ≡ false → p.failed ≡ false → p.begun.value ≡ source
-    → Follows given failures ends p source
+    → IsPassedOn given failures ends p source
 follows-start given failures ends p source none waits going whole begun = record {
   told = sym (append-nil (given source)) ∙ ap (λ t. given source ++ t) (sym none ∙ sym (append-nil (handed p)) ∙ ap (λ t. handed p ++ t) (sym waits)) ∙ ap (λ s. given s ++ (handed p ++ rest_of p)) (sym begun);
   over = λ stopped broke. absurd (clash stopped going);

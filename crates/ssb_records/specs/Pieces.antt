@@ -30,7 +30,7 @@ begun_with p = p.begun.value
 
 -- The pieces of a source, whose members tell what it gave, how often it failed and how often it met its end: what it gave since they began is handed out, or
 -- waits; where no more is read, a read failed since then, or met the end.
-pub record Follows {S : Type 0} (given : S → List ℕ) (failures ends : S → ℕ) (p : Pieces S) (source : S) : Type 0 where
+pub record IsPassedOn {S : Type 0} (given : S → List ℕ) (failures ends : S → ℕ) (p : Pieces S) (source : S) : Type 0 where
   pub told : given source ≡ given p.begun.value ++ (handed p ++ rest_of p)
   pub over : p.stopped ≡ true → p.failed ≡ false → ends p.begun.value < ends source
   pub broken : p.failed ≡ true → failures p.begun.value < failures source
@@ -49,9 +49,9 @@ pub record IsBroken {S : Type 0} (p : Pieces S) : Type 0 where
   pub rest : IsPartOfLine (rest_of p)
 
 -- a piece is some whole lines, or the last; none comes after the last, nor where a read failed and no whole line waits
-abbrev pub Hands : {S : Type 0} → Bool → Pieces S → Type 0
-Hands true p = (0 < length (piece_of p)) × (EndsInLf (piece_of p) ⊎ IsOver p)
-Hands false p = (piece_of p ≡ []) × (IsOver p ⊎ IsBroken p)
+abbrev pub IsPiece : {S : Type 0} → Bool → Pieces S → Type 0
+IsPiece true p = (0 < length (piece_of p)) × (EndsInLf (piece_of p) ⊎ IsOver p)
+IsPiece false p = (piece_of p ≡ []) × (IsOver p ⊎ IsBroken p)
 
 -- where to cut: behind a line feed, at the end, or before a part of a line
 abbrev pub IsCut : {S : Type 0} → ℕ → Pieces S → Type 0

@@ -213,15 +213,15 @@ impl<S> Pieces<S> {
 }
 
 impl<S: Source> Pieces<S> {
-    ghost use Rattle.ssb_records.specs.Pieces.{Follows, Hands, IsOver, IsPlace, begun_with, handed, has_failed, has_stopped, piece_of, rest_of, turns_left};
+    ghost use Rattle.ssb_records.specs.Pieces.{IsPassedOn, IsPiece, IsOver, IsPlace, begun_with, handed, has_failed, has_stopped, piece_of, rest_of, turns_left};
 
     // Reads once, where there is room.
     fn read(&mut self, source: &mut S)
         requires cut { self.old.cut ≡ 0 }
         requires stopped { self.old.stopped ≡ false }
         requires room { self.old.filled < vec_len self.old.buffer }
-        requires follows { Follows S.given S.failures S.ends self.old source.old }
-        ensures follows { Follows S.given S.failures S.ends self.new source.new }
+        requires follows { IsPassedOn S.given S.failures S.ends self.old source.old }
+        ensures follows { IsPassedOn S.given S.failures S.ends self.new source.new }
         ensures whole { S.whole source.new ≡ S.whole source.old }
         ensures cut { self.new.cut ≡ 0 }
         ensures nearer { turns_left self.new < turns_left self.old }
@@ -243,8 +243,8 @@ impl<S: Source> Pieces<S> {
     // Reads until an LF stands in a full buffer, or no more comes, and says where to cut.
     fn look(&mut self, source: &mut S) -> Result<usize, AllocError>
         requires cut { self.old.cut ≡ 0 }
-        requires follows { Follows S.given S.failures S.ends self.old source.old }
-        ensures follows { Follows S.given S.failures S.ends self.new source.new }
+        requires follows { IsPassedOn S.given S.failures S.ends self.old source.old }
+        ensures follows { IsPassedOn S.given S.failures S.ends self.new source.new }
         ensures whole { S.whole source.new ≡ S.whole source.old }
         ensures cut { self.new.cut ≡ 0 }
         ensures handed { handed self.new ≡ handed self.old }
@@ -270,12 +270,12 @@ impl<S: Source> Pieces<S> {
     ///
     /// `AllocError` where a growth was refused.
     pub fn fill(&mut self, source: &mut S) -> Result<bool, AllocError>
-        requires { Follows S.given S.failures S.ends self.old source.old }
-        ensures follows { Follows S.given S.failures S.ends self.new source.new }
+        requires { IsPassedOn S.given S.failures S.ends self.old source.old }
+        ensures follows { IsPassedOn S.given S.failures S.ends self.new source.new }
         ensures whole { S.whole source.new ≡ S.whole source.old }
         ensures handed { handed self.new ≡ handed self.old ++ piece_of self.new }
         ensures begun { begun_with self.new ≡ begun_with self.old }
-        ensures hands { IfOk result (λ more. Hands more self.new) }
+        ensures hands { IfOk result (λ more. IsPiece more self.new) }
         ensures none { OnErr result (piece_of self.new ≡ []) }
         ensures over { IsOver self.old → piece_of self.new ≡ [] }
         ensures stays { has_stopped self.old ≡ true → has_failed self.new ≡ has_failed self.old }

@@ -13,9 +13,9 @@ abbrev pub refusals : ℕ → List ℕ → ℕ
 refusals n bytes = if (n == 0) && nat_lt 0 (length bytes) then 1 else 0
 
 -- 1 where a write failed: by an error, or by taking none of some bytes
-abbrev pub failures_of : {E : Type 0} → Result ℕ E → List ℕ → ℕ
-failures_of (Ok n) bytes = refusals n bytes
-failures_of (Err e) bytes = 1
+abbrev pub write_failures : {E : Type 0} → Result ℕ E → List ℕ → ℕ
+write_failures (Ok n) bytes = refusals n bytes
+write_failures (Err e) bytes = 1
 
 -- what was taken since is a beginning of the text
 pub record IsBeginning (old new text : List ℕ) : Type 0 where

@@ -1,7 +1,7 @@
 // What takes bytes.
 ghost use Rattle.std.specs.Prelude.{◌≡◌, ◌+◌, ◌++◌, ◌≤◌, ℕ, List, Option, length, IfOk, OnOk, OnErr, ◌<◌};
 ghost use Rattle.std.specs.Io.KnownBytes.{Appends};
-ghost use Rattle.ssb_rows.specs.Taking.{taken_of, failures_of, GrewAlike, IsBeginning};
+ghost use Rattle.ssb_rows.specs.Taking.{taken_of, write_failures, GrewAlike, IsBeginning};
 
 /// A write failed.
 #[derive(Clone, Copy, PartialEq, Eq, Debug)]
@@ -22,7 +22,7 @@ pub trait Sink {
     fn write(&mut self, bytes: &[u8]) -> Result<usize, SinkFault>
         ensures bound { IfOk result (λ count. count ≤ length bytes.now) }
         ensures taken { taken self.new ≡ taken self.old ++ taken_of result bytes.now }
-        ensures failures { failures self.new ≡ failures self.old + failures_of result bytes.now }
+        ensures failures { failures self.new ≡ failures self.old + write_failures result bytes.now }
         ensures contents { Appends (contents self.old) (contents self.new) (taken_of result bytes.now) };
 }
 

@@ -3,10 +3,10 @@ use Rattle.std.proofs.Common.{◌≡◌, ℕ, zero, suc, ◌<◌, ◌≤◌, Lis
 use Rattle.std.proofs.lemmas.List.{append-nil}
 use Rattle.ssb_sql.specs.declared.token.Sign.{Sign}
 use Rattle.ssb_sql.specs.declared.token.Token.{Token}
-use Rattle.ssb_sql.specs.declared.steps.Stop.{Stop}
-use Rattle.ssb_sql.specs.declared.steps.Stop.TheVariants as stop
-use Rattle.ssb_sql.specs.Reading.{◌>>=◌}
-use Rattle.ssb_sql.specs.Steps.{Fails, Parser, after, turn_at, chain_at, with_front, more_at, chained_at, Shrinks}
+use Rattle.ssb_sql.specs.declared.stop.Stop.{Stop}
+use Rattle.ssb_sql.specs.declared.stop.Stop.TheVariants as stop
+use Rattle.ssb_sql.specs.Reading.{Fails, ◌>>=◌}
+use Rattle.ssb_sql.specs.Steps.{Parser, after, turn_at, chain_at, with_front, more_at, chained_at, Shrinks}
 
 -- one thing in front
 abbrev put : {A : Type 0} → A → Option (List A × List Token) → Option (List A × List Token)

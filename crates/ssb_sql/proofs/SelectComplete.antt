@@ -1,5 +1,6 @@
 -- Each query of the grammar is read, and tokens spell one query at most.
 use Rattle.std.proofs.Common.{◌≡◌, ℕ, zero, suc, true, false, List, [], ◌∷◌, length, Option, Some, None, refl, sym, ◌∙◌, arith}
+use Rattle.std.specs.Prelude.{Err}
 use Rattle.ssb_sql.specs.declared.token.Token.{Token}
 use Rattle.ssb_sql.specs.declared.token.Token.TheVariants.{Fixed, Name}
 use Rattle.ssb_sql.specs.declared.token.Sign.{Sign}
@@ -17,8 +18,12 @@ use Rattle.ssb_sql.specs.declared.select.Item.{Item}
 use Rattle.ssb_sql.specs.declared.select.Key.{Key}
 use Rattle.ssb_sql.specs.declared.select.Order.{Order}
 use Rattle.ssb_sql.specs.declared.select.Select.{Select}
+use Rattle.ssb_sql.specs.declared.stop.Stop.{Stop}
+use Rattle.ssb_sql.specs.declared.stop.Stop.TheVariants as stop
+use Rattle.ssb_sql.specs.Exact.{Reads}
 use Rattle.ssb_sql.specs.Forms.{Spelling, IsList, IsNamed, IsColumn}
 use Rattle.ssb_sql.specs.Grammar.{function_word, IsAggregate, IsOutput, IsItem, IsFilter, IsHaving, IsGroups, IsKey, IsOrder, IsOrders, IsEnd, Parses}
+use Rattle.ssb_sql.specs.Reading.{Fails, told}
 use Rattle.ssb_sql.specs.Room.{HasRoom}
 use Rattle.ssb_sql.specs.Grammar.IsAggregate.{rows, of}
 use Rattle.ssb_sql.specs.Grammar.IsOutput.{column, aggregate}
@@ -299,3 +304,8 @@ one_meaning ts x y a b =
 
 pub spells_none : (ts : List Token) → HasRoom 64 ts → query_at 64 ts ≡ None → (y : Select) → Parses ts y → ⊥
 spells_none ts h e y is = let f = whole_read is 64 h in absurd cc
+
+-- where the reader of a query stops, the tokens spell none, or memory ran out
+pub reads_none : (ts : List Token) (e : Stop) → HasRoom 64 ts → Fails e (query_at 64 ts) → Reads ts (Err (told e))
+reads_none ts stop.Memory h e = tt
+reads_none ts stop.Syntax h e = (h, spells_none ts h e)

@@ -4,9 +4,12 @@ use Rattle.std.specs.Prelude.{Result, Ok, Err}
 use Rattle.ssb_sql.specs.declared.fault.SqlFault.{SqlFault}
 use Rattle.ssb_sql.specs.declared.fault.SqlFault.TheVariants as fault
 use Rattle.ssb_sql.specs.declared.select.Select.{Select}
+use Rattle.ssb_sql.specs.declared.stop.Stop.{Stop}
+use Rattle.ssb_sql.specs.declared.stop.Stop.TheVariants as stop
 use Rattle.ssb_sql.specs.declared.token.Token.{Token}
 use Rattle.ssb_sql.specs.Exact.{Reads}
 use Rattle.ssb_sql.specs.Grammar.{Parses}
+use Rattle.ssb_sql.specs.Reading.{told}
 use Rattle.ssb_sql.specs.Room.{HasRoom}
 use Rattle.ssb_sql.specs.Lexes.{HasNoTokens}
 use Rattle.ssb_sql.specs.Spells.{IsShallow, ReadsText, Spells}
@@ -29,11 +32,9 @@ read-tokens text ts (Err fault.Memory) short is h = tt
 read-tokens text ts (Err fault.TooLong) short is h = absurd h
 
 -- a text that is no list of tokens
-pub read-none : (text : List ℕ) (e : SqlFault) → length text ≤ 65536 → HasNoTokens e text → ReadsText text (Err e)
-read-none text fault.Syntax short none = record { short = short; shallow = λ ts is. absurd (none ts is); none = λ x s. none s.tokens s.is_text }
-read-none text fault.Memory short none = tt
-read-none text fault.TooDeep short none = absurd none
-read-none text fault.TooLong short none = absurd none
+pub read-none : (text : List ℕ) (e : Stop) → length text ≤ 65536 → HasNoTokens e text → ReadsText text (Err (told e))
+read-none text stop.Syntax short none = record { short = short; shallow = λ ts is. absurd (none ts is); none = λ x s. none s.tokens s.is_text }
+read-none text stop.Memory short none = tt
 
 -- a text spells at most one query, since its tokens do
 pub one-select : ((ts : List Token) (x y : Select) → Parses ts x → Parses ts y → x ≡ y) → (text : List ℕ) (x y : Select) → Spells text x → Spells text y → x ≡ y

@@ -5,15 +5,15 @@ use Rattle.std.specs.Str.{IsUtf8, str_to_ascii_lowercase}
 use Rattle.std.proofs.lemmas.Bool.{and_parts, eqb-true}
 use Rattle.std.proofs.lemmas.List.{append-nil, nil_from_length}
 use Rattle.ssb_terms.specs.Names.{is_reserved, is_word}
-use Rattle.ssb_sql.specs.declared.fault.SqlFault.{SqlFault}
-use Rattle.ssb_sql.specs.declared.fault.SqlFault.TheVariants as fault
+use Rattle.ssb_sql.specs.declared.stop.Stop.{Stop}
+use Rattle.ssb_sql.specs.declared.stop.Stop.TheVariants as stop
 use Rattle.ssb_sql.specs.declared.token.Sign.TheVariants as s
 use Rattle.ssb_sql.specs.declared.token.Token.{Token}
 use Rattle.ssb_sql.specs.declared.token.Token.TheVariants.{Fixed, Name, Number, Text}
 use Rattle.ssb_sql.specs.Tokens.{IsTokens, begins, doubled, goes_on, is_blank, is_dash, value_of}
 use Rattle.ssb_sql.specs.Tokens.IsTokens.{end_of_text, blank, comment, reserved, name, number, text, mark}
-use Rattle.ssb_sql.specs.Reading.{◌>>=◌}
-use Rattle.ssb_sql.specs.Scanning.{CutsAtQuotes, Fails, lex, lex_turn, skip, token_at}
+use Rattle.ssb_sql.specs.Reading.{Fails, ◌>>=◌}
+use Rattle.ssb_sql.specs.Scanning.{CutsAtQuotes, lex, lex_turn, skip, token_at}
 use Rattle.ssb_sql.specs.Lexes.{HasNoTokens}
 use Rattle.ssb_sql.proofs.TextUtf8.{cuts}
 use Rattle.ssb_sql.proofs.TokenComplete.{lexes, mark_spelled, mark_stays, number_stays, skip_blank, skip_comment, skip_stays, word_stays}
@@ -156,12 +156,10 @@ none_at b bs us s e h =
     let no : None ≡ some_of g.0 = sym e ∙ g.1 in
     absurd cc
 
-pub split_fails : (e : SqlFault) (bytes rest : List ℕ) (tokens : List Token) → (rest ≡ [] → ⊥) → Fails e (token_at rest) → Split bytes rest tokens → HasNoTokens e bytes
-split_fails fault.Memory bytes rest tokens n e h = tt
-split_fails fault.TooDeep bytes rest tokens n e h = e
-split_fails fault.TooLong bytes rest tokens n e h = e
-split_fails fault.Syntax bytes [] tokens n e h = absurd (n refl)
-split_fails fault.Syntax bytes (b ∷ bs) tokens n e h = λ ts is. let c = h.complete ts is in none_at b bs c.0 h.still e c.2
+pub split_fails : (e : Stop) (bytes rest : List ℕ) (tokens : List Token) → (rest ≡ [] → ⊥) → Fails e (token_at rest) → Split bytes rest tokens → HasNoTokens e bytes
+split_fails stop.Memory bytes rest tokens n e h = tt
+split_fails stop.Syntax bytes [] tokens n e h = absurd (n refl)
+split_fails stop.Syntax bytes (b ∷ bs) tokens n e h = λ ts is. let c = h.complete ts is in none_at b bs c.0 h.still e c.2
 
 pub split_ends : (bytes rest : List ℕ) (tokens : List Token) → rest ≡ [] → Split bytes rest tokens → IsTokens bytes tokens
 split_ends bytes rest tokens e h = subst (IsTokens bytes) (append-nil tokens) (h.sound [] (subst (λ l. IsTokens l []) (sym e) end_of_text))

@@ -1,6 +1,6 @@
 -- Reading tokens from left to right, as the code does.
 -- For the contracts inside this crate.
-use Rattle.std.specs.Prelude.{◌≡◌, ℕ, zero, suc, Bool, true, false, ◌&&◌, ◌==◌, if◌then◌else◌, nat_le, List, [], ◌∷◌, ◌++◌, Option, Some, None, Result, Ok, Err}
+use Rattle.std.specs.Prelude.{◌≡◌, ℕ, zero, suc, Bool, true, false, ◌&&◌, ◌==◌, if◌then◌else◌, nat_le, List, [], ◌∷◌, ◌++◌, Option, Some, None}
 use Rattle.std.specs.Char.{is_ascii_digit}
 use Rattle.std.specs.Str.{IsUtf8, str_to_ascii_lowercase}
 use Rattle.ssb_terms.specs.Keywords.{keyword_of}
@@ -8,8 +8,6 @@ use Rattle.ssb_terms.specs.Names.{is_word_byte}
 use Rattle.ssb_sql.specs.Reading.{◌>>=◌}
 use Rattle.ssb_sql.specs.declared.class.Class.{Class}
 use Rattle.ssb_sql.specs.declared.class.Class.TheVariants as k
-use Rattle.ssb_sql.specs.declared.fault.SqlFault.{SqlFault}
-use Rattle.ssb_sql.specs.declared.fault.SqlFault.TheVariants as fault
 use Rattle.ssb_terms.specs.declared.keyword.Keyword.{Keyword}
 use Rattle.ssb_sql.specs.declared.token.Mark.{Mark}
 use Rattle.ssb_sql.specs.declared.token.Mark.TheVariants as marks
@@ -122,17 +120,6 @@ lex zero bs = None
 lex (suc n) bs = lex_turn (lex n) (skip false bs)
 
 -- ---- what functions return
-
--- reading fails with a fault; where memory ran out, nothing is said
-abbrev pub Fails : {Y : Type 0} → SqlFault → Option Y → Type 0
-Fails fault.Syntax read = read ≡ None
-Fails fault.Memory read = Unit {0}
-Fails _ read = ⊥
-
--- what was returned is what reading gives
-abbrev pub Gives : {X Y : Type 0} → (X → Y) → Result X SqlFault → Option Y → Type 0
-Gives view (Ok x) read = read ≡ Some (view x)
-Gives view (Err e) read = Fails e read
 
 abbrev pub first : List ℕ → Option (ℕ × List ℕ)
 first [] = None

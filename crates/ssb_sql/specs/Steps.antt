@@ -1,17 +1,16 @@
 -- Reading from left to right: what every reader is made of.
 -- For the contracts inside this crate.
-use Rattle.std.specs.Prelude.{◌≡◌, ℕ, zero, suc, Bool, true, false, if◌then◌else◌, List, [], ◌∷◌, ◌++◌, length, ◌<◌, Option, Some, None, Result, Ok, Err, nat_lt}
+use Rattle.std.specs.Prelude.{◌≡◌, ℕ, zero, suc, Bool, true, false, if◌then◌else◌, List, [], ◌∷◌, ◌++◌, length, ◌<◌, Option, Some, None, Result, nat_lt}
 use Rattle.std.specs.Borrow.{Bor}
 use Rattle.ssb_sql.specs.Forms.{chain_of}
-use Rattle.ssb_sql.specs.Reading.{◌>>=◌, seen}
+use Rattle.ssb_sql.specs.Reading.{Gives, ◌>>=◌, seen}
 use Rattle.ssb_sql.specs.declared.token.Token.{Token}
 use Rattle.ssb_sql.specs.declared.token.Token.TheVariants.{Fixed, Name, Number, Text}
 use Rattle.ssb_sql.specs.declared.token.Sign.{Sign}
 use Rattle.ssb_sql.specs.declared.token.Mark.TheVariants as marks
 use Rattle.ssb_sql.specs.declared.token.Sign.TheVariants as s
 use Rattle.ssb_sql.specs.contracts.token.SignPartialEq.TheImpl as signs
-use Rattle.ssb_sql.specs.declared.steps.Stop.{Stop}
-use Rattle.ssb_sql.specs.declared.steps.Stop.TheVariants as stop
+use Rattle.ssb_sql.specs.declared.stop.Stop.{Stop}
 
 -- what was read, and what follows it
 abbrev pub Parser : Type 0 → Type 0
@@ -21,15 +20,6 @@ Parser A = List Token → Option (A × List Token)
 abbrev pub choose : {A B : Type 0} → Option A → (A → B) → B → B
 choose None f g = g
 choose (Some x) f g = f x
-
--- what a function returned is what reading gives, unless memory ran out
-abbrev pub Fails : {Y : Type 0} → Stop → Option Y → Type 0
-Fails stop.Memory read = Unit {0}
-Fails stop.Syntax read = read ≡ None
-
-abbrev pub Gives : {X Y : Type 0} → (X → Y) → Result X Stop → Option Y → Type 0
-Gives view (Ok x) read = read ≡ Some (view x)
-Gives view (Err e) read = Fails e read
 
 -- whether two signs are one
 abbrev pub is_same : Sign → Sign → Bool

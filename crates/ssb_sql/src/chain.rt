@@ -1,8 +1,8 @@
 // Reading chains: lists with commas, conditions with AND and OR, products.
 
 ghost use Rattle.std.specs.Prelude.{◌≡◌, List, [], ◌∷◌};
-ghost use Rattle.ssb_sql.specs.Reading.{seen};
-ghost use Rattle.ssb_sql.specs.Steps.{Gives, Makes, Parser, Reads, Shrinks, after, chained_at, made_at};
+ghost use Rattle.ssb_sql.specs.Reading.{Gives, seen};
+ghost use Rattle.ssb_sql.specs.Steps.{Makes, Parser, Reads, Shrinks, after, chained_at, made_at};
 
 use crate::steps::{Parsed, after};
 use crate::token::{Mark, Sign, Token};

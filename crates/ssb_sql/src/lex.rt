@@ -4,13 +4,13 @@ ghost use Rattle.std.specs.Prelude.{◌≡◌, true};
 ghost use Rattle.std.specs.Char.{is_ascii_alphabetic};
 ghost use Rattle.std.specs.Str.{IsUtf8};
 ghost use Rattle.ssb_sql.specs.Tokens.{begins};
-ghost use Rattle.ssb_sql.specs.Reading.{seen};
-ghost use Rattle.ssb_sql.specs.Scanning.{CutsAtQuotes, Gives, greater_at, less_at, mark_at, number_at, text_token_at, token_at, word_at};
+ghost use Rattle.ssb_sql.specs.Reading.{Gives, seen};
+ghost use Rattle.ssb_sql.specs.Scanning.{CutsAtQuotes, greater_at, less_at, mark_at, number_at, text_token_at, token_at, word_at};
 ghost use Rattle.ssb_sql.specs.Lexes.{Lexes, OneListOfTokens};
 
 use crate::class::{Class, class_of};
-use crate::fault::SqlFault;
 use crate::scan::{TOO_LARGE, begins_with_word_byte, next, number, skip, text, word};
+use crate::stop::Stop;
 use crate::token::{Mark, Sign, Token};
 use sqlite_items::Items;
 use ssb_terms::{Name, Text, keyword_of};
@@ -18,7 +18,7 @@ use std::alloc::Global;
 
 // The word in front: a reserved word or a name.
 #[tactic(auto, unfolding(crate::specs::Scanning::word_at))]
-fn word_token(alloc: Global, bytes: &[u8]) -> Result<(Token, &[u8]), SqlFault>
+fn word_token(alloc: Global, bytes: &[u8]) -> Result<(Token, &[u8]), Stop>
     requires { begins is_ascii_alphabetic bytes.now ≡ true }
     ensures { Gives seen result (word_at bytes.now) }
 {
@@ -32,22 +32,22 @@ fn word_token(alloc: Global, bytes: &[u8]) -> Result<(Token, &[u8]), SqlFault>
 
 // The number in front.
 #[tactic(auto, using(crate::proofs::TokenFront::number_fits, crate::proofs::TokenFront::number_large, crate::proofs::TokenFront::number_in_word))]
-fn number_token(bytes: &[u8]) -> Result<(Token, &[u8]), SqlFault>
+fn number_token(bytes: &[u8]) -> Result<(Token, &[u8]), Stop>
     ensures { Gives seen result (number_at bytes.now) }
 {
     let (value, rest) = number(bytes);
     if begins_with_word_byte(rest) {
-        return Err(SqlFault::Syntax);
+        return Err(Stop::Syntax);
     }
     if value >= TOO_LARGE {
-        return Err(SqlFault::Syntax);
+        return Err(Stop::Syntax);
     }
     Ok((Token::Number(value as u64), rest))
 }
 
 // The text whose first quote came just before.
 #[tactic(auto, unfolding(crate::specs::Scanning::text_token_at))]
-fn text_token(alloc: Global, bytes: &[u8]) -> Result<(Token, &[u8]), SqlFault>
+fn text_token(alloc: Global, bytes: &[u8]) -> Result<(Token, &[u8]), Stop>
     requires { IsUtf8 bytes.now }
     ensures { Gives seen result (text_token_at bytes.now) }
 {
@@ -93,24 +93,24 @@ fn mark(mark: Mark, bytes: &[u8]) -> (Token, &[u8])
 }
 
 // The token in front.
-fn token(alloc: Global, bytes: &[u8]) -> Result<(Token, &[u8]), SqlFault>
+fn token(alloc: Global, bytes: &[u8]) -> Result<(Token, &[u8]), Stop>
     requires { CutsAtQuotes bytes.now }
     ensures { Gives seen result (token_at bytes.now) }
 {
     let Some((byte, rest)) = next(bytes) else {
-        return Err(SqlFault::Syntax);
+        return Err(Stop::Syntax);
     };
     match class_of(byte) {
         Class::Letter => word_token(alloc, bytes),
         Class::Digit => number_token(bytes),
         Class::Quote => text_token(alloc, rest),
         Class::Mark(first) => Ok(mark(first, rest)),
-        Class::Other => Err(SqlFault::Syntax),
+        Class::Other => Err(Stop::Syntax),
     }
 }
 
 /// The tokens that a text is made of, or `Syntax` where it is no list of tokens.
-pub(crate) fn lex(alloc: Global, text: &str) -> Result<Items<Token>, SqlFault>
+pub(crate) fn lex(alloc: Global, text: &str) -> Result<Items<Token>, Stop>
     ensures { Lexes text.now result }
 {
     let mut tokens = Items::new(alloc);

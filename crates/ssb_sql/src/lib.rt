@@ -20,6 +20,7 @@ mod read_text;
 mod scan;
 pub mod select;
 mod steps;
+mod stop;
 pub mod token;
 
 pub use fault::SqlFault;

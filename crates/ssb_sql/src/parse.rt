@@ -10,7 +10,7 @@ ghost use Rattle.ssb_sql.specs.Room.{HasRoom, room_after};
 use crate::fault::SqlFault;
 use crate::read_select::query;
 use crate::select::Select;
-use crate::steps::{Stop, is_fixed};
+use crate::steps::is_fixed;
 use crate::token::{Mark, Sign, Token};
 use std::alloc::Global;
 
@@ -52,11 +52,7 @@ pub(crate) fn parse(alloc: Global, tokens: &[Token]) -> Result<Select, SqlFault>
     if !is_within(tokens, MAX_OPEN) {
         return Err(SqlFault::TooDeep);
     }
-    match query(alloc, MAX_OPEN, tokens) {
-        Ok(found) => Ok(found),
-        Err(Stop::Syntax) => Err(SqlFault::Syntax),
-        Err(Stop::Memory) => Err(SqlFault::Memory),
-    }
+    Ok(query(alloc, MAX_OPEN, tokens)?)
 }
 
 /// Tokens spell at most one query.

@@ -1,8 +1,8 @@
 // Reading whole queries.
 
 ghost use Rattle.std.specs.Prelude.{◌≡◌, [], ◌∷◌, ◌+◌, ◌<◌, ◌^◌};
-ghost use Rattle.ssb_sql.specs.Reading.{seen};
-ghost use Rattle.ssb_sql.specs.Steps.{Gives, Parser, Reads, Shrinks, after, more_at, list_at, name_at};
+ghost use Rattle.ssb_sql.specs.Reading.{Gives, seen};
+ghost use Rattle.ssb_sql.specs.Steps.{Parser, Reads, Shrinks, after, more_at, list_at, name_at};
 ghost use Rattle.ssb_sql.specs.ReadParts.{column_at};
 ghost use Rattle.ssb_sql.specs.ReadSelects.{item_at, output_at, filter_at, by_at, order_at, is_nil, ends, ordered_at, kept_at, grouped_at, filtered_at, joined_at, query_at};
 ghost use Rattle.ssb_sql.specs.declared.token.Mark.TheVariants as marks;
@@ -14,7 +14,8 @@ use crate::read_condition::condition;
 use crate::read_item::{items, order};
 use crate::read_parts::{Subject, column};
 use crate::select::{Order, Output, Select};
-use crate::steps::{Parsed, Stop, after, expect, name};
+use crate::steps::{Parsed, after, expect, name};
+use crate::stop::Stop;
 use crate::token::{Mark, Sign, Token};
 use sqlite_items::Items;
 use ssb_terms::{Keyword, Name};

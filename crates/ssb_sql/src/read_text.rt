@@ -24,10 +24,7 @@ pub fn read(alloc: Global, text: &str) -> Result<Select, SqlFault>
     if text.len() > MAX_BYTES {
         return Err(SqlFault::TooLong);
     }
-    let tokens = match lex(alloc, text) {
-        Ok(tokens) => tokens,
-        Err(fault) => return Err(fault),
-    };
+    let tokens = lex(alloc, text)?;
     parse(alloc, tokens.as_slice())
 }
 

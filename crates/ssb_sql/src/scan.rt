@@ -4,10 +4,10 @@ ghost use Rattle.std.specs.Prelude.{◌≡◌, ◌^◌, false, min, Some, [], �
 ghost use Rattle.std.specs.Char.{is_ascii_digit};
 ghost use Rattle.ssb_terms.specs.Names.{is_word_byte};
 ghost use Rattle.ssb_sql.specs.Tokens.{begins, is_blank, is_dash, value_of};
-ghost use Rattle.ssb_sql.specs.Reading.{seen, seen_if};
-ghost use Rattle.ssb_sql.specs.Scanning.{Gives, closing_at, first, first_if, past, piece_at, run, skip, skip_step, text_at};
+ghost use Rattle.ssb_sql.specs.Reading.{Gives, seen, seen_if};
+ghost use Rattle.ssb_sql.specs.Scanning.{closing_at, first, first_if, past, piece_at, run, skip, skip_step, text_at};
 
-use crate::fault::SqlFault;
+use crate::stop::Stop;
 use ssb_terms::is_word_byte;
 use std::alloc::{AllocError, Global};
 
@@ -162,7 +162,7 @@ fn push(bytes: &mut Vec<u8>, byte: u8) -> Result<(), AllocError>
 }
 
 /// The text whose first quote came just before, and what follows it.
-pub(crate) fn text(alloc: Global, bytes: &[u8]) -> Result<(Vec<u8>, &[u8]), SqlFault>
+pub(crate) fn text(alloc: Global, bytes: &[u8]) -> Result<(Vec<u8>, &[u8]), Stop>
     ensures { Gives (λ x. (x.0.items, x.1.now)) result (text_at false bytes.now) }
 {
     let mut text = Vec::new(alloc);
@@ -174,5 +174,5 @@ pub(crate) fn text(alloc: Global, bytes: &[u8]) -> Result<(Vec<u8>, &[u8]), SqlF
         push(&mut text, byte)?;
         rest = after;
     }
-    Err(SqlFault::Syntax)
+    Err(Stop::Syntax)
 }

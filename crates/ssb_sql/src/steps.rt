@@ -2,31 +2,15 @@
 
 ghost use Rattle.std.specs.Prelude.{◌≡◌};
 ghost use Rattle.std.specs.Option.{option_copied};
-ghost use Rattle.ssb_sql.specs.Reading.{seen};
-ghost use Rattle.ssb_sql.specs.Steps.{Gives, followed_at, is_fixed, after, name_at, number_at, is_literal_next};
+ghost use Rattle.ssb_sql.specs.Reading.{Gives, seen};
+ghost use Rattle.ssb_sql.specs.Steps.{followed_at, is_fixed, after, name_at, number_at, is_literal_next};
 ghost use Rattle.ssb_sql.specs.declared.token.Mark.TheVariants as marks;
 ghost use Rattle.ssb_sql.specs.declared.token.Sign.TheVariants as s;
 
+use crate::stop::Stop;
 use crate::token::{Mark, Sign, Token};
 use ssb_terms::Name;
-use std::alloc::{AllocError, Global};
-
-/// Why nothing was read.
-#[derive(Clone, Copy)]
-pub(crate) enum Stop {
-    Memory,
-    Syntax,
-}
-
-impl From<AllocError> for Stop {
-    ghost use Rattle.ssb_sql.specs.declared.steps.Stop.TheVariants.{Memory};
-
-    ghost from_gives = { λ _ e. e ≡ Memory };
-
-    fn from(_error: AllocError) -> Stop {
-        Stop::Memory
-    }
-}
+use std::alloc::Global;
 
 /// What was read, and the tokens behind it.
 pub(crate) type Parsed<'a, T> = Result<(T, &'a [Token]), Stop>;

@@ -2,7 +2,7 @@ use Rattle.std.proofs.Common.{◌++◌, ◌∙◌, ◌+◌, List, Bool, refl, sy
 use Rattle.std.proofs.lemmas.Result.{err_from_is_err_and}
 use Rattle.ssb_records.specs.Giving.{given_since}
 use Rattle.ssb_records.specs.Intake.{AreGood}
-use Rattle.ssb_records.specs.Pieces.{handed, piece_of, Hands}
+use Rattle.ssb_records.specs.Pieces.{handed, piece_of, IsPiece}
 use Rattle.ssb_records.specs.Records.{Fields, records_of}
 use Rattle.ssb_records.proofs.Blocks.{no-records}
 use Rattle.ssb_records.proofs.LineRecords.{records-lead}
@@ -26,7 +26,7 @@ returns-in-Ok-false-clause-stops g c =
     let q = c.fill.new.self in
     let told = told-of g.S.Source.given g.S.Source.failures g.S.Source.ends q c.fill.new.source c.args.source.now c.fill.ensures.follows (c.fill.ensures.begun ∙ inv.begun) in
     let failed = sym c.has_failed.ensures ∙ c.if-has_failed.true in
-    let hands = let P : Bool → Type 0 = λ b. Hands b q in subst P c.in-Ok-false.field-0-test c.in-Ok-false.ensures.hands in
+    let hands = let P : Bool → Type 0 = λ b. IsPiece b q in subst P c.in-Ok-false.field-0-test c.in-Ok-false.ensures.hands in
     let good = let P : g.T.Intake.Subject → Type 0 = λ s. AreGood (g.T.Intake.judge s) (records_of (handed p)) in subst P inv.same (g.met.T.Intake.good c.loop.intake (records_of (handed p)) inv.held) in
     let number = ap (λ n. n + 1) (c.accepted.ensures.count _ inv.held) in
     record {
@@ -43,7 +43,7 @@ returns-in_err-take_text-clause-stops g c =
     let p = c.loop.pieces in
     let q = c.fill.new.self in
     let told = told-of g.S.Source.given g.S.Source.failures g.S.Source.ends q c.fill.new.source c.args.source.now c.fill.ensures.follows (c.fill.ensures.begun ∙ inv.begun) in
-    let hands = let P : Bool → Type 0 = λ b. Hands b q in subst P c.in-Ok-true.field-0-test c.in-Ok-true.ensures.hands in
+    let hands = let P : Bool → Type 0 = λ b. IsPiece b q in subst P c.in-Ok-true.field-0-test c.in-Ok-true.ensures.hands in
     let refused = λ (rest : List Fields). rw (inv.same, c.piece.ensures) at (c.in_err-take_text.ensures.refused (records_of (handed p)) rest inv.held) in
     let out = err_from_is_err_and c.from_residual.result c.from_residual.ensures.1 in
     rw (out.1, out.2) (record {
@@ -60,7 +60,7 @@ loop-preserved g c =
     let inv = c.loop.invariant in
     let p = c.loop.pieces in
     let q = c.fill.new.self in
-    let hands = let P : Bool → Type 0 = λ b. Hands b q in subst P c.in-Ok-true.field-0-test c.in-Ok-true.ensures.hands in
+    let hands = let P : Bool → Type 0 = λ b. IsPiece b q in subst P c.in-Ok-true.field-0-test c.in-Ok-true.ensures.hands in
     let taken = rw c.piece.ensures at (c.in_ok-take_text.ensures.taken (records_of (handed p)) inv.held) in
     record {
       follows = c.fill.ensures.follows;

@@ -1,7 +1,7 @@
 use Rattle.std.proofs.Common.{◌∙◌, Bool, subst, sym}
 use Rattle.std.proofs.lemmas.Result.{err_from_is_err_and}
 use Rattle.ssb_load.specs.Part.{IsPart}
-use Rattle.ssb_records.specs.Pieces.{Hands, IsOver, handed, piece_of}
+use Rattle.ssb_records.specs.Pieces.{IsPiece, IsOver, handed, piece_of}
 use Rattle.ssb_records.proofs.TakingAll.{told-of}
 use Rattle.ssb_load.proofs.PartReading.{all-taken, broken-off, ends-since, fails-since, grows-since, halts-given, no-tail, read-never, tail-next}
 use Rattle.ssb_load.proofs.part.Part.read.Goals as goal
@@ -23,7 +23,7 @@ pub loop-preserved : goal.loop-preserved
 loop-preserved g c =
     let inv = c.loop.invariant in
     let q = c.fill.new.self in
-    let hands = let P : Bool → Type 0 = λ b. Hands b q in subst P c.in-Ok-true.field-0-test c.in-Ok-true.ensures.hands in
+    let hands = let P : Bool → Type 0 = λ b. IsPiece b q in subst P c.in-Ok-true.field-0-test c.in-Ok-true.ensures.hands in
     record {
       follows = c.fill.ensures.follows;
       whole = c.fill.ensures.whole ∙ inv.whole;
@@ -38,7 +38,7 @@ returns-in-Ok-false-clause-halts g c =
     let q = c.fill.new.self in
     broken-off c.loop.self c.loop.pieces q _ _
     (sym c.has_failed.ensures ∙ c.if-has_failed.true)
-    (let P : Bool → Type 0 = λ b. Hands b q in subst P c.in-Ok-false.field-0-test c.in-Ok-false.ensures.hands)
+    (let P : Bool → Type 0 = λ b. IsPiece b q in subst P c.in-Ok-false.field-0-test c.in-Ok-false.ensures.hands)
     c.fill.ensures.handed
     (told-of g.S.Source.given g.S.Source.failures g.S.Source.ends q c.fill.new.source c.args.source.now c.fill.ensures.follows (c.fill.ensures.begun ∙ c.loop.invariant.begun))
     c.fill.ensures.stays c.loop.invariant.tail c.loop.invariant.part
@@ -47,7 +47,7 @@ pub returns-in-Ok-false-2-clause-taken : goal.returns-in-Ok-false-2-clause-taken
 returns-in-Ok-false-2-clause-taken g c =
     let q = c.fill.new.self in
     let going = sym c.has_failed.ensures ∙ c.if-has_failed.false in
-    let hands = let P : Bool → Type 0 = λ b. Hands b q in subst P c.in-Ok-false.field-0-test c.in-Ok-false.ensures.hands in
+    let hands = let P : Bool → Type 0 = λ b. IsPiece b q in subst P c.in-Ok-false.field-0-test c.in-Ok-false.ensures.hands in
     let told = told-of g.S.Source.given g.S.Source.failures g.S.Source.ends q c.fill.new.source c.args.source.now c.fill.ensures.follows (c.fill.ensures.begun ∙ c.loop.invariant.begun) in
     all-taken c.loop.self c.loop.pieces q _ _ going hands c.fill.ensures.handed told c.loop.invariant.part
 
@@ -70,7 +70,7 @@ pub returns-in-Ok-false-2-clause-ended : goal.returns-in-Ok-false-2-clause-ended
 returns-in-Ok-false-2-clause-ended g c =
     let q = c.fill.new.self in
     let going = sym c.has_failed.ensures ∙ c.if-has_failed.false in
-    let hands = let P : Bool → Type 0 = λ b. Hands b q in subst P c.in-Ok-false.field-0-test c.in-Ok-false.ensures.hands in
+    let hands = let P : Bool → Type 0 = λ b. IsPiece b q in subst P c.in-Ok-false.field-0-test c.in-Ok-false.ensures.hands in
     ends-since g.S.Source.given g.S.Source.failures g.S.Source.ends q c.fill.new.source c.args.source.now c.fill.ensures.follows (c.fill.ensures.begun ∙ c.loop.invariant.begun) going hands
 
 pub returns-in-Ok-false-clause-broken : goal.returns-in-Ok-false-clause-broken
@@ -80,5 +80,5 @@ returns-in-Ok-false-clause-broken g c =
 pub take_piece-requires : goal.take_piece-requires
 take_piece-requires g c =
     let q = c.fill.new.self in
-    let hands = let P : Bool → Type 0 = λ b. Hands b q in subst P c.in-Ok-true.field-0-test c.in-Ok-true.ensures.hands in
+    let hands = let P : Bool → Type 0 = λ b. IsPiece b q in subst P c.in-Ok-true.field-0-test c.in-Ok-true.ensures.hands in
     (handed c.loop.pieces, no-tail c.loop.self (IsOver c.loop.pieces) (piece_of q) hands.0 c.fill.ensures.over c.loop.invariant.tail, c.loop.invariant.part)

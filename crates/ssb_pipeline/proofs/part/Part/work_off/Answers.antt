@@ -1,5 +1,5 @@
 use Rattle.std.proofs.Common.{◌∙◌, sym, ap, subst}
-use Rattle.ssb_pipeline.specs.Part.{Grows, IsLawful, PartState}
+use Rattle.ssb_pipeline.specs.Part.{Grows, IsLawfulPart, PartState}
 use Rattle.ssb_pipeline.proofs.Later.{grows-more, hand-follows}
 use Rattle.ssb_pipeline.proofs.WorkFacts.{all-back, fewer-left, is-fresh, is-out, nothing-yet, one-more}
 use Rattle.ssb_pipeline.proofs.part.Part.work_off.Goals as goal
@@ -25,7 +25,7 @@ returns-in_err-bring_back-clause-grows c =
     subst (Grows c.args.self.now) (sym c.in_err-bring_back.ensures.err) (grows-more c.args.self.now c.loop-ticket.self c.hand_out.new.self c.loop-ticket.invariant.grows later (ap (λ (p : PartState). p.gave_up) h.after))
 
 pub returns-in_err-bring_back-clause-lawful : goal.returns-in_err-bring_back-clause-lawful
-returns-in_err-bring_back-clause-lawful c = subst IsLawful (sym c.in_err-bring_back.ensures.err) c.lawful-in-Some.ensures
+returns-in_err-bring_back-clause-lawful c = subst IsLawfulPart (sym c.in_err-bring_back.ensures.err) c.lawful-in-Some.ensures
 
 pub loop-ticket-smaller : goal.loop-ticket-smaller
 loop-ticket-smaller c = fewer-left c.in-Some.ticket.morsel c.loop-ticket.self c.hand_out.new.self c.bring_back.new.self c.in-Some.ensures.0 c.lawful-in-Some.ensures c.in_ok-bring_back.ensures.back
@@ -40,4 +40,4 @@ pub returns-clause-whole : goal.returns-clause-whole
 returns-clause-whole c = λ back going. all-back c.args.self.now c.loop-ticket.self c.hand_out.new.self c.loop-ticket.invariant c.in_default.ensures back going
 
 pub returns-clause-lawful : goal.returns-clause-lawful
-returns-clause-lawful c = subst IsLawful (sym c.in_default.ensures.0) c.loop-ticket.invariant.lawful
+returns-clause-lawful c = subst IsLawfulPart (sym c.in_default.ensures.0) c.loop-ticket.invariant.lawful

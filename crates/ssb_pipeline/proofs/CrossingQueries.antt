@@ -13,7 +13,6 @@ use Rattle.sqlite_items.specs.contracts.items.Items as Items
 use Rattle.sqlite_items.specs.contracts.items.Items.TheInside as InItems
 use Rattle.ssb_packed.specs.contracts.codes.Codes as Codes
 use Rattle.ssb_packed.specs.contracts.codes.Codes.TheInside as InCodes
-use Rattle.ssb_packed.specs.contracts.codes.Packed as Packed
 use Rattle.ssb_cells.specs.contracts.column.Column as Column
 use Rattle.ssb_cells.specs.contracts.column.Column.TheInside as InColumn
 use Rattle.ssb_cells.specs.contracts.column.Stored as Stored
@@ -46,11 +45,14 @@ use Rattle.ssb_trees.specs.declared.condition.Condition.TheBlock.{member-Conditi
 use Rattle.ssb_trees.specs.declared.expr.Expr.TheBlock.{member-Expr, member-Step}
 use Rattle.ssb_pipeline.proofs.Crossing.{Crosses, as_row_crosses, declared_crosses, fix_crosses, variants_crosses, vec, view_crosses}
 
-packed : Crosses Packed.the_row
-packed = (search (crosses, sendable) depth 20, search (crosses, sendable) depth 20)
+kept : Crosses Kept.the_row
+kept = (search (crosses, sendable) depth 20, search (crosses, sendable) depth 20)
+
+numbers : Crosses Numbers.the_row
+numbers = view_crosses InNumbers.the_row _ _ _ _ (declared_crosses InNumbers.the_type ((search (as_row_send, crosses, sendable) depth 20, search (as_row_sync, crosses, sendable) depth 20), (kept, tt)))
 
 codes : Crosses Codes.the_row
-codes = view_crosses InCodes.the_row _ _ _ _ (declared_crosses InCodes.the_type ((search (as_row_send, crosses, sendable) depth 20, search (as_row_sync, crosses, sendable) depth 20), (packed, tt)))
+codes = view_crosses InCodes.the_row _ _ _ _ (declared_crosses InCodes.the_type (numbers, tt))
 
 dictionary : Crosses Dictionary.the_row
 dictionary =
@@ -61,12 +63,6 @@ dictionary =
 
 texts : Crosses Texts.the_row
 texts = declared_crosses Texts.the_type (dictionary, (codes, tt))
-
-kept : Crosses Kept.the_row
-kept = (search (crosses, sendable) depth 20, search (crosses, sendable) depth 20)
-
-numbers : Crosses Numbers.the_row
-numbers = view_crosses InNumbers.the_row _ _ _ _ (declared_crosses InNumbers.the_type ((search (as_row_send, crosses, sendable) depth 20, search (as_row_sync, crosses, sendable) depth 20), (kept, tt)))
 
 nulls : Crosses Nulls.the_row
 nulls = (search (crosses, sendable) depth 20, search (crosses, sendable) depth 20)

@@ -6,5 +6,4 @@ pub mod Names
 pub mod Orders
 pub mod Query
 pub mod Rules
-pub mod Types
 pub mod Typing

@@ -11,7 +11,7 @@ use Rattle.ssb_trees.specs.Conditions.{Filter, operands}
 use Rattle.ssb_trees.specs.declared.operand.Operand.{Operand}
 use Rattle.ssb_trees.specs.declared.operand.Operand.TheVariants as operand
 use Rattle.ssb_bind.specs.Columns.{bound_name}
-use Rattle.ssb_bind.specs.Types.{aggregate_type, has_mixed, Kinds}
+use Rattle.ssb_trees.specs.Types.{aggregate_type, has_mixed, Kinds}
 use Rattle.ssb_query.specs.Tables.{kind_at}
 use Rattle.ssb_query.specs.declared.query.QueryParts.{QueryParts}
 

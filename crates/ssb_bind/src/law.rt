@@ -2,7 +2,6 @@
 
 ghost use Rattle.std.specs.Prelude.{◌≡◌, List};
 ghost use Rattle.ssb_bind.specs.Faults.{Means};
-ghost use Rattle.ssb_bind.specs.Types.{TextsAreColumns};
 ghost use Rattle.ssb_query.specs.declared.query.QueryParts.{QueryParts};
 ghost use Rattle.ssb_catalog.specs.Shapes.{TableShape};
 ghost use Rattle.ssb_sql.specs.declared.select.Select.{Select};
@@ -10,10 +9,4 @@ ghost use Rattle.ssb_sql.specs.declared.select.Select.{Select};
 /// A law: a select means at most one query over a catalog.
 pub fn one_meaning()
     ensures { (c : List TableShape) (s : Select) (p q : QueryParts) → Means c s p → Means c s q → p ≡ q }
-{}
-
-/// A law: an expression that is a text is one column. So MIN and MAX take a column of texts, and no other
-/// text.
-pub fn texts_are_columns<C>()
-    ensures { TextsAreColumns C }
 {}

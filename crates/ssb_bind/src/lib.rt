@@ -19,8 +19,6 @@ mod names;
 mod orders;
 mod resolve;
 mod search;
-mod star;
-mod types;
 mod typing;
 
 pub use bind_to_catalog::bind;

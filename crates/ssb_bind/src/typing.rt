@@ -5,12 +5,11 @@ ghost use Rattle.std.specs.List.{list_any};
 ghost use Rattle.ssb_bind.specs.Typing as spec;
 
 use crate::resolve::bound_name;
-use crate::types::{Kinds, aggregate_type, has_mixed};
 use ssb_catalog::TableDef;
 use ssb_query::QueryParts;
 use ssb_sql::{ColumnName, Item, Output, Select};
 use ssb_terms::ColType;
-use ssb_trees::{Filter, Operand, Test};
+use ssb_trees::{Filter, Kinds, Operand, Test, aggregate_type, has_mixed};
 
 // Where names have their types: in a query's tables.
 #[derive(Clone, Copy)]

@@ -38,8 +38,8 @@ impl Drop for Stored {
 /// A list of values of one type, some of them null, seen as its type and that list.
 ///
 /// Numbers are kept in the least of 1, 2, 4 or 8 bytes that holds them all. Of texts each different one
-/// is kept once, and each row has its code, in 1, 2 or 4 bytes. Nulls take no memory until there is one,
-/// and then a bit for each row.
+/// is kept once, and each row has its code, in the least bytes that hold them all. Nulls take no memory
+/// until there is one, and then a bit for each row.
 pub struct Column {
     nulls: Nulls,
     stored: Stored,

@@ -10,7 +10,8 @@ use Rattle.ssb_query.specs.declared.column.BoundColumn.{BoundColumn}
 use Rattle.ssb_trees.specs.declared.aggregate.Aggregate.{Aggregate}
 use Rattle.ssb_cells.specs.Cell.{Cell, null}
 use Rattle.ssb_cells.specs.Tables.{rows_in, Columns}
-use Rattle.ssb_job.specs.Kept.{IsCombination, JobShape, from_tables, rows_of}
+use Rattle.ssb_conditions.specs.Rows.{IsCombination}
+use Rattle.ssb_job.specs.Kept.{JobShape, from_tables, rows_of}
 use Rattle.ssb_job.proofs.Found.{length-combination}
 use Rattle.ssb_groups.specs.Aggregates.{agg, totals, totals_from}
 use Rattle.ssb_groups.specs.Gathering.{alone}

@@ -5,7 +5,8 @@ use Rattle.ssb_query.specs.declared.column.BoundColumn.{BoundColumn}
 use Rattle.ssb_cells.specs.Cell.{Cell, Filled, null, number, text}
 use Rattle.ssb_cells.specs.Codes.{code_of, texts_of}
 use Rattle.ssb_cells.specs.Tables.{Columns}
-use Rattle.ssb_job.specs.Kept.{JobShape, column_value, from_tables}
+use Rattle.ssb_conditions.specs.Rows.{column_value}
+use Rattle.ssb_job.specs.Kept.{JobShape, from_tables}
 use Rattle.ssb_groups.specs.Rows.{Key}
 use Rattle.ssb_groups.specs.declared.key.GroupKey.{GroupKey}
 use Rattle.ssb_groups.specs.declared.kept.Kept.{Kept}

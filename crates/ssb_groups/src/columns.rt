@@ -3,7 +3,8 @@
 
 ghost use Rattle.std.specs.Prelude.{◌≡◌, map, IfOk, OnOk};
 ghost use Rattle.ssb_cells.specs.Values.{cell_of};
-ghost use Rattle.ssb_job.specs.Kept.{IsCombination, from_tables};
+ghost use Rattle.ssb_conditions.specs.Rows.{IsCombination};
+ghost use Rattle.ssb_job.specs.Kept.{from_tables};
 ghost use Rattle.ssb_groups.specs.Entries.{AreTotals, totals_in};
 ghost use Rattle.ssb_groups.specs.Joining.{IsJoining, JoinsTotals, joinings_of, values_by};
 ghost use Rattle.ssb_groups.specs.Keys.{IsKept, IsKey, cells_in, kept_total, key_columns, key_of, spelt_cell};

@@ -4,7 +4,7 @@ ghost use Rattle.std.specs.Prelude.{◌≡◌, ◌<◌, ◌-◌, [], ◌∷◌, 
 ghost use Rattle.ssb_packed.specs.Recoded.{recoded};
 ghost use Rattle.ssb_packed.specs.Lent.{kept_code, codes_in};
 
-use crate::lent::CodeSlice;
+use crate::lent::{BELOW_CODE, CodeSlice};
 use crate::numbers::Numbers;
 use crate::width::Width;
 use std::alloc::{AllocError, Global};
@@ -31,7 +31,7 @@ impl Model for Codes {
 fn number_of(code: u32) -> i64
     ensures { kept_code result ≡ code }
 {
-    i64::from(code) - 128
+    i64::from(code) - i64::from(BELOW_CODE)
 }
 
 // What a table has for a code, or 0, as for that of a null where there is no text at all.

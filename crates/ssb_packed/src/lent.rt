@@ -16,6 +16,9 @@ pub enum NumberSlice<'a> {
     Eight(&'a [i64]),
 }
 
+/// By how much the number that is kept for a code is less, so that 256 codes take a byte each.
+pub(crate) const BELOW_CODE: u32 = 128;
+
 /// The codes of a column, one for each row.
 #[derive(Clone, Copy)]
 pub struct CodeSlice<'a> {
@@ -42,7 +45,7 @@ impl<'a> NumberSlice<'a> {
 fn kept_code(number: i64) -> u32
     ensures { result ≡ kept_code number }
 {
-    ((number.cast_unsigned() % 0x1_0000_0000) as u32).wrapping_add(128)
+    ((number.cast_unsigned() % 0x1_0000_0000) as u32).wrapping_add(BELOW_CODE)
 }
 
 impl<'a> CodeSlice<'a> {

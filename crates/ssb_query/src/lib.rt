@@ -6,6 +6,8 @@
 
 pub mod column;
 pub mod query;
+mod star;
 
 pub use column::{BoundColumn, BoundOperand, copy_condition};
 pub use query::{BoundItem, BoundOrder, Origin, Query, QueryParts, TableRules, rule_at};
+pub use star::{fact_place, unjoined};

@@ -7,7 +7,7 @@ use Rattle.ssb_cells.specs.Truth.{is_true}
 use Rattle.ssb_cells.specs.Values.{cell_of}
 use Rattle.ssb_trees.specs.declared.operand.Operand.{Operand}
 use Rattle.ssb_trees.specs.declared.operand.Operand.TheVariants as operand
-use Rattle.ssb_job.specs.Holds.{Valuation, literal_cell}
+use Rattle.ssb_conditions.specs.Holds.{Valuation, literal_cell}
 use Rattle.ssb_query.specs.declared.column.BoundColumn.{BoundColumn}
 use Rattle.ssb_query.specs.declared.query.QueryParts.{QueryParts}
 use Rattle.ssb_query.specs.declared.query.Origin.{Origin}

@@ -10,7 +10,7 @@ use Rattle.ssb_cells.specs.declared.truth.Truth.TheVariants.{True}
 use Rattle.ssb_trees.specs.Conditions.{Filter}
 use Rattle.ssb_trees.specs.declared.operand.Operand.{Operand}
 use Rattle.ssb_trees.specs.declared.operand.Operand.TheVariants as operand
-use Rattle.ssb_job.specs.Holds.{Valuation, holds, literal_cell}
+use Rattle.ssb_conditions.specs.Holds.{Valuation, holds, literal_cell}
 use Rattle.ssb_query.specs.declared.column.BoundColumn.{BoundColumn}
 use Rattle.ssb_query.specs.declared.query.QueryParts.{QueryParts}
 use Rattle.ssb_query.specs.declared.query.Origin.{Origin}

@@ -5,8 +5,8 @@ ghost use Rattle.ssb_rows.specs.Entries as spec;
 
 use crate::item::item_value;
 use ssb_cells::Value;
+use ssb_conditions::{Valuation, literal_value, truth_of};
 use ssb_groups::Group;
-use ssb_job::{Valuation, literal_value, truth_of};
 use ssb_query::{Origin, QueryParts};
 use ssb_trees::Operand;
 

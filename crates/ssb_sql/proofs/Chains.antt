@@ -2,8 +2,8 @@
 use Rattle.std.proofs.Common.{◌≡◌, List, [], ◌∷◌, length, Some, refl, sym, ap, ◌∙◌}
 use Rattle.std.specs.Prelude.{slice_get}
 use Rattle.ssb_trees.specs.declared.expr.Expr.TheVariants as e
-use Rattle.ssb_sql.specs.declared.token.Sign.{Sign}
-use Rattle.ssb_sql.specs.declared.token.Token.{Token}
+use Rattle.ssb_tokens.specs.declared.token.Sign.{Sign}
+use Rattle.ssb_tokens.specs.declared.token.Token.{Token}
 use Rattle.ssb_sql.specs.Expressions.{sum_of}
 use Rattle.ssb_sql.specs.Forms.{chain_of}
 use Rattle.ssb_sql.specs.Steps.{Parser, chained_at, made_at}

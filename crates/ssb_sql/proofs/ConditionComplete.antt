@@ -2,13 +2,13 @@
 use Rattle.std.proofs.Common.{◌≡◌, ℕ, zero, suc, ◌≤◌, Bool, true, false, List, [], ◌∷◌, length, Option, Some, None, refl, arith}
 use Rattle.ssb_terms.specs.declared.operator.Op.{Op}
 use Rattle.ssb_terms.specs.declared.operator.Op.TheVariants as op
-use Rattle.ssb_sql.specs.declared.token.Token.{Token}
-use Rattle.ssb_sql.specs.declared.token.Token.TheVariants.{Fixed, Number}
-use Rattle.ssb_sql.specs.declared.token.Sign.{Sign}
+use Rattle.ssb_tokens.specs.declared.token.Token.{Token}
+use Rattle.ssb_tokens.specs.declared.token.Token.TheVariants.{Fixed, Number}
+use Rattle.ssb_tokens.specs.declared.token.Sign.{Sign}
 use Rattle.ssb_terms.specs.declared.keyword.Keyword.{Keyword}
 use Rattle.ssb_terms.specs.declared.keyword.Keyword.TheVariants as words
-use Rattle.ssb_sql.specs.declared.token.Mark.TheVariants as marks
-use Rattle.ssb_sql.specs.declared.token.Sign.TheVariants as s
+use Rattle.ssb_tokens.specs.declared.token.Mark.TheVariants as marks
+use Rattle.ssb_tokens.specs.declared.token.Sign.TheVariants as s
 use Rattle.ssb_terms.specs.declared.literal.Literal.{Literal}
 use Rattle.ssb_trees.specs.declared.operand.Operand.TheVariants as o
 use Rattle.ssb_trees.specs.declared.condition.Condition.TheVariants as c

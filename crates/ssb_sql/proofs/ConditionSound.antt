@@ -1,8 +1,8 @@
 -- What is read as a condition is one.
 use Rattle.std.proofs.Common.{◌≡◌, ℕ, zero, suc, ◌<◌, ◌≤◌, List, length, Some, refl, arith, inl, inr}
-use Rattle.ssb_sql.specs.declared.token.Token.{Token}
+use Rattle.ssb_tokens.specs.declared.token.Token.{Token}
 use Rattle.ssb_terms.specs.declared.keyword.Keyword.TheVariants as words
-use Rattle.ssb_sql.specs.declared.token.Sign.TheVariants as s
+use Rattle.ssb_tokens.specs.declared.token.Sign.TheVariants as s
 use Rattle.ssb_trees.specs.declared.condition.Condition.TheVariants as c
 use Rattle.ssb_sql.specs.Forms.{Spelling}
 use Rattle.ssb_sql.specs.Conditions.{IsCond, IsOrs, IsConj, IsAnds, IsNeg, IsTest, or_chain, and_chain}
@@ -15,7 +15,8 @@ use Rattle.ssb_sql.specs.Conditions.IsTest.{parens, bare}
 use Rattle.ssb_sql.specs.Room.{HasRoom}
 use Rattle.ssb_sql.specs.Steps.{Parser, after, nonempty_at, Shrinks}
 use Rattle.ssb_sql.specs.ReadConditions.{bare_at, test_at, neg_at, conj_at, disj_at, cond_at}
-use Rattle.ssb_sql.proofs.StepFacts.{bind_some, choose_some}
+use Rattle.ssb_tokens.proofs.ReadingFacts.{bind_some}
+use Rattle.ssb_sql.proofs.StepFacts.{choose_some}
 use Rattle.ssb_sql.proofs.Shapes.{Sound, Shorter, Tame, tame_shorter, IsChain, is_chain, spells, begins, sound_enclosed, made_sound, shrinks_by, nonempty_some}
 use Rattle.ssb_sql.proofs.TestSound.{sound_bare, bare_shorter, tame_bare}
 use Rattle.ssb_trees.specs.Conditions.{Filter}

@@ -1,10 +1,10 @@
 -- What is read as an expression is one.
 use Rattle.std.proofs.Common.{◌≡◌, ℕ, zero, suc, ◌<◌, ◌≤◌, List, [], ◌∷◌, length, Some, None, refl, ap, subst, ◌∙◌, arith, inl, inr}
-use Rattle.ssb_sql.specs.declared.token.Token.{Token}
-use Rattle.ssb_sql.specs.declared.token.Token.TheVariants.{Fixed, Number}
-use Rattle.ssb_sql.specs.declared.token.Mark.{Mark}
-use Rattle.ssb_sql.specs.declared.token.Mark.TheVariants as marks
-use Rattle.ssb_sql.specs.declared.token.Sign.TheVariants as s
+use Rattle.ssb_tokens.specs.declared.token.Token.{Token}
+use Rattle.ssb_tokens.specs.declared.token.Token.TheVariants.{Fixed, Number}
+use Rattle.ssb_tokens.specs.declared.token.Mark.{Mark}
+use Rattle.ssb_tokens.specs.declared.token.Mark.TheVariants as marks
+use Rattle.ssb_tokens.specs.declared.token.Sign.TheVariants as s
 use Rattle.ssb_terms.specs.declared.operator.Adding.{Adding}
 use Rattle.ssb_terms.specs.declared.operator.Adding.TheVariants as a
 use Rattle.ssb_trees.specs.declared.expr.Expr.TheVariants as e
@@ -19,7 +19,8 @@ use Rattle.ssb_sql.specs.Room.{HasRoom}
 use Rattle.ssb_sql.specs.Steps.{Parser, after, more_at, Shrinks}
 use Rattle.ssb_sql.specs.ReadParts.{column_at}
 use Rattle.ssb_sql.specs.ReadExpressions.{bare_primary_at, primary_at, adding_at, signed, factor_at, term_at, step_at, sum_at, expr_at}
-use Rattle.ssb_sql.proofs.StepFacts.{some_is, bind_some, choose_some, after_is}
+use Rattle.ssb_tokens.proofs.ReadingFacts.{bind_some}
+use Rattle.ssb_sql.proofs.StepFacts.{some_is, choose_some, after_is}
 use Rattle.ssb_sql.proofs.Shapes.{Sound, Tame, IsChain, is_chain, spells, starts, sound_enclosed, made_sound, sound_more, shrinks}
 use Rattle.ssb_sql.proofs.PartFacts.{sound_column, tame_column}
 use Rattle.ssb_trees.specs.declared.expr.Step.{Step}

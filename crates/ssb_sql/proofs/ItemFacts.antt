@@ -1,11 +1,11 @@
 -- Items of the select list and keys of ORDER BY are read exactly.
 use Rattle.std.proofs.Common.{◌≡◌, ℕ, zero, suc, true, false, List, ◌∷◌, Option, Some, None, refl, sym, ap, subst, ◌∙◌, arith, inl, inr}
-use Rattle.ssb_sql.specs.declared.token.Token.{Token}
-use Rattle.ssb_sql.specs.declared.token.Token.TheVariants.{Fixed, Name, Number}
+use Rattle.ssb_tokens.specs.declared.token.Token.{Token}
+use Rattle.ssb_tokens.specs.declared.token.Token.TheVariants.{Fixed, Name, Number}
 use Rattle.ssb_terms.specs.declared.keyword.Keyword.{Keyword}
 use Rattle.ssb_terms.specs.declared.keyword.Keyword.TheVariants as words
-use Rattle.ssb_sql.specs.declared.token.Mark.TheVariants as marks
-use Rattle.ssb_sql.specs.declared.token.Sign.TheVariants as s
+use Rattle.ssb_tokens.specs.declared.token.Mark.TheVariants as marks
+use Rattle.ssb_tokens.specs.declared.token.Sign.TheVariants as s
 use Rattle.ssb_trees.specs.declared.aggregate.Aggregate.TheVariants as a
 use Rattle.ssb_trees.specs.declared.aggregate.SetFunction.{SetFunction}
 use Rattle.ssb_trees.specs.declared.aggregate.SetFunction.TheVariants as functions
@@ -24,12 +24,13 @@ use Rattle.ssb_sql.specs.Grammar.IsOutput.{column, aggregate}
 use Rattle.ssb_sql.specs.Grammar.IsItem.{unnamed, named}
 use Rattle.ssb_sql.specs.Grammar.IsKey.{name, position}
 use Rattle.ssb_sql.specs.Grammar.IsOrder.{plain, asc, desc}
-use Rattle.ssb_sql.specs.Reading.{◌>>=◌}
+use Rattle.ssb_tokens.specs.Reading.{◌>>=◌}
 use Rattle.ssb_sql.specs.Steps.{after, name_at, closed_at, Shrinks}
 use Rattle.ssb_sql.specs.ReadParts.{column_at}
 use Rattle.ssb_sql.specs.ReadExpressions.{expr_at}
 use Rattle.ssb_sql.specs.ReadSelects.{function_of, function_at, star_at, argument_at, aggregate_at, output_at, item_of, alias_at, item_at, key_at, order_of, order_at}
-use Rattle.ssb_sql.proofs.StepFacts.{some_is, bind_some, choose_some, after_is, two_are}
+use Rattle.ssb_tokens.proofs.ReadingFacts.{bind_some}
+use Rattle.ssb_sql.proofs.StepFacts.{some_is, choose_some, after_is, two_are}
 use Rattle.ssb_sql.proofs.Shapes.{Sound, Tame, Went, went, tame, spells, starts, followed, sound_closed, shrinks}
 use Rattle.ssb_sql.proofs.PartFacts.{name_is, sound_column, tame_column}
 use Rattle.ssb_sql.proofs.ExpressionSound.{sound_expr, tame_expr}

@@ -7,8 +7,6 @@ pub mod ExpressionSound
 pub mod ItemFacts
 pub mod Loop
 pub mod PartFacts
-pub mod ReservedWords
-pub mod ScanSteps
 pub mod SelectComplete
 pub mod SelectSound
 pub mod Shapes
@@ -16,8 +14,3 @@ pub mod SpellsFacts
 pub mod StepFacts
 pub mod SumFacts
 pub mod TestSound
-pub mod TextUtf8
-pub mod TokenComplete
-pub mod TokenFront
-pub mod TokenLists
-pub mod TokenSound

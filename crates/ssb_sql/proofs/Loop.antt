@@ -1,11 +1,11 @@
 -- Reading a chain by a loop.
 use Rattle.std.proofs.Common.{◌≡◌, ℕ, zero, suc, ◌<◌, ◌≤◌, List, [], ◌∷◌, ◌++◌, length, Option, Some, None, refl, sym, ap, ◌∙◌, append_assoc, arith}
 use Rattle.std.proofs.lemmas.List.{append-nil}
-use Rattle.ssb_sql.specs.declared.token.Sign.{Sign}
-use Rattle.ssb_sql.specs.declared.token.Token.{Token}
-use Rattle.ssb_sql.specs.declared.stop.Stop.{Stop}
-use Rattle.ssb_sql.specs.declared.stop.Stop.TheVariants as stop
-use Rattle.ssb_sql.specs.Reading.{Fails, ◌>>=◌}
+use Rattle.ssb_tokens.specs.declared.token.Sign.{Sign}
+use Rattle.ssb_tokens.specs.declared.token.Token.{Token}
+use Rattle.ssb_tokens.specs.declared.stop.Stop.{Stop}
+use Rattle.ssb_tokens.specs.declared.stop.Stop.TheVariants as stop
+use Rattle.ssb_tokens.specs.Reading.{Fails, ◌>>=◌}
 use Rattle.ssb_sql.specs.Steps.{Parser, after, turn_at, chain_at, with_front, more_at, chained_at, Shrinks}
 
 -- one thing in front

@@ -2,11 +2,11 @@
 use Rattle.std.proofs.Common.{◌≡◌, ℕ, ◌≤◌, ◌<◌, true, false, List, length, ◌∷◌, Some, None, refl, sym, ap, subst, ◌∙◌, arith, inl, inr, pos, ℤ}
 use Rattle.std.specs.Prelude.{nat_le, neg_ℤ}
 use Rattle.std.proofs.lemmas.Bool.{leb-true, le-leb}
-use Rattle.ssb_sql.specs.declared.token.Token.{Token}
-use Rattle.ssb_sql.specs.declared.token.Token.TheVariants.{Fixed, Name, Number, Text}
-use Rattle.ssb_sql.specs.declared.token.Mark.TheVariants as marks
-use Rattle.ssb_sql.specs.declared.token.Sign.{Sign}
-use Rattle.ssb_sql.specs.declared.token.Sign.TheVariants as s
+use Rattle.ssb_tokens.specs.declared.token.Token.{Token}
+use Rattle.ssb_tokens.specs.declared.token.Token.TheVariants.{Fixed, Name, Number, Text}
+use Rattle.ssb_tokens.specs.declared.token.Mark.TheVariants as marks
+use Rattle.ssb_tokens.specs.declared.token.Sign.{Sign}
+use Rattle.ssb_tokens.specs.declared.token.Sign.TheVariants as s
 use Rattle.ssb_terms.specs.declared.keyword.Keyword.TheVariants as words
 use Rattle.ssb_sql.specs.declared.named.ColumnName.{ColumnName}
 use Rattle.ssb_terms.specs.declared.literal.Literal.{Literal}
@@ -20,7 +20,8 @@ use Rattle.ssb_sql.specs.Forms.IsOperand.{column, literal}
 use Rattle.ssb_sql.specs.Room.{HasRoom}
 use Rattle.ssb_sql.specs.Steps.{after, is_fixed, Parser, name_at, number_at, is_literal_next, nonempty_at, Shrinks}
 use Rattle.ssb_sql.specs.ReadParts.{column_of, column_at, small_at, below_at, plain_literal_at, literal_at, operand_at}
-use Rattle.ssb_sql.proofs.StepFacts.{some_is, bind_some, choose_some, if_some, after_is, Stops, stops, differs, sees}
+use Rattle.ssb_tokens.proofs.ReadingFacts.{bind_some}
+use Rattle.ssb_sql.proofs.StepFacts.{some_is, choose_some, if_some, after_is, Stops, stops, differs, sees}
 use Rattle.ssb_sql.proofs.Shapes.{Sound, Shorter, Tame, Complete, Went, went, tame, spells, starts, shrinks, nonempty_read}
 use Rattle.ssb_trees.specs.declared.operand.Operand.{Operand}
 

@@ -1,13 +1,13 @@
 -- Each query of the grammar is read, and tokens spell one query at most.
 use Rattle.std.proofs.Common.{◌≡◌, ℕ, zero, suc, true, false, List, [], ◌∷◌, length, Option, Some, None, refl, sym, ◌∙◌, arith}
 use Rattle.std.specs.Prelude.{Err}
-use Rattle.ssb_sql.specs.declared.token.Token.{Token}
-use Rattle.ssb_sql.specs.declared.token.Token.TheVariants.{Fixed, Name}
-use Rattle.ssb_sql.specs.declared.token.Sign.{Sign}
+use Rattle.ssb_tokens.specs.declared.token.Token.{Token}
+use Rattle.ssb_tokens.specs.declared.token.Token.TheVariants.{Fixed, Name}
+use Rattle.ssb_tokens.specs.declared.token.Sign.{Sign}
 use Rattle.ssb_terms.specs.declared.keyword.Keyword.{Keyword}
 use Rattle.ssb_terms.specs.declared.keyword.Keyword.TheVariants as words
-use Rattle.ssb_sql.specs.declared.token.Mark.TheVariants as marks
-use Rattle.ssb_sql.specs.declared.token.Sign.TheVariants as s
+use Rattle.ssb_tokens.specs.declared.token.Mark.TheVariants as marks
+use Rattle.ssb_tokens.specs.declared.token.Sign.TheVariants as s
 use Rattle.ssb_sql.specs.declared.named.ColumnName.{ColumnName}
 use Rattle.ssb_trees.specs.declared.aggregate.Aggregate.TheVariants as a
 use Rattle.ssb_trees.specs.declared.aggregate.SetFunction.{SetFunction}
@@ -18,12 +18,13 @@ use Rattle.ssb_sql.specs.declared.select.Item.{Item}
 use Rattle.ssb_sql.specs.declared.select.Key.{Key}
 use Rattle.ssb_sql.specs.declared.select.Order.{Order}
 use Rattle.ssb_sql.specs.declared.select.Select.{Select}
-use Rattle.ssb_sql.specs.declared.stop.Stop.{Stop}
-use Rattle.ssb_sql.specs.declared.stop.Stop.TheVariants as stop
+use Rattle.ssb_tokens.specs.declared.stop.Stop.{Stop}
+use Rattle.ssb_tokens.specs.declared.stop.Stop.TheVariants as stop
 use Rattle.ssb_sql.specs.Exact.{Reads}
 use Rattle.ssb_sql.specs.Forms.{Spelling, IsList, IsNamed, IsColumn}
 use Rattle.ssb_sql.specs.Grammar.{function_word, IsAggregate, IsOutput, IsItem, IsFilter, IsHaving, IsGroups, IsKey, IsOrder, IsOrders, IsEnd, Parses}
-use Rattle.ssb_sql.specs.Reading.{Fails, told}
+use Rattle.ssb_tokens.specs.Reading.{Fails}
+use Rattle.ssb_sql.specs.Told.{told}
 use Rattle.ssb_sql.specs.Room.{HasRoom}
 use Rattle.ssb_sql.specs.Grammar.IsAggregate.{rows, of}
 use Rattle.ssb_sql.specs.Grammar.IsOutput.{column, aggregate}

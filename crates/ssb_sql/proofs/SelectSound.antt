@@ -1,11 +1,11 @@
 -- What is read as a query is one.
 use Rattle.std.proofs.Common.{◌≡◌, ℕ, suc, true, List, [], ◌∷◌, Option, Some, None, refl, sym, ap, subst, ◌∙◌, inl, inr}
-use Rattle.ssb_sql.specs.declared.token.Token.{Token}
-use Rattle.ssb_sql.specs.declared.token.Token.TheVariants.{Fixed}
+use Rattle.ssb_tokens.specs.declared.token.Token.{Token}
+use Rattle.ssb_tokens.specs.declared.token.Token.TheVariants.{Fixed}
 use Rattle.ssb_terms.specs.declared.keyword.Keyword.{Keyword}
 use Rattle.ssb_terms.specs.declared.keyword.Keyword.TheVariants as words
-use Rattle.ssb_sql.specs.declared.token.Mark.TheVariants as marks
-use Rattle.ssb_sql.specs.declared.token.Sign.TheVariants as s
+use Rattle.ssb_tokens.specs.declared.token.Mark.TheVariants as marks
+use Rattle.ssb_tokens.specs.declared.token.Sign.TheVariants as s
 use Rattle.ssb_sql.specs.declared.named.ColumnName.{ColumnName}
 use Rattle.ssb_sql.specs.declared.select.Item.{Item}
 use Rattle.ssb_sql.specs.declared.select.Output.{Output}
@@ -22,7 +22,8 @@ use Rattle.ssb_sql.specs.Steps.{Parser, after, name_at, list_at}
 use Rattle.ssb_sql.specs.ReadParts.{column_at}
 use Rattle.ssb_sql.specs.ReadConditions.{cond_at}
 use Rattle.ssb_sql.specs.ReadSelects.{output_at, item_at, filter_at, by_at, order_at, is_nil, ends, Clauses, select_of, ordered_at, kept_at, grouped_at, filtered_at, joined_at, query_at}
-use Rattle.ssb_sql.proofs.StepFacts.{some_is, bind_some, choose_some, guard_some, after_is, two_are}
+use Rattle.ssb_tokens.proofs.ReadingFacts.{bind_some}
+use Rattle.ssb_sql.proofs.StepFacts.{some_is, choose_some, guard_some, after_is, two_are}
 use Rattle.ssb_sql.proofs.Shapes.{Sound, sound_nonempty, spells, starts, begins, followed, sound_list}
 use Rattle.ssb_sql.proofs.PartFacts.{sound_name, sound_column}
 use Rattle.ssb_sql.proofs.ConditionSound.{sound_cond}

@@ -1,17 +1,18 @@
 -- What readers and relations share: sound, shorter, and chains.
 use Rattle.std.proofs.Common.{◌≡◌, ℕ, zero, suc, ◌<◌, ◌≤◌, List, [], ◌∷◌, ◌++◌, length, Option, Some, None, cond, nat_lt, refl, sym, ap, subst, ◌∙◌, arith, inl, inr, ltb-true, lt-ltb}
-use Rattle.ssb_sql.specs.declared.token.Token.{Token}
-use Rattle.ssb_sql.specs.declared.token.Token.TheVariants.{Fixed}
-use Rattle.ssb_sql.specs.declared.token.Sign.{Sign}
-use Rattle.ssb_sql.specs.declared.token.Mark.TheVariants as marks
-use Rattle.ssb_sql.specs.declared.token.Sign.TheVariants as s
+use Rattle.ssb_tokens.specs.declared.token.Token.{Token}
+use Rattle.ssb_tokens.specs.declared.token.Token.TheVariants.{Fixed}
+use Rattle.ssb_tokens.specs.declared.token.Sign.{Sign}
+use Rattle.ssb_tokens.specs.declared.token.Mark.TheVariants as marks
+use Rattle.ssb_tokens.specs.declared.token.Sign.TheVariants as s
 use Rattle.ssb_sql.specs.Forms.{Spelling, IsMore, IsList}
 use Rattle.ssb_sql.specs.Forms.IsMore.{no_more, comma}
 use Rattle.ssb_sql.specs.Forms.IsList.{list}
 use Rattle.ssb_sql.specs.Room.{HasRoom}
-use Rattle.ssb_sql.specs.Reading.{◌>>=◌}
+use Rattle.ssb_tokens.specs.Reading.{◌>>=◌}
 use Rattle.ssb_sql.specs.Steps.{Parser, after, turn_at, chain_at, with_front, more_at, chained_at, list_at, closed_at, enclosed_at, nonempty_at, Shrinks}
-use Rattle.ssb_sql.proofs.StepFacts.{some_is, bind_some, choose_some, guard_some, cases_of, after_is, after_shorter, Stops, sees}
+use Rattle.ssb_tokens.proofs.ReadingFacts.{bind_some}
+use Rattle.ssb_sql.proofs.StepFacts.{some_is, choose_some, guard_some, cases_of, after_is, after_shorter, Stops, sees}
 
 -- what p reads is in R
 pub record Sound {A : Type 0} (p : Parser A) (R : Spelling A) : Type 0 where

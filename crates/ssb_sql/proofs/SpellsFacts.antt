@@ -4,18 +4,18 @@ use Rattle.std.specs.Prelude.{Result, Ok, Err}
 use Rattle.ssb_sql.specs.declared.fault.SqlFault.{SqlFault}
 use Rattle.ssb_sql.specs.declared.fault.SqlFault.TheVariants as fault
 use Rattle.ssb_sql.specs.declared.select.Select.{Select}
-use Rattle.ssb_sql.specs.declared.stop.Stop.{Stop}
-use Rattle.ssb_sql.specs.declared.stop.Stop.TheVariants as stop
-use Rattle.ssb_sql.specs.declared.token.Token.{Token}
+use Rattle.ssb_tokens.specs.declared.stop.Stop.{Stop}
+use Rattle.ssb_tokens.specs.declared.stop.Stop.TheVariants as stop
+use Rattle.ssb_tokens.specs.declared.token.Token.{Token}
 use Rattle.ssb_sql.specs.Exact.{Reads}
 use Rattle.ssb_sql.specs.Grammar.{Parses}
-use Rattle.ssb_sql.specs.Reading.{told}
+use Rattle.ssb_sql.specs.Told.{told}
 use Rattle.ssb_sql.specs.Room.{HasRoom}
-use Rattle.ssb_sql.specs.Lexes.{HasNoTokens}
+use Rattle.ssb_tokens.specs.Lexes.{HasNoTokens}
 use Rattle.ssb_sql.specs.Spells.{IsShallow, ReadsText, Spells}
-use Rattle.ssb_sql.specs.Tokens.{IsTokens}
+use Rattle.ssb_tokens.specs.Tokens.{IsTokens}
 use Rattle.ssb_sql.proofs.Depth.{same_room}
-use Rattle.ssb_sql.proofs.TokenLists.{one_list}
+use Rattle.ssb_tokens.proofs.TokenLists.{one_list}
 
 shallow-one : (text : List ℕ) (ts : List Token) → IsTokens text ts → HasRoom 64 ts → IsShallow text
 shallow-one text ts is within us also = (same_room 64 us).to (subst (HasRoom 64) (one_list text ts us is also) within)

@@ -1,13 +1,12 @@
 -- What reading steps say.
 use Rattle.std.proofs.Common.{◌≡◌, suc, ◌<◌, Bool, true, false, cond, List, [], ◌∷◌, length, Option, Some, None, refl, ap, ◌∙◌, arith, ◌⊎◌, inl, inr}
 use denote.Enum.Bare.{same_true, true_same}
-use Rattle.ssb_sql.specs.declared.token.Token.{Token}
-use Rattle.ssb_sql.specs.declared.token.Token.TheVariants.{Fixed, Name, Number, Text}
-use Rattle.ssb_sql.specs.declared.token.Sign.{Sign}
+use Rattle.ssb_tokens.specs.declared.token.Token.{Token}
+use Rattle.ssb_tokens.specs.declared.token.Token.TheVariants.{Fixed, Name, Number, Text}
+use Rattle.ssb_tokens.specs.declared.token.Sign.{Sign}
 use Rattle.ssb_terms.specs.contracts.keyword.Keyword as words
-use Rattle.ssb_sql.specs.contracts.token.Mark as marks
-use Rattle.ssb_sql.specs.declared.token.Sign.TheVariants as s
-use Rattle.ssb_sql.specs.Reading.{◌>>=◌}
+use Rattle.ssb_tokens.specs.contracts.token.Mark as marks
+use Rattle.ssb_tokens.specs.declared.token.Sign.TheVariants as s
 use Rattle.ssb_sql.specs.Steps.{choose, is_same, is_sign, is_fixed, after}
 
 pub some_is : {A : Type 0} (x y : A) → Some x ≡ Some y → x ≡ y
@@ -15,10 +14,6 @@ some_is x y e = cc
 
 pub none_some : {A : Type 0} (x : A) → None ≡ Some x → ⊥
 none_some x e = cc
-
-pub bind_some : {A B : Type 0} (r : Option A) (f : A → Option B) (y : B) → (r >>= f) ≡ Some y → (x : A) × (r ≡ Some x) × (f x ≡ Some y)
-bind_some None f y e = absurd cc
-bind_some (Some x) f y e = (x, refl, e)
 
 -- what a choice took
 pub choose_some : {A B : Type 0} (r : Option A) (f : A → B) (g y : B) → choose r f g ≡ y → ((x : A) × (r ≡ Some x) × (f x ≡ y)) ⊎ ((r ≡ None) × (g ≡ y))

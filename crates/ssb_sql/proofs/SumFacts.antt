@@ -1,12 +1,12 @@
 -- Reading a sum: its first term, and then the steps, each a sign and a term.
 use Rattle.std.proofs.Common.{◌≡◌, ℕ, suc, List, [], Some, refl}
 use Rattle.ssb_terms.specs.declared.operator.Adding.{Adding}
-use Rattle.ssb_sql.specs.declared.stop.Stop.{Stop}
-use Rattle.ssb_sql.specs.declared.stop.Stop.TheVariants as stop
-use Rattle.ssb_sql.specs.declared.token.Token.{Token}
+use Rattle.ssb_tokens.specs.declared.stop.Stop.{Stop}
+use Rattle.ssb_tokens.specs.declared.stop.Stop.TheVariants as stop
+use Rattle.ssb_tokens.specs.declared.token.Token.{Token}
 use Rattle.ssb_sql.specs.Expressions.{sum_of}
 use Rattle.ssb_sql.specs.ReadExpressions.{adding_at, expr_at, step_at, term_at}
-use Rattle.ssb_sql.specs.Reading.{Fails}
+use Rattle.ssb_tokens.specs.Reading.{Fails}
 use Rattle.ssb_sql.specs.Steps.{more_at}
 use Rattle.ssb_sql.proofs.Loop.{bind_fails}
 use Rattle.ssb_trees.specs.declared.expr.Step.{Step}

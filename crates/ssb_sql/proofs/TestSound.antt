@@ -2,12 +2,12 @@
 use Rattle.std.proofs.Common.{◌≡◌, ℕ, zero, suc, ◌<◌, Bool, true, false, List, ◌∷◌, length, Some, None, refl, ap, subst, ◌∙◌, arith, inl, inr}
 use Rattle.ssb_terms.specs.declared.operator.Op.{Op}
 use Rattle.ssb_terms.specs.declared.operator.Op.TheVariants as op
-use Rattle.ssb_sql.specs.declared.token.Token.{Token}
-use Rattle.ssb_sql.specs.declared.token.Token.TheVariants.{Fixed}
+use Rattle.ssb_tokens.specs.declared.token.Token.{Token}
+use Rattle.ssb_tokens.specs.declared.token.Token.TheVariants.{Fixed}
 use Rattle.ssb_terms.specs.declared.keyword.Keyword.TheVariants as words
-use Rattle.ssb_sql.specs.declared.token.Mark.{Mark}
-use Rattle.ssb_sql.specs.declared.token.Mark.TheVariants as marks
-use Rattle.ssb_sql.specs.declared.token.Sign.TheVariants as s
+use Rattle.ssb_tokens.specs.declared.token.Mark.{Mark}
+use Rattle.ssb_tokens.specs.declared.token.Mark.TheVariants as marks
+use Rattle.ssb_tokens.specs.declared.token.Sign.TheVariants as s
 use Rattle.ssb_terms.specs.declared.literal.Literal.{Literal}
 use Rattle.ssb_trees.specs.declared.operand.Operand.TheVariants as o
 use Rattle.ssb_trees.specs.declared.condition.Condition.TheVariants as c
@@ -19,7 +19,8 @@ use Rattle.ssb_sql.specs.Room.{HasRoom}
 use Rattle.ssb_sql.specs.Steps.{Parser, after, list_at, nonempty_at, parens_at}
 use Rattle.ssb_sql.specs.ReadParts.{literal_at, operand_at}
 use Rattle.ssb_sql.specs.ReadConditions.{op_of, op_at, limits_at, among_at, range_at, nulled_at, null_at, compared_at, tail_at, bare_at}
-use Rattle.ssb_sql.proofs.StepFacts.{some_is, none_some, bind_some, choose_some, after_is, two_are}
+use Rattle.ssb_tokens.proofs.ReadingFacts.{bind_some}
+use Rattle.ssb_sql.proofs.StepFacts.{some_is, none_some, choose_some, after_is, two_are}
 use Rattle.ssb_sql.proofs.Shapes.{Sound, Shorter, Tame, tame_shorter, spells, followed, sound_closed, sound_list, tame_list}
 use Rattle.ssb_sql.proofs.PartFacts.{sound_operand, operand_shorter, tame_operand, sound_literal, tame_literal}
 use Rattle.ssb_trees.specs.Conditions.{Filter}

@@ -5,10 +5,10 @@
 use Rattle.std.specs.Prelude.{List, [], ◌∷◌}
 use Rattle.ssb_terms.specs.declared.operator.Op.{Op}
 use Rattle.ssb_terms.specs.declared.operator.Op.TheVariants as op
-use Rattle.ssb_sql.specs.declared.token.Token.{Token}
-use Rattle.ssb_sql.specs.declared.token.Mark.{Mark}
+use Rattle.ssb_tokens.specs.declared.token.Token.{Token}
+use Rattle.ssb_tokens.specs.declared.token.Mark.{Mark}
 use Rattle.ssb_terms.specs.declared.keyword.Keyword.TheVariants as words
-use Rattle.ssb_sql.specs.declared.token.Mark.TheVariants as marks
+use Rattle.ssb_tokens.specs.declared.token.Mark.TheVariants as marks
 use Rattle.ssb_terms.specs.declared.literal.Literal.{Literal}
 use Rattle.ssb_trees.specs.declared.operand.Operand.TheVariants as operand
 use Rattle.ssb_trees.specs.declared.condition.Condition.TheVariants as c

@@ -1,7 +1,7 @@
 -- What the reader of tokens answers.
 -- For the contracts inside this crate.
 use Rattle.std.specs.Prelude.{List, Result, Ok, Err, ⊤}
-use Rattle.ssb_sql.specs.declared.token.Token.{Token}
+use Rattle.ssb_tokens.specs.declared.token.Token.{Token}
 use Rattle.ssb_sql.specs.declared.select.Select.{Select}
 use Rattle.ssb_sql.specs.declared.fault.SqlFault.{SqlFault}
 use Rattle.ssb_sql.specs.declared.fault.SqlFault.TheVariants as fault

@@ -1,9 +1,9 @@
 -- Which tokens spell which expression.
 -- Source: SQL-92, 6.12 <numeric value expression>, cut down.
 use Rattle.std.specs.Prelude.{ℕ, List, [], ◌∷◌}
-use Rattle.ssb_sql.specs.declared.token.Token.{Token}
-use Rattle.ssb_sql.specs.declared.token.Token.TheVariants.{Number}
-use Rattle.ssb_sql.specs.declared.token.Mark.TheVariants as marks
+use Rattle.ssb_tokens.specs.declared.token.Token.{Token}
+use Rattle.ssb_tokens.specs.declared.token.Token.TheVariants.{Number}
+use Rattle.ssb_tokens.specs.declared.token.Mark.TheVariants as marks
 use Rattle.ssb_sql.specs.declared.named.ColumnName.{ColumnName}
 use Rattle.ssb_terms.specs.declared.operator.Adding.TheVariants as a
 use Rattle.ssb_trees.specs.declared.expr.Expr.TheVariants as e

@@ -2,12 +2,12 @@
 -- Source: SQL-92, 6.4 <column reference>, 5.3 <literal> and 7.1 <row value constructor>, cut down.
 -- `R from to x`: the tokens `from` begin with an R that spells x, and then come the tokens `to`.
 use Rattle.std.specs.Prelude.{ℕ, ◌≤◌, List, [], ◌∷◌, Some, None, pos, neg_ℤ}
-use Rattle.ssb_sql.specs.declared.token.Token.{Token}
-use Rattle.ssb_sql.specs.declared.token.Token.TheVariants.{Fixed, Name, Number, Text}
+use Rattle.ssb_tokens.specs.declared.token.Token.{Token}
+use Rattle.ssb_tokens.specs.declared.token.Token.TheVariants.{Fixed, Name, Number, Text}
 use Rattle.ssb_terms.specs.declared.keyword.Keyword.{Keyword}
-use Rattle.ssb_sql.specs.declared.token.Mark.{Mark}
-use Rattle.ssb_sql.specs.declared.token.Mark.TheVariants as marks
-use Rattle.ssb_sql.specs.declared.token.Sign.TheVariants as s
+use Rattle.ssb_tokens.specs.declared.token.Mark.{Mark}
+use Rattle.ssb_tokens.specs.declared.token.Mark.TheVariants as marks
+use Rattle.ssb_tokens.specs.declared.token.Sign.TheVariants as s
 use Rattle.ssb_sql.specs.declared.named.ColumnName.{ColumnName}
 use Rattle.ssb_terms.specs.declared.literal.Literal.{Literal}
 use Rattle.ssb_terms.specs.declared.literal.Literal.TheVariants as l

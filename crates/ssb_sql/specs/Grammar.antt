@@ -1,11 +1,11 @@
 -- Which tokens spell which query.
 -- Source: SQL-92, 7.9 <query specification>, 6.5 <set function specification>, 7.4 to 7.8 and 13.1 <order by clause>, cut down.
 use Rattle.std.specs.Prelude.{ℕ, true, false, List, [], ◌∷◌, Option, Some, None}
-use Rattle.ssb_sql.specs.declared.token.Token.{Token}
-use Rattle.ssb_sql.specs.declared.token.Token.TheVariants.{Name, Number}
+use Rattle.ssb_tokens.specs.declared.token.Token.{Token}
+use Rattle.ssb_tokens.specs.declared.token.Token.TheVariants.{Name, Number}
 use Rattle.ssb_terms.specs.declared.keyword.Keyword.{Keyword}
 use Rattle.ssb_terms.specs.declared.keyword.Keyword.TheVariants as words
-use Rattle.ssb_sql.specs.declared.token.Mark.TheVariants as marks
+use Rattle.ssb_tokens.specs.declared.token.Mark.TheVariants as marks
 use Rattle.ssb_sql.specs.declared.named.ColumnName.{ColumnName}
 use Rattle.ssb_trees.specs.declared.aggregate.Aggregate.TheVariants as a
 use Rattle.ssb_trees.specs.declared.aggregate.SetFunction.{SetFunction}

@@ -3,16 +3,16 @@
 use Rattle.std.specs.Prelude.{ℕ, zero, suc, Bool, true, false, List, ◌∷◌, Option, Some, None}
 use Rattle.ssb_terms.specs.declared.operator.Op.{Op}
 use Rattle.ssb_terms.specs.declared.operator.Op.TheVariants as op
-use Rattle.ssb_sql.specs.declared.token.Token.{Token}
-use Rattle.ssb_sql.specs.declared.token.Token.TheVariants.{Fixed}
-use Rattle.ssb_sql.specs.declared.token.Mark.{Mark}
+use Rattle.ssb_tokens.specs.declared.token.Token.{Token}
+use Rattle.ssb_tokens.specs.declared.token.Token.TheVariants.{Fixed}
+use Rattle.ssb_tokens.specs.declared.token.Mark.{Mark}
 use Rattle.ssb_terms.specs.declared.keyword.Keyword.TheVariants as words
-use Rattle.ssb_sql.specs.declared.token.Mark.TheVariants as marks
-use Rattle.ssb_sql.specs.declared.token.Sign.TheVariants as s
+use Rattle.ssb_tokens.specs.declared.token.Mark.TheVariants as marks
+use Rattle.ssb_tokens.specs.declared.token.Sign.TheVariants as s
 use Rattle.ssb_terms.specs.declared.literal.Literal.{Literal}
 use Rattle.ssb_trees.specs.declared.operand.Operand.TheVariants as o
 use Rattle.ssb_trees.specs.declared.condition.Condition.TheVariants as c
-use Rattle.ssb_sql.specs.Reading.{◌>>=◌}
+use Rattle.ssb_tokens.specs.Reading.{◌>>=◌}
 use Rattle.ssb_sql.specs.Steps.{Parser, choose, after, made_at, list_at, enclosed_at, parens_at}
 use Rattle.ssb_sql.specs.ReadParts.{literal_at, operand_at}
 use Rattle.ssb_trees.specs.Conditions.{Filter}

@@ -1,14 +1,14 @@
 -- Reading expressions.
 -- For the contracts inside this crate.
 use Rattle.std.specs.Prelude.{ℕ, zero, suc, List, [], ◌∷◌, Option, Some, None}
-use Rattle.ssb_sql.specs.declared.token.Token.{Token}
-use Rattle.ssb_sql.specs.declared.token.Token.TheVariants.{Number}
-use Rattle.ssb_sql.specs.declared.token.Mark.TheVariants as marks
-use Rattle.ssb_sql.specs.declared.token.Sign.TheVariants as s
+use Rattle.ssb_tokens.specs.declared.token.Token.{Token}
+use Rattle.ssb_tokens.specs.declared.token.Token.TheVariants.{Number}
+use Rattle.ssb_tokens.specs.declared.token.Mark.TheVariants as marks
+use Rattle.ssb_tokens.specs.declared.token.Sign.TheVariants as s
 use Rattle.ssb_terms.specs.declared.operator.Adding.{Adding}
 use Rattle.ssb_terms.specs.declared.operator.Adding.TheVariants as a
 use Rattle.ssb_trees.specs.declared.expr.Expr.TheVariants as e
-use Rattle.ssb_sql.specs.Reading.{◌>>=◌}
+use Rattle.ssb_tokens.specs.Reading.{◌>>=◌}
 use Rattle.ssb_sql.specs.Steps.{Parser, choose, after, more_at, made_at, enclosed_at}
 use Rattle.ssb_sql.specs.ReadParts.{column_at}
 use Rattle.ssb_sql.specs.Expressions.{sum_of}

@@ -1,14 +1,14 @@
 -- Reading columns, literals and operands.
 -- For the contracts inside this crate.
 use Rattle.std.specs.Prelude.{ℕ, nat_le, if◌then◌else◌, List, ◌∷◌, Option, Some, None, ℤ, pos, neg_ℤ}
-use Rattle.ssb_sql.specs.declared.token.Token.TheVariants.{Text}
-use Rattle.ssb_sql.specs.declared.token.Mark.TheVariants as marks
-use Rattle.ssb_sql.specs.declared.token.Sign.TheVariants as s
+use Rattle.ssb_tokens.specs.declared.token.Token.TheVariants.{Text}
+use Rattle.ssb_tokens.specs.declared.token.Mark.TheVariants as marks
+use Rattle.ssb_tokens.specs.declared.token.Sign.TheVariants as s
 use Rattle.ssb_sql.specs.declared.named.ColumnName.{ColumnName}
 use Rattle.ssb_terms.specs.declared.literal.Literal.{Literal}
 use Rattle.ssb_terms.specs.declared.literal.Literal.TheVariants as l
 use Rattle.ssb_trees.specs.declared.operand.Operand.TheVariants as o
-use Rattle.ssb_sql.specs.Reading.{◌>>=◌}
+use Rattle.ssb_tokens.specs.Reading.{◌>>=◌}
 use Rattle.ssb_sql.specs.Steps.{Parser, choose, after, name_at, number_at, is_literal_next, nonempty_at}
 use Rattle.ssb_trees.specs.declared.operand.Operand.{Operand}
 

@@ -1,12 +1,12 @@
 -- Reading queries.
 -- For the contracts inside this crate.
 use Rattle.std.specs.Prelude.{ℕ, suc, Bool, true, false, if◌then◌else◌, List, [], ◌∷◌, Option, Some, None}
-use Rattle.ssb_sql.specs.declared.token.Token.{Token}
-use Rattle.ssb_sql.specs.declared.token.Token.TheVariants.{Fixed, Name, Number}
+use Rattle.ssb_tokens.specs.declared.token.Token.{Token}
+use Rattle.ssb_tokens.specs.declared.token.Token.TheVariants.{Fixed, Name, Number}
 use Rattle.ssb_terms.specs.declared.keyword.Keyword.{Keyword}
 use Rattle.ssb_terms.specs.declared.keyword.Keyword.TheVariants as words
-use Rattle.ssb_sql.specs.declared.token.Mark.TheVariants as marks
-use Rattle.ssb_sql.specs.declared.token.Sign.TheVariants as s
+use Rattle.ssb_tokens.specs.declared.token.Mark.TheVariants as marks
+use Rattle.ssb_tokens.specs.declared.token.Sign.TheVariants as s
 use Rattle.ssb_sql.specs.declared.named.ColumnName.{ColumnName}
 use Rattle.ssb_trees.specs.declared.aggregate.Aggregate.TheVariants as a
 use Rattle.ssb_trees.specs.declared.aggregate.SetFunction.{SetFunction}
@@ -18,7 +18,7 @@ use Rattle.ssb_sql.specs.declared.select.Key.{Key}
 use Rattle.ssb_sql.specs.declared.select.Key.TheVariants as k
 use Rattle.ssb_sql.specs.declared.select.Order.{Order}
 use Rattle.ssb_sql.specs.declared.select.Select.{Select}
-use Rattle.ssb_sql.specs.Reading.{◌>>=◌}
+use Rattle.ssb_tokens.specs.Reading.{◌>>=◌}
 use Rattle.ssb_sql.specs.Steps.{Parser, choose, after, name_at, list_at, closed_at}
 use Rattle.ssb_sql.specs.ReadParts.{column_at}
 use Rattle.ssb_sql.specs.ReadExpressions.{expr_at}

@@ -4,10 +4,10 @@ use Rattle.std.specs.Prelude.{◌≡◌, ◌<◌, ◌≤◌, ℕ, List, length, 
 use Rattle.ssb_sql.specs.declared.fault.SqlFault.{SqlFault}
 use Rattle.ssb_sql.specs.declared.fault.SqlFault.TheVariants as fault
 use Rattle.ssb_sql.specs.declared.select.Select.{Select}
-use Rattle.ssb_sql.specs.declared.token.Token.{Token}
+use Rattle.ssb_tokens.specs.declared.token.Token.{Token}
 use Rattle.ssb_sql.specs.Depth.{IsWithin}
 use Rattle.ssb_sql.specs.Grammar.{Parses}
-use Rattle.ssb_sql.specs.Tokens.{IsTokens}
+use Rattle.ssb_tokens.specs.Tokens.{IsTokens}
 
 -- the text is a list of tokens, and those are the query
 pub record Spells (text : List ℕ) (select : Select) : Type 0 where

@@ -3,14 +3,14 @@
 use Rattle.std.specs.Prelude.{◌≡◌, ℕ, zero, suc, Bool, true, false, if◌then◌else◌, List, [], ◌∷◌, ◌++◌, length, ◌<◌, Option, Some, None, Result, nat_lt}
 use Rattle.std.specs.Borrow.{Bor}
 use Rattle.ssb_sql.specs.Forms.{chain_of}
-use Rattle.ssb_sql.specs.Reading.{Gives, ◌>>=◌, seen}
-use Rattle.ssb_sql.specs.declared.token.Token.{Token}
-use Rattle.ssb_sql.specs.declared.token.Token.TheVariants.{Fixed, Name, Number, Text}
-use Rattle.ssb_sql.specs.declared.token.Sign.{Sign}
-use Rattle.ssb_sql.specs.declared.token.Mark.TheVariants as marks
-use Rattle.ssb_sql.specs.declared.token.Sign.TheVariants as s
-use Rattle.ssb_sql.specs.contracts.token.SignPartialEq.TheImpl as signs
-use Rattle.ssb_sql.specs.declared.stop.Stop.{Stop}
+use Rattle.ssb_tokens.specs.Reading.{Gives, ◌>>=◌, seen}
+use Rattle.ssb_tokens.specs.declared.token.Token.{Token}
+use Rattle.ssb_tokens.specs.declared.token.Token.TheVariants.{Fixed, Name, Number, Text}
+use Rattle.ssb_tokens.specs.declared.token.Sign.{Sign}
+use Rattle.ssb_tokens.specs.declared.token.Mark.TheVariants as marks
+use Rattle.ssb_tokens.specs.declared.token.Sign.TheVariants as s
+use Rattle.ssb_tokens.specs.contracts.token.SignPartialEq.TheImpl as signs
+use Rattle.ssb_tokens.specs.declared.stop.Stop.{Stop}
 
 -- what was read, and what follows it
 abbrev pub Parser : Type 0 → Type 0

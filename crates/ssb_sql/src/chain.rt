@@ -1,12 +1,12 @@
 // Reading chains: lists with commas, conditions with AND and OR, products.
 
 ghost use Rattle.std.specs.Prelude.{◌≡◌, List, [], ◌∷◌};
-ghost use Rattle.ssb_sql.specs.Reading.{Gives, seen};
+ghost use Rattle.ssb_tokens.specs.Reading.{Gives, seen};
 ghost use Rattle.ssb_sql.specs.Steps.{Makes, Parser, Reads, Shrinks, after, chained_at, made_at};
 
 use crate::steps::{Parsed, after};
-use crate::token::{Mark, Sign, Token};
 use sqlite_items::Items;
+use ssb_tokens::{Mark, Sign, Token};
 use std::alloc::Global;
 
 /// What stands between the members of a list.

@@ -1,6 +1,6 @@
 // Why a text is no query.
 
-use std::alloc::AllocError;
+use ssb_tokens::Stop;
 use thiserror::Error;
 
 /// Why a text is no query, in the order of the checks: its length, its tokens, its depth, its
@@ -21,13 +21,16 @@ pub enum SqlFault {
     Memory,
 }
 
-impl From<AllocError> for SqlFault {
+impl From<Stop> for SqlFault {
     ghost use Rattle.std.specs.Prelude.{◌≡◌};
-    ghost use Rattle.ssb_sql.specs.declared.fault.SqlFault.TheVariants.{Memory};
+    ghost use Rattle.ssb_sql.specs.Told.{told};
 
-    ghost from_gives = { λ _ e. e ≡ Memory };
+    ghost from_gives = { λ stop fault. fault ≡ told stop };
 
-    fn from(_error: AllocError) -> SqlFault {
-        SqlFault::Memory
+    fn from(stop: Stop) -> SqlFault {
+        match stop {
+            Stop::Memory => SqlFault::Memory,
+            Stop::Syntax => SqlFault::Syntax,
+        }
     }
 }

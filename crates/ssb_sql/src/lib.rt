@@ -1,13 +1,11 @@
 //! The query language: from a text to the one query that it spells.
 //!
-//! [`read`] accepts exactly the texts of the grammar. `specs/Tokens.antt` says which texts are lists
-//! of tokens, `specs/Grammar.antt` which tokens are queries; neither knows how the text is read.
+//! [`read`] accepts exactly the texts of the grammar. `ssb_tokens` says which texts are lists of tokens,
+//! `specs/Grammar.antt` which tokens are queries; neither knows how the text is read.
 #![tactic(auto)]
 
 mod chain;
-mod class;
 pub mod fault;
-pub mod lex;
 pub mod named;
 mod parse;
 mod read_condition;
@@ -17,16 +15,11 @@ mod read_parts;
 mod read_select;
 mod read_test;
 mod read_text;
-mod scan;
 pub mod select;
 mod steps;
-mod stop;
-pub mod token;
 
 pub use fault::SqlFault;
-pub use lex::one_list_of_tokens;
 pub use named::ColumnName;
 pub use parse::one_meaning;
 pub use read_text::{one_select, read};
 pub use select::{Item, Key, Order, Output, Select};
-pub use token::{Mark, Sign, Token};

@@ -1,7 +1,7 @@
 // From tokens to the query that they spell.
 
 ghost use Rattle.std.specs.Prelude.{◌≡◌, ◌+◌, ◌<◌, ◌↔◌, ◌^◌, List, length, IsTrue};
-ghost use Rattle.ssb_sql.specs.declared.token.Token.{Token};
+ghost use Rattle.ssb_tokens.specs.declared.token.Token.{Token};
 ghost use Rattle.ssb_sql.specs.declared.select.Select.{Select};
 ghost use Rattle.ssb_sql.specs.Grammar.{Parses};
 ghost use Rattle.ssb_sql.specs.Exact.{Reads};
@@ -11,7 +11,7 @@ use crate::fault::SqlFault;
 use crate::read_select::query;
 use crate::select::Select;
 use crate::steps::is_fixed;
-use crate::token::{Mark, Sign, Token};
+use ssb_tokens::{Mark, Sign, Token};
 use std::alloc::Global;
 
 // How many parentheses may be open at once.

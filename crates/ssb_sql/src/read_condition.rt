@@ -1,21 +1,20 @@
 // Reading conditions. Only parentheses nest.
 
 ghost use Rattle.std.specs.Prelude.{◌≡◌, [], ◌∷◌, Some};
-ghost use Rattle.ssb_sql.specs.Reading.{Gives, seen};
+ghost use Rattle.ssb_tokens.specs.Reading.{Gives, seen};
 ghost use Rattle.ssb_sql.specs.Steps.{Makes, after, made_at, closed_at};
 ghost use Rattle.ssb_sql.specs.ReadConditions.{neg_at, conj_at, cond_at, test_at};
 ghost use Rattle.ssb_terms.specs.declared.keyword.Keyword.TheVariants as words;
-ghost use Rattle.ssb_sql.specs.declared.token.Sign.TheVariants as s;
+ghost use Rattle.ssb_tokens.specs.declared.token.Sign.TheVariants as s;
 ghost use Rattle.ssb_trees.specs.declared.condition.Condition.TheVariants as c;
 
 use crate::chain::made;
 use crate::read_parts::Subject;
 use crate::read_test::bare;
 use crate::steps::{Parsed, after, closing};
-use crate::stop::Stop;
-use crate::token::{Mark, Sign, Token};
 use sqlite_items::Boxed;
 use ssb_terms::Keyword;
+use ssb_tokens::{Mark, Sign, Stop, Token};
 use ssb_trees::{Condition, Filter};
 use std::alloc::Global;
 

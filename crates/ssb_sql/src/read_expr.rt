@@ -2,20 +2,19 @@
 
 ghost use Rattle.std.specs.Prelude.{◌≡◌, [], ◌∷◌, Some};
 ghost use Rattle.ssb_sql.specs.Expressions.{sum_of};
-ghost use Rattle.ssb_sql.specs.Reading.{Gives, seen, seen_if};
+ghost use Rattle.ssb_tokens.specs.Reading.{Gives, seen, seen_if};
 ghost use Rattle.ssb_sql.specs.Steps.{Makes, after, made_at, more_at, closed_at};
 ghost use Rattle.ssb_sql.specs.ReadExpressions.{bare_primary_at, primary_at, adding_at, signed, factor_at, term_at, step_at, expr_at};
-ghost use Rattle.ssb_sql.specs.declared.token.Mark.TheVariants as marks;
-ghost use Rattle.ssb_sql.specs.declared.token.Sign.TheVariants as s;
+ghost use Rattle.ssb_tokens.specs.declared.token.Mark.TheVariants as marks;
+ghost use Rattle.ssb_tokens.specs.declared.token.Sign.TheVariants as s;
 
 use crate::chain::made;
 use crate::named::ColumnName;
 use crate::read_parts::column;
 use crate::steps::{Parsed, after, closing};
-use crate::stop::Stop;
-use crate::token::{Mark, Sign, Token};
 use sqlite_items::{Boxed, Items};
 use ssb_terms::Adding;
+use ssb_tokens::{Mark, Sign, Stop, Token};
 use ssb_trees::{Expr, Step};
 use std::alloc::Global;
 

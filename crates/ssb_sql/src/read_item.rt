@@ -2,10 +2,10 @@
 
 ghost use Rattle.std.specs.Prelude.{◌≡◌, [], ◌∷◌};
 ghost use Rattle.std.specs.Option.{option_copied};
-ghost use Rattle.ssb_sql.specs.Reading.{Gives, seen, seen_if};
+ghost use Rattle.ssb_tokens.specs.Reading.{Gives, seen, seen_if};
 ghost use Rattle.ssb_sql.specs.Steps.{after, more_at, list_at};
 ghost use Rattle.ssb_sql.specs.ReadSelects.{function_of, function_at, star_at, aggregate_at, output_at, alias_at, item_at, key_at, order_at};
-ghost use Rattle.ssb_sql.specs.declared.token.Sign.TheVariants as s;
+ghost use Rattle.ssb_tokens.specs.declared.token.Sign.TheVariants as s;
 
 use crate::chain::{COMMA, chain};
 use crate::named::ColumnName;
@@ -13,10 +13,9 @@ use crate::read_expr::expression;
 use crate::read_parts::{Subject, column};
 use crate::select::{Item, Key, Order, Output};
 use crate::steps::{Parsed, after, closing, expect, name};
-use crate::stop::Stop;
-use crate::token::{Mark, Sign, Token};
 use sqlite_items::Items;
 use ssb_terms::{Keyword, Name};
+use ssb_tokens::{Mark, Sign, Stop, Token};
 use ssb_trees::{Aggregate, SetFunction};
 use std::alloc::Global;
 

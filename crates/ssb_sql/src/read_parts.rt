@@ -1,16 +1,15 @@
 // Reading columns, literals and operands.
 
 ghost use Rattle.std.specs.Prelude.{◌≡◌, ℕ, ◌∷◌, [], length, ◌<◌};
-ghost use Rattle.ssb_sql.specs.Reading.{Gives, seen};
+ghost use Rattle.ssb_tokens.specs.Reading.{Gives, seen};
 ghost use Rattle.ssb_sql.specs.Steps.{Parser, after, list_at, name_at, nonempty_at};
 ghost use Rattle.ssb_sql.specs.ReadParts.{column_at, small_literal_at, below_literal_at, plain_literal_at, literal_at, operand_at};
-ghost use Rattle.ssb_sql.specs.declared.token.Sign.TheVariants as s;
+ghost use Rattle.ssb_tokens.specs.declared.token.Sign.TheVariants as s;
 
 use crate::named::ColumnName;
 use crate::steps::{Parsed, after, is_literal_next, name, number};
-use crate::stop::Stop;
-use crate::token::{Mark, Sign, Token};
 use ssb_terms::Literal;
+use ssb_tokens::{Mark, Sign, Stop, Token};
 use ssb_trees::Operand;
 use std::alloc::Global;
 

@@ -1,12 +1,12 @@
 // Reading whole queries.
 
 ghost use Rattle.std.specs.Prelude.{◌≡◌, [], ◌∷◌, ◌+◌, ◌<◌, ◌^◌};
-ghost use Rattle.ssb_sql.specs.Reading.{Gives, seen};
+ghost use Rattle.ssb_tokens.specs.Reading.{Gives, seen};
 ghost use Rattle.ssb_sql.specs.Steps.{Parser, Reads, Shrinks, after, more_at, list_at, name_at};
 ghost use Rattle.ssb_sql.specs.ReadParts.{column_at};
 ghost use Rattle.ssb_sql.specs.ReadSelects.{item_at, output_at, filter_at, by_at, order_at, is_nil, ends, ordered_at, kept_at, grouped_at, filtered_at, joined_at, query_at};
-ghost use Rattle.ssb_sql.specs.declared.token.Mark.TheVariants as marks;
-ghost use Rattle.ssb_sql.specs.declared.token.Sign.TheVariants as s;
+ghost use Rattle.ssb_tokens.specs.declared.token.Mark.TheVariants as marks;
+ghost use Rattle.ssb_tokens.specs.declared.token.Sign.TheVariants as s;
 
 use crate::chain::{COMMA, chain};
 use crate::named::ColumnName;
@@ -15,10 +15,9 @@ use crate::read_item::{items, order};
 use crate::read_parts::{Subject, column};
 use crate::select::{Order, Output, Select};
 use crate::steps::{Parsed, after, expect, name};
-use crate::stop::Stop;
-use crate::token::{Mark, Sign, Token};
 use sqlite_items::Items;
 use ssb_terms::{Keyword, Name};
+use ssb_tokens::{Mark, Sign, Stop, Token};
 use ssb_trees::Filter;
 use std::alloc::Global;
 

@@ -1,19 +1,18 @@
 // Reading tests that have no parentheses round them.
 
 ghost use Rattle.std.specs.Prelude.{◌≡◌, [], ◌∷◌};
-ghost use Rattle.ssb_sql.specs.Reading.{Gives, seen, seen_if};
+ghost use Rattle.ssb_tokens.specs.Reading.{Gives, seen, seen_if};
 ghost use Rattle.ssb_sql.specs.Steps.{after, more_at, list_at};
 ghost use Rattle.ssb_sql.specs.ReadParts.{literal_at, operand_at};
 ghost use Rattle.ssb_sql.specs.ReadConditions.{op_of, op_at, limits_at, among_at, between_of, in_of, range_at, null_of, nulled_at, null_at, compared_at, tail_at, bare_at};
-ghost use Rattle.ssb_sql.specs.declared.token.Sign.TheVariants as s;
+ghost use Rattle.ssb_tokens.specs.declared.token.Sign.TheVariants as s;
 
 use crate::chain::{COMMA, chain};
 use crate::read_parts::{Subject, literal, operand};
 use crate::steps::{Parsed, after, closing, expect, followed};
-use crate::stop::Stop;
-use crate::token::{Mark, Sign, Token};
 use sqlite_items::Items;
 use ssb_terms::{Keyword, Literal, Op};
+use ssb_tokens::{Mark, Sign, Stop, Token};
 use ssb_trees::{Condition, Filter, Operand};
 use std::alloc::Global;
 

@@ -3,9 +3,9 @@
 ghost use Rattle.ssb_sql.specs.Spells.{OneSelect, ReadsText};
 
 use crate::fault::SqlFault;
-use crate::lex::lex;
 use crate::parse::parse;
 use crate::select::Select;
+use ssb_tokens::lex;
 use std::alloc::Global;
 
 // The most bytes that a query may have.

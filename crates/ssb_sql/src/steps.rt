@@ -2,14 +2,13 @@
 
 ghost use Rattle.std.specs.Prelude.{◌≡◌};
 ghost use Rattle.std.specs.Option.{option_copied};
-ghost use Rattle.ssb_sql.specs.Reading.{Gives, seen};
+ghost use Rattle.ssb_tokens.specs.Reading.{Gives, seen};
 ghost use Rattle.ssb_sql.specs.Steps.{followed_at, is_fixed, after, name_at, number_at, is_literal_next};
-ghost use Rattle.ssb_sql.specs.declared.token.Mark.TheVariants as marks;
-ghost use Rattle.ssb_sql.specs.declared.token.Sign.TheVariants as s;
+ghost use Rattle.ssb_tokens.specs.declared.token.Mark.TheVariants as marks;
+ghost use Rattle.ssb_tokens.specs.declared.token.Sign.TheVariants as s;
 
-use crate::stop::Stop;
-use crate::token::{Mark, Sign, Token};
 use ssb_terms::Name;
+use ssb_tokens::{Mark, Sign, Stop, Token};
 use std::alloc::Global;
 
 /// What was read, and the tokens behind it.

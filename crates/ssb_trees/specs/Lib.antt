@@ -1,3 +1,4 @@
 pub mod Conditions
 pub mod Expressions
 pub mod Lists
+pub mod Types

@@ -1,5 +1,0 @@
-use Rattle.ssb_bind.proofs.TextColumns.{text_is_column}
-use Rattle.ssb_bind.proofs.law.texts_are_columns.Goals as goal
-
-pub returns : goal.returns
-returns g c = λ kind e h. text_is_column _ kind e h

@@ -1,0 +1,6 @@
+pub mod Cells
+pub mod CodedFacts
+pub mod RangeFacts
+pub mod Together
+pub mod UnitedFacts
+mod Saying

@@ -1,0 +1,5 @@
+pub mod Class
+pub mod Lexes
+pub mod Reading
+pub mod Scanning
+pub mod Tokens

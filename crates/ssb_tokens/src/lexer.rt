@@ -109,7 +109,7 @@ fn token(alloc: Global, bytes: &[u8]) -> Result<(Token, &[u8]), Stop>
     }
 }
 
-/// The tokens that a text is made of, or `Syntax` where it is no list of tokens.
+/// A text's tokens (SQL-92, 5.2); `Syntax` where it is no list of them, `Memory` where a growth was refused.
 pub fn lex(alloc: Global, text: &str) -> Result<Items<Token>, Stop>
     ensures { Lexes text.now result }
 {

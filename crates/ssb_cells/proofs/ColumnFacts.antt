@@ -1,15 +1,16 @@
 -- What a column's flags and values give as cells.
 use Rattle.std.proofs.Common.{◌≡◌, ℕ, zero, suc, Bool, true, false, List, [], ◌∷◌, ◌++◌, length, slice_get, None, Some, cond, refl, sym, ap, arith, ◌+◌, ◌<◌, get_or, true≢false, ◌∙◌, length-append}
 use Rattle.std.proofs.lemmas.Option.{get_or_from_slice_get, none-some, same_Some, slice_get_within}
-use Rattle.ssb_cells.specs.Cell.{Cell, null, number, text}
+use Rattle.ssb_values.specs.Cell.{Cell, null, number, text}
 use Rattle.ssb_terms.specs.declared.rule.ColType.TheVariants as kinds
-use Rattle.ssb_cells.specs.Values.{cell_of, is_null_value, IsOfType}
-use Rattle.ssb_cells.specs.declared.value.Value.{Value}
-use Rattle.ssb_cells.specs.declared.value.Value.TheVariants as values
+use Rattle.ssb_values.specs.Values.{cell_of, is_null_value}
+use Rattle.ssb_values.specs.declared.value.Value.{Value}
+use Rattle.ssb_values.specs.declared.value.Value.TheVariants as values
 use Rattle.ssb_cells.specs.declared.column.Stored.{Stored}
 use Rattle.ssb_cells.specs.declared.column.Stored.TheVariants as stored
 use Rattle.ssb_cells.specs.Codes.{cell_code, code_at, code_of, with_text, texts_of}
 use Rattle.ssb_cells.specs.declared.texts.Texts.{Texts}
+use Rattle.ssb_cells.specs.Lawful.{FitsType}
 use Rattle.ssb_cells.specs.Stored.{AreBelow, IsSpelt, HasRoom, cells_by, cells_in, code_for, count_in, kind_of, number_in, spelt, with_value}
 use Rattle.ssb_cells.proofs.CodeFacts.{code-of, kept-code, length-texts, own-code, texts-more}
 
@@ -76,23 +77,23 @@ push-below n [] (c ∷ cs) b code e below new = absurd (omega arith)
 push-below n (d ∷ bs) [] b code e below new = absurd (omega arith)
 push-below n (d ∷ bs) (c ∷ cs) b code e below new = (below.0, push-below n bs cs b code (omega arith) below.1 new)
 
-cell-int : (v : Value) → IsOfType kinds.Int v → cell_of v ≡ cond (is_null_value v) null (number (number_in v))
+cell-int : (v : Value) → FitsType kinds.Int (cell_of v) → cell_of v ≡ cond (is_null_value v) null (number (number_in v))
 cell-int values.Null h = refl
 cell-int (values.Int n) h = refl
 cell-int (values.Text t) h = absurd h
 
-cell-text : (texts : List (List ℕ)) (v : Value) → IsOfType kinds.Text v → cell_of v ≡ cond (is_null_value v) null (spelt (with_text texts (cell_of v)) (code_for texts v))
+cell-text : (texts : List (List ℕ)) (v : Value) → FitsType kinds.Text (cell_of v) → cell_of v ≡ cond (is_null_value v) null (spelt (with_text texts (cell_of v)) (code_for texts v))
 cell-text texts values.Null h = refl
 cell-text texts (values.Int n) h = absurd h
 cell-text texts (values.Text t) h = ap text (sym (own-code texts t.now).1)
 
-code-text : (texts : List (List ℕ)) (v : Value) → IsOfType kinds.Text v → is_null_value v ≡ false → code_for texts v < length (with_text texts (cell_of v))
+code-text : (texts : List (List ℕ)) (v : Value) → FitsType kinds.Text (cell_of v) → is_null_value v ≡ false → code_for texts v < length (with_text texts (cell_of v))
 code-text texts values.Null h e = absurd (true≢false e)
 code-text texts (values.Int n) h e = absurd h
 code-text texts (values.Text t) h e = (own-code texts t.now).0
 
 -- a value more
-pub push-in : (s : Stored) (nulls : List Bool) (v : Value) → length nulls ≡ count_in s → IsSpelt s nulls → IsOfType (kind_of s) v → cells_in (with_value s v) (nulls ++ is_null_value v ∷ []) ≡ cells_in s nulls ++ cell_of v ∷ []
+pub push-in : (s : Stored) (nulls : List Bool) (v : Value) → length nulls ≡ count_in s → IsSpelt s nulls → FitsType (kind_of s) (cell_of v) → cells_in (with_value s v) (nulls ++ is_null_value v ∷ []) ≡ cells_in s nulls ++ cell_of v ∷ []
 push-in (stored.Int n) nulls v e spelt typed = push-cells_by number nulls n (is_null_value v) (number_in v) e ∙ ap (λ c. cells_by number nulls n ++ c ∷ []) (sym (cell-int v typed))
 push-in (stored.Text t) nulls v e is typed =
     let more = with_text t.dictionary (cell_of v) in
@@ -100,7 +101,7 @@ push-in (stored.Text t) nulls v e is typed =
     ∙ ap (λ c. cells_by (spelt more) nulls t.codes ++ c ∷ []) (sym (cell-text t.dictionary v typed))
     ∙ ap (λ cs. cs ++ cell_of v ∷ []) (stay t.dictionary (cell_of v) nulls t.codes is.1).1
 
-pub spelt-more : (s : Stored) (nulls : List Bool) (v : Value) → length nulls ≡ count_in s → IsSpelt s nulls → IsOfType (kind_of s) v → IsSpelt (with_value s v) (nulls ++ is_null_value v ∷ [])
+pub spelt-more : (s : Stored) (nulls : List Bool) (v : Value) → length nulls ≡ count_in s → IsSpelt s nulls → FitsType (kind_of s) (cell_of v) → IsSpelt (with_value s v) (nulls ++ is_null_value v ∷ [])
 spelt-more (stored.Int n) nulls v e is typed = tt
 spelt-more (stored.Text t) nulls v e is typed = (
   ap (λ texts. with_text texts (cell_of v)) is.0 ∙ sym (texts-more (cells_by (spelt t.dictionary) nulls t.codes) (cell_of v)) ∙ ap texts_of (sym (push-in (stored.Text t) nulls v e is typed)),

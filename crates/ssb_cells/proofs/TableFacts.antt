@@ -1,7 +1,7 @@
 -- A table's columns and cells.
 use Rattle.std.proofs.Common.{◌≡◌, ℕ, ◌<◌, zero, suc, List, [], ◌∷◌, length, get_or, slice_get, Some, ap, ◌∙◌, arith}
-use Rattle.ssb_cells.specs.Cell.{Cell, Filled}
-use Rattle.ssb_cells.specs.Tables.{AreLong, cell_in_column, cell_at}
+use Rattle.ssb_values.specs.Cell.{Cell}
+use Rattle.ssb_cells.specs.Tables.{Filled, AreLong, cell_in_column, cell_at}
 
 -- each column of a table has so many values
 pub long-at : (n i : ℕ) (cs : List Filled) (d : Filled) → AreLong n cs → i < length cs → length (get_or cs i d).values ≡ n

@@ -1,13 +1,8 @@
-pub mod Cell
 pub mod Codes
-pub mod Compare
 pub mod Joined
 pub mod Lawful
 pub mod Lent
-pub mod Order
 pub mod Parts
 pub mod Spelling
 pub mod Stored
 pub mod Tables
-pub mod Truth
-pub mod Values

@@ -1,7 +1,13 @@
--- What a contract sees of a table: its columns, all of one length.
+-- What a contract sees of a column and of a table: columns, all of one length.
 -- Source: own.
 use Rattle.std.specs.Prelude.{◌≡◌, ℕ, List, [], ◌∷◌, length, Option, Some, None, slice_get, ⊤}
-use Rattle.ssb_cells.specs.Cell.{Cell, Filled}
+use Rattle.ssb_terms.specs.declared.rule.ColType.{ColType}
+use Rattle.ssb_values.specs.Cell.{Cell}
+
+-- a column: its type, and its values in order
+pub record Filled : Type 0 where
+  pub kind : ColType
+  pub values : List Cell
 
 -- a table is the list of its columns
 abbrev pub Columns : Type 0

@@ -2,20 +2,22 @@
 
 ghost use Rattle.std.specs.Prelude.{◌≡◌, ◌<◌, ◌≤◌, ◌+◌, ◌↔◌, ℕ, List, [], ◌∷◌, ◌++◌, length, Contains, OnOk, OnErr, IfOk, slice_get, None, Some, ◌==◌};
 ghost use Rattle.std.specs.Option.{IsSome};
-ghost use Rattle.ssb_cells.specs.Cell.{Cell, Filled, null, text};
+ghost use Rattle.ssb_values.specs.Cell.{Cell, null, text};
+ghost use Rattle.ssb_cells.specs.Tables.{Filled};
 ghost use Rattle.ssb_cells.specs.Codes.{code_at, code_of, texts_of};
 ghost use Rattle.ssb_cells.specs.Joined.{HasRoomFor, IsJoined};
+ghost use Rattle.ssb_cells.specs.Lawful.{FitsType};
 ghost use Rattle.ssb_cells.specs.Lent.{AreCodes, AreNulls, AreNumbers};
 ghost use Rattle.ssb_packed.specs.Lent.{codes_in, numbers_in};
-ghost use Rattle.ssb_cells.specs.Stored.{HasRoom, IsWhole, filled, kind_of, with_value};
-ghost use Rattle.ssb_cells.specs.Values.{cell_of, IsOfType};
+ghost use Rattle.ssb_cells.specs.Stored.{HasRoom, IsWhole, filled, kind_of, number_in, with_value};
+ghost use Rattle.ssb_values.specs.Values.{cell_of};
 ghost use Rattle.ssb_cells.specs.declared.column.Stored.TheVariants as kept;
 ghost use Rattle.ssb_terms.specs.declared.rule.ColType.TheVariants as kinds;
 
 use crate::texts::Texts;
-use crate::value::Value;
 use ssb_packed::{CodeSlice, Nulls, NumberSlice, Numbers, Width};
 use ssb_terms::ColType;
+use ssb_values::Value;
 use std::alloc::{AllocError, Global};
 use std::marker::Model;
 
@@ -62,6 +64,16 @@ impl Model for Column {
     ghost invariant = { IsWhole };
 }
 
+// The number that a value is, or 0 where it is none.
+fn number_in(value: Value<'_>) -> i64
+    ensures { result ≡ number_in value.entry }
+{
+    match value {
+        Value::Int(number) => number,
+        _ => 0,
+    }
+}
+
 // Adds what a value stores. An `Err` changes nothing.
 fn store(stored: &mut Stored, value: Value<'_>) -> Result<(), AllocError>
     requires { HasRoom stored.old }
@@ -69,7 +81,7 @@ fn store(stored: &mut Stored, value: Value<'_>) -> Result<(), AllocError>
     ensures err { OnErr result (stored.new ≡ stored.old) }
 {
     match stored {
-        Stored::Int(numbers) => numbers.push(value.number()),
+        Stored::Int(numbers) => numbers.push(number_in(value)),
         Stored::Text(texts) => texts.push(value),
     }
 }
@@ -129,7 +141,7 @@ impl Column {
 
     /// Adds a value at the end: null, or one of the column's type. An `Err` changes nothing.
     pub fn push(&mut self, value: Value<'_>) -> Result<(), AllocError>
-        requires of_type { IsOfType self.old.kind value }
+        requires of_type { FitsType self.old.kind (cell_of value) }
         requires room { length self.old.values < 4294967295 }
         ensures ok { OnOk result (self.new ≡ record self.old { values = self.old.values ++ cell_of value.entry ∷ [] }) }
         ensures err { OnErr result (self.new ≡ self.old) }

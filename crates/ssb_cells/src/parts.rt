@@ -19,7 +19,7 @@ pub struct ColumnParts {
 }
 
 impl Model for ColumnParts {
-    ghost use Rattle.ssb_cells.specs.Cell.{Filled};
+    ghost use Rattle.ssb_cells.specs.Tables.{Filled};
 
     ghost Value = { Filled };
 

@@ -1,6 +1,6 @@
 pub mod Coded
 pub mod Holds
+pub mod Local
 pub mod Only
-pub mod Own
 pub mod Ranged
 pub mod Rows

@@ -6,8 +6,8 @@
 
 pub mod coded;
 mod evaluation;
+pub mod local;
 mod only;
-pub mod own;
 pub mod ranged;
 mod united;
 pub mod valuation;
@@ -15,8 +15,8 @@ mod value;
 
 pub use coded::CodeTest;
 pub use evaluation::{all_true, eval, truth_of};
+pub use local::{LocalTest, local_tests, meets_local};
 pub use only::only_at;
-pub use own::{OwnTest, meets_own, own_tests};
 pub use ranged::RangeTest;
 pub use valuation::{Valuation, literal_value};
 pub use value::{cell, column_value, table_at};

@@ -3,7 +3,7 @@ use Rattle.std.proofs.Common.{◌≡◌, ◌∙◌, ◌++◌, ◌+◌, ◌≤◌
 use Rattle.std.proofs.lemmas.Bool.Decides.{leb_tells}
 use Rattle.std.proofs.lemmas.Grind.{flat_map-append}
 use Rattle.std.proofs.lemmas.List.{append-nil, map-append}
-use Rattle.ssb_cells.specs.Cell.{Filled}
+use Rattle.ssb_cells.specs.Tables.{Filled}
 use Rattle.ssb_load.specs.Assembly.{IsAssembled, IsHeld, all_in, subject_in}
 use Rattle.ssb_records.specs.Intake.{Refuses}
 use Rattle.ssb_load.specs.Subject.{judge, table}

@@ -3,7 +3,7 @@ use Rattle.std.proofs.Common.{◌≡◌, ◌∙◌, ◌++◌, ◌+◌, ℕ, Bool
 use Rattle.std.proofs.lemmas.Bool.{false≢true}
 use Rattle.std.proofs.lemmas.Grind.{flat_map-append}
 use Rattle.std.proofs.lemmas.List.{append-nil, map-append}
-use Rattle.ssb_cells.specs.Cell.{Filled}
+use Rattle.ssb_cells.specs.Tables.{Filled}
 use Rattle.ssb_load.specs.Assembly.{AreParts, Begins, Halts, IsAssembled, IsHeld, IsWhole, RefusesAll, all_in, lead, subject_in}
 use Rattle.ssb_records.specs.CutShort.{IsCutShort}
 use Rattle.ssb_records.specs.Intake.{AreGood, Refuses}

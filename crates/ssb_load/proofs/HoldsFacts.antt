@@ -2,8 +2,7 @@
 use Rattle.std.proofs.Common.{◌≡◌, ◌∙◌, ◌++◌, ◌+◌, ℕ, ℤ, Bool, true, false, cond, ◌||◌, List, [], ◌∷◌, length, take, get_or, zero, suc, ◌<◌, ◌≤◌, add-one, Option, Some, None, refl, sym, ap, arith}
 use Rattle.std.proofs.lemmas.Cmp.{int_eq_equiv}
 use Rattle.std.proofs.lemmas.List.{length-map, map-append, take_all}
-use Rattle.ssb_cells.specs.Cell.{Filled}
-use Rattle.ssb_cells.specs.Tables.{AreLong, rows_in}
+use Rattle.ssb_cells.specs.Tables.{Filled, AreLong, rows_in}
 use Rattle.ssb_load.proofs.RuleFacts.{sized-len}
 use Rattle.ssb_records.specs.Records.{Fields}
 use Rattle.ssb_load.specs.Rules.{is_key_taken, key_of, is_value, columns_from, columns_of}

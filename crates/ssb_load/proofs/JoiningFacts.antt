@@ -3,8 +3,7 @@ use Rattle.std.proofs.Common.{◌≡◌, ◌∙◌, ◌+◌, ◌<◌, ◌++◌, 
 use Rattle.std.specs.Bool.{⊤}
 use Rattle.std.proofs.lemmas.Grind.{flat_map-append}
 use Rattle.std.proofs.lemmas.List.{append-nil, length-map, map-append}
-use Rattle.ssb_cells.specs.Cell.{Filled}
-use Rattle.ssb_cells.specs.Tables.{AreLong, rows_in}
+use Rattle.ssb_cells.specs.Tables.{Filled, AreLong, rows_in}
 use Rattle.ssb_load.specs.Assembly.{AreParts, all_in}
 use Rattle.ssb_load.specs.Subject.{table}
 use Rattle.ssb_load.specs.Joining.{AreColumnsOf, FitBehind, behind_each}

@@ -1,9 +1,10 @@
 -- The rules of a table's columns, one after the other.
 use Rattle.std.proofs.Common.{◌≡◌, ◌∙◌, ◌+◌, ◌<◌, ◌≤◌, ◌||◌, ℕ, zero, suc, Bool, false, cond, List, [], ◌∷◌, length, drop, get_or, Some, None, refl, ap, arith, add-one}
 use Rattle.std.proofs.Math.ListN.{set}
-use Rattle.ssb_cells.specs.Cell.{Filled}
-use Rattle.ssb_cells.specs.Values.{IsOfType, cell_of}
-use Rattle.ssb_cells.specs.declared.value.Value.{Value}
+use Rattle.ssb_cells.specs.Tables.{Filled}
+use Rattle.ssb_cells.specs.Lawful.{FitsType}
+use Rattle.ssb_values.specs.Values.{cell_of}
+use Rattle.ssb_values.specs.declared.value.Value.{Value}
 use Rattle.ssb_records.specs.Records.{Fields, field}
 use Rattle.ssb_terms.specs.Roles.{key_from, is_key}
 use Rattle.ssb_load.specs.Rules.{any_from, cell_in}
@@ -113,5 +114,5 @@ column-size count k ps cs now r q d sized lt now_is is =
     rw (← same) at (sized-at count k ps cs q d sized lt)
 
 pub column-kind : (count k : ℕ) (ps : List Rule) (cs now : List Filled) (r : Fields) (q : Rule) (d : Filled) (v : Value) → AreSized count ps cs → k < length ps
-    → now ≡ with_front k 0 ps cs r → d ≡ get_or now k d → IsOfType (get_or ps k q).kind v → IsOfType d.kind v
+    → now ≡ with_front k 0 ps cs r → d ≡ get_or now k d → FitsType (get_or ps k q).kind (cell_of v) → FitsType d.kind (cell_of v)
 column-kind count k ps cs now r q d v sized lt now_is is typed = rw (← (column-size count k ps cs now r q d sized lt now_is is).0) at typed

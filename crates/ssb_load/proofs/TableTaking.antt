@@ -1,7 +1,7 @@
 -- A table on its way: a record that is refused, and what the end says.
 use Rattle.std.proofs.Common.{◌≡◌, ◌∙◌, ◌++◌, ◌<◌, ℕ, List, [], ◌∷◌, Option, None, Some, Ok, Err, IfSome, refl, sym, ap}
 use Rattle.std.proofs.lemmas.List.{append-nil}
-use Rattle.ssb_cells.specs.Cell.{Filled}
+use Rattle.ssb_cells.specs.Tables.{Filled}
 use Rattle.ssb_load.specs.Subject.{Subject, judge, table}
 use Rattle.ssb_records.specs.Intake as intake
 use Rattle.ssb_cells.specs.Lawful.{HasOneKey, IsLawful}

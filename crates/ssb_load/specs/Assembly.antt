@@ -2,7 +2,7 @@
 -- For the contracts inside this crate.
 use Rattle.std.specs.Prelude.{◌≡◌, ◌+◌, ◌++◌, ◌≤◌, ◌<◌, ◌^◌, ◌∷◌, [], ℕ, Bool, true, false, List, length, map, None, ⊤}
 use Rattle.std.specs.List.{flat_map}
-use Rattle.ssb_cells.specs.Cell.{Filled}
+use Rattle.ssb_cells.specs.Tables.{Filled}
 use Rattle.ssb_records.specs.CutShort.{IsCutShort}
 use Rattle.ssb_records.specs.Intake.{AreGood, Refuses}
 use Rattle.ssb_load.specs.Subject.{RefusesRow, Subject, judge}

@@ -1,7 +1,7 @@
 -- Columns of parts, put behind those before them.
 -- For the contracts inside this crate.
 use Rattle.std.specs.Prelude.{◌≡◌, ◌+◌, ◌++◌, ◌<◌, ◌∷◌, [], List, length, map, ⊤}
-use Rattle.ssb_cells.specs.Cell.{Filled}
+use Rattle.ssb_cells.specs.Tables.{Filled}
 use Rattle.ssb_load.specs.Assembly.{all_in}
 use Rattle.ssb_records.specs.Records.{Fields}
 use Rattle.ssb_load.specs.Rules.{columns_of}

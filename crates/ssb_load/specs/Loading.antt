@@ -1,7 +1,7 @@
 -- What loading a table answers, of records, of bytes, and of a source.
 -- Source: own.
 use Rattle.std.specs.Prelude.{◌≡◌, ◌<◌, ◌++◌, ℕ, List, [], slice_get, Result, Ok, Err, Option, None, Some, ⊤, IfErr, IfOk, IfSome, OnOk}
-use Rattle.ssb_cells.specs.Cell.{Filled}
+use Rattle.ssb_cells.specs.Tables.{Filled}
 use Rattle.ssb_records.specs.CutShort.{IsCutShort, IsGoodBefore, IfRead}
 use Rattle.ssb_records.specs.Giving.{given_since}
 use Rattle.ssb_cells.specs.Lawful.{IsLawful}

@@ -3,7 +3,7 @@
 use Rattle.std.specs.Prelude.{◌+◌, ◌++◌, ◌∷◌, ℕ, ℤ, Bool, false, List, [], length, not, nat_le, Option, Some, None, Result, Ok, Err, if◌then◌else◌}
 use Rattle.std.specs.List.{list_all}
 use Rattle.std.specs.Str.{is_utf8}
-use Rattle.ssb_cells.specs.Cell.{Filled}
+use Rattle.ssb_cells.specs.Tables.{Filled}
 use Rattle.ssb_records.specs.Records.{Fields}
 use Rattle.ssb_load.specs.Rules.{any_field, is_bad_number, is_missing, is_too_long, key_of, is_key_taken, columns_of}
 use Rattle.ssb_records.specs.Width.{has_width}

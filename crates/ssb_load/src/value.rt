@@ -1,14 +1,15 @@
 // One field under its rule.
 
 ghost use Rattle.std.specs.Prelude.{◌≡◌, ◌||◌, is_none, IfSome};
-ghost use Rattle.ssb_cells.specs.Values.{cell_of, IsOfType};
+ghost use Rattle.ssb_cells.specs.Lawful.{FitsType};
+ghost use Rattle.ssb_values.specs.Values.{cell_of};
 ghost use Rattle.ssb_load.specs.Rules.{cell_in};
 ghost use Rattle.ssb_load.specs.Loader.{fails};
 ghost use Rattle.ssb_load.specs.declared.value.Test.TheVariants as tests;
 
 use crate::number::number;
-use ssb_cells::Value;
 use ssb_terms::{ColType, Rule};
+use ssb_values::Value;
 
 const MAX_TEXT: usize = 4096;
 
@@ -27,7 +28,7 @@ pub(crate) enum Test {
 pub(crate) fn value_of<'a>(rule: Rule, text: &'a str) -> Option<Value<'a>>
     ensures fails { is_none result ≡ (fails tests.Number rule text.now || (fails tests.Value rule text.now || fails tests.Length rule text.now)) }
     ensures cell { IfSome result (λ v. cell_of v ≡ cell_in rule.kind text.now) }
-    ensures kind { IfSome result (λ v. IsOfType rule.kind v) }
+    ensures kind { IfSome result (λ v. FitsType rule.kind (cell_of v)) }
 {
     if text.is_empty() {
         if rule.role.needs_value() {

@@ -3,11 +3,11 @@
 use Rattle.std.specs.Prelude.{Bool}
 use Rattle.std.specs.Ordering.{is_eq, is_ne, is_lt, is_le, is_gt, is_ge}
 use Rattle.std.specs.declared.cmp.Ordering.{Ordering}
-use Rattle.ssb_cells.specs.Cell.{Cell, null}
-use Rattle.ssb_cells.specs.Order.{cell_cmp}
-use Rattle.ssb_cells.specs.Truth.{truth}
-use Rattle.ssb_cells.specs.declared.truth.Truth.{Truth}
-use Rattle.ssb_cells.specs.declared.truth.Truth.TheVariants.{Unknown}
+use Rattle.ssb_values.specs.Cell.{Cell, null}
+use Rattle.ssb_values.specs.Order.{cell_cmp}
+use Rattle.ssb_values.specs.Truth.{truth}
+use Rattle.ssb_values.specs.declared.truth.Truth.{Truth}
+use Rattle.ssb_values.specs.declared.truth.Truth.TheVariants.{Unknown}
 use Rattle.ssb_terms.specs.declared.operator.Op.{Op}
 use Rattle.ssb_terms.specs.declared.operator.Op.TheVariants.{Eq, Ne, Lt, Le, Gt, Ge}
 

@@ -1,8 +1,8 @@
 -- Three-valued logic: AND, OR and NOT of True, False and Unknown.
 -- Source: SQL-92, 8.12 <search condition>, its truth tables; 7.6 <where clause> for what it keeps.
 use Rattle.std.specs.Prelude.{Bool, true, false, List, [], ◌∷◌}
-use Rattle.ssb_cells.specs.declared.truth.Truth.{Truth}
-use Rattle.ssb_cells.specs.declared.truth.Truth.TheVariants.{True, False, Unknown}
+use Rattle.ssb_values.specs.declared.truth.Truth.{Truth}
+use Rattle.ssb_values.specs.declared.truth.Truth.TheVariants.{True, False, Unknown}
 
 abbrev pub and : Truth → Truth → Truth
 and True t = t

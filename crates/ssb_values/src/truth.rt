@@ -1,7 +1,7 @@
 // Three-valued logic.
 
 ghost use Rattle.std.specs.Prelude.{◌≡◌};
-ghost use Rattle.ssb_cells.specs.Truth.{and, is_true, not, or};
+ghost use Rattle.ssb_values.specs.Truth.{and, is_true, not, or};
 
 /// What a condition says of a row: with nulls there are three answers. (SQL-92, 8.12.)
 #[derive(Clone, Copy, PartialEq, Eq, Debug)]

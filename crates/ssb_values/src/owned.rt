@@ -1,7 +1,7 @@
 // Values that are kept.
 
 ghost use Rattle.std.specs.Prelude.{◌≡◌, IfOk};
-ghost use Rattle.ssb_cells.specs.Values.{cell_of, owned_cell};
+ghost use Rattle.ssb_values.specs.Values.{cell_of, owned_cell};
 
 use crate::value::Value;
 use std::alloc::{AllocError, Global};

@@ -5,7 +5,7 @@ use Rattle.std.specs.Ordering.{int_cmp, nat_cmp}
 use Rattle.std.specs.Cmp.Lexicographic.{slice_cmp}
 use Rattle.std.specs.declared.cmp.Ordering.{Ordering}
 use Rattle.std.specs.declared.cmp.Ordering.TheVariants.{Less, Equal, Greater}
-use Rattle.ssb_cells.specs.Cell.{Cell, null, number, text}
+use Rattle.ssb_values.specs.Cell.{Cell, null, number, text}
 
 -- null is least, then come numbers by their size, then texts by their bytes, a beginning first
 abbrev pub cell_cmp : Cell → Cell → Ordering

@@ -1,9 +1,9 @@
 // Two values beside each other: what a comparison says of them, and which comes first.
 
 ghost use Rattle.std.specs.Prelude.{◌≡◌};
-ghost use Rattle.ssb_cells.specs.Compare.{compare, meets};
-ghost use Rattle.ssb_cells.specs.Order.{cell_cmp};
-ghost use Rattle.ssb_cells.specs.Values.{cell_of};
+ghost use Rattle.ssb_values.specs.Compare.{compare, meets};
+ghost use Rattle.ssb_values.specs.Order.{cell_cmp};
+ghost use Rattle.ssb_values.specs.Values.{cell_of};
 
 use crate::truth::Truth;
 use crate::value::Value;

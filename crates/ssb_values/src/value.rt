@@ -14,8 +14,7 @@ pub enum Value<'a> {
 }
 
 impl<'a> Value<'a> {
-    ghost use Rattle.ssb_cells.specs.Stored.{number_in};
-    ghost use Rattle.ssb_cells.specs.Values.{is_null_value};
+    ghost use Rattle.ssb_values.specs.Values.{is_null_value};
 
     /// Whether there is no value.
     pub fn is_null(self) -> bool
@@ -24,16 +23,6 @@ impl<'a> Value<'a> {
         match self {
             Value::Null => true,
             _ => false,
-        }
-    }
-
-    // The number that it is, or 0 where it is none.
-    pub(crate) fn number(self) -> i64
-        ensures { result ≡ number_in self.entry }
-    {
-        match self {
-            Value::Int(number) => number,
-            _ => 0,
         }
     }
 }

@@ -6,8 +6,8 @@ use Rattle.std.specs.Cmp.Lexicographic.{slice_cmp, nat_list_cmp_total, texts_tie
 use Rattle.std.specs.Ordering.{is_eq, int_cmp, nat_cmp, ordering_reverse, ordering_then, on, then_cmp, MatchOrdering}
 use Rattle.std.specs.declared.cmp.Ordering.{Ordering}
 use Rattle.std.specs.declared.cmp.Ordering.TheVariants.{Less, Equal, Greater}
-use Rattle.ssb_cells.specs.Cell.{Cell, null, number, text}
-use Rattle.ssb_cells.specs.Order.{cell_cmp}
+use Rattle.ssb_values.specs.Cell.{Cell, null, number, text}
+use Rattle.ssb_values.specs.Order.{cell_cmp}
 
 -- ---- by three orders, one after the other
 

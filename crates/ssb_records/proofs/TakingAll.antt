@@ -4,8 +4,8 @@ use Rattle.std.proofs.lemmas.Bool.{false≢true}
 use Rattle.std.proofs.Math.Seq.{drop-length}
 use Rattle.std.proofs.lemmas.List.{append-nil, drop_at, take-append-drop}
 use Rattle.ssb_records.specs.Giving.{given_since}
-use Rattle.ssb_records.specs.CutShort.{IsCutShort, IsGoodBefore}
-use Rattle.ssb_records.specs.Intake.{AreGood, Judge, Refuses, StopsBy, StopsIn}
+use Rattle.ssb_records.specs.CutShort.{IfRead, IsCutShort, IsGoodBefore}
+use Rattle.ssb_records.specs.Intake.{AreGood, Judge, Refuses, Stops, StopsBy, StopsIn}
 use Rattle.ssb_records.specs.Lines.{AreLines, EndsInLf, IsPartOfLine}
 use Rattle.ssb_records.specs.Pieces.{IsPassedOn, IsPiece, IsOver, IsBroken, begun_with, handed, piece_of, rest_of}
 use Rattle.ssb_records.specs.Records.{Fields, records_of}
@@ -182,3 +182,37 @@ follows-start given failures ends p source none waits going whole begun = record
 pub of-all : (old new : Option (List ℕ)) (given : List ℕ) (P : List ℕ → Type 0) → new ≡ old → IfSome new (λ all. given ≡ all) → P given → IfSome old P
 of-all old None given P same all h = subst (λ w. IfSome w P) same tt
 of-all old (Some xs) given P same all h = subst (λ w. IfSome w P) same (subst P all h)
+
+-- ---- what the clauses say of the source
+
+pub grows-of : {S : Type 0} (given : S → List ℕ) (failures ends : S → ℕ) (q : Pieces S) (now base : S) → IsPassedOn given failures ends q now → begun_with q ≡ base → given now ≡ given base ++ given_since (given base) (given now)
+grows-of given failures ends q now base f begun = grows (given base) (handed q ++ rest_of q) (given now) (told-of given failures ends q now base f begun)
+
+pub failed-since : {S : Type 0} (given : S → List ℕ) (failures ends : S → ℕ) (q : Pieces S) (now base : S) → IsPassedOn given failures ends q now → begun_with q ≡ base → q.failed ≡ true → failures base < failures now
+failed-since {S = S} given failures ends q now base f begun failed = let P : S → Type 0 = λ s. failures s < failures now in subst P begun (f.broken failed)
+
+over-of : {S : Type 0} (q : Pieces S) → q.failed ≡ false → IsPiece false q → IsOver q
+over-of q sound (none, inl o) = o
+over-of q sound (none, inr b) = absurd (clash b.failed sound)
+
+pub ended-since : {S : Type 0} (given : S → List ℕ) (failures ends : S → ℕ) (q : Pieces S) (now base : S) → IsPassedOn given failures ends q now → begun_with q ≡ base → q.failed ≡ false → IsPiece false q → ends base < ends now
+ended-since {S = S} given failures ends q now base f begun sound hands = let P : S → Type 0 = λ s. ends s < ends now in subst P begun (f.over (over-of q sound hands).stopped sound)
+
+-- all that was given is in the pieces handed out
+pub all-handed : {S : Type 0} (given : S → List ℕ) (failures ends : S → ℕ) (p q : Pieces S) (now base : S) → IsPassedOn given failures ends q now → begun_with q ≡ base → handed q ≡ handed p ++ piece_of q → q.failed ≡ false → IsPiece false q
+    → handed p ≡ given_since (given base) (given now)
+all-handed given failures ends p q now base f begun split sound hands =
+    let is = since-is (given base) (handed q ++ rest_of q) (given now) (told-of given failures ends q now base f begun) in
+    sym (is ∙ ap (λ t. handed q ++ t) (over-of q sound hands).rest ∙ append-nil (handed q) ∙ same-front (handed p) (piece_of q) (handed q) split hands.0)
+
+pub memory-stops : {S : Type 0} (given : S → List ℕ) (known : S → Option (List ℕ)) (s : Judge) (before after : S) → Stops given known s before after load.Memory
+memory-stops given known s before after = record {
+  fails = tt;
+  told = always (known before) (λ all. StopsIn s (given_since (given before) all) load.Memory) (λ x e. tt);
+}
+
+pub refused-unread : (s : Judge) (records : List Fields) (e : LoadFault) (P : ℕ → Type 0) → Refuses s records e → IfRead e P
+refused-unread s records (load.Record f n) P h = tt
+refused-unread s records (load.BadCatalog f n) P h = tt
+refused-unread s records (load.Read n) P h = absurd h
+refused-unread s records load.Memory P h = tt

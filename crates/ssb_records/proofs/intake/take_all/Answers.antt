@@ -1,4 +1,4 @@
-use Rattle.std.proofs.Common.{◌++◌, ◌∙◌, ◌+◌, List, Bool, refl, sym, ap, subst, inl, inr}
+use Rattle.std.proofs.Common.{◌++◌, ◌∙◌, ◌+◌, ◌<◌, List, [], Bool, refl, sym, ap, subst, inl, inr}
 use Rattle.std.proofs.lemmas.Result.{err_from_is_err_and}
 use Rattle.ssb_records.specs.Giving.{given_since}
 use Rattle.ssb_records.specs.Intake.{AreGood}
@@ -6,7 +6,7 @@ use Rattle.ssb_records.specs.Pieces.{handed, piece_of, IsPiece}
 use Rattle.ssb_records.specs.Records.{Fields, records_of}
 use Rattle.ssb_records.proofs.Blocks.{no-records}
 use Rattle.ssb_records.proofs.LineRecords.{records-lead}
-use Rattle.ssb_records.proofs.TakingAll.{always, follows-start, good-before, holds-of, never-over, over-settled, piece-behind, refused-all, refused-fails, refused-given, refused-in, stops-at, told-of}
+use Rattle.ssb_records.proofs.TakingAll.{all-handed, always, ended-since, failed-since, follows-start, good-before, grows-of, holds-of, memory-stops, never-over, over-settled, piece-behind, refused-all, refused-fails, refused-given, refused-in, refused-unread, stops-at, told-of}
 use Rattle.ssb_records.proofs.intake.take_all.Goals as goal
 
 pub loop-init : goal.loop-init
@@ -71,3 +71,56 @@ loop-preserved g c =
           (sym (ap records_of c.fill.ensures.handed ∙ records-lead c.loop.before.now (handed p) (piece_of q) _ inv.lead (never-over _ (piece_of q) hands.0 c.fill.ensures.over))) taken;
       lead = inr (refl, piece-behind p q c.fill.ensures.handed hands);
     }
+
+pub returns-in-Ok-false-clause-grows : goal.returns-in-Ok-false-clause-grows
+returns-in-Ok-false-clause-grows g c = grows-of g.S.Source.given g.S.Source.failures g.S.Source.ends c.fill.new.self c.fill.new.source c.args.source.now c.fill.ensures.follows (c.fill.ensures.begun ∙ c.loop.invariant.begun)
+
+pub returns-in-Ok-false-clause-broken : goal.returns-in-Ok-false-clause-broken
+returns-in-Ok-false-clause-broken g c =
+    let failed = sym c.has_failed.ensures ∙ c.if-has_failed.true in
+    failed-since g.S.Source.given g.S.Source.failures g.S.Source.ends c.fill.new.self c.fill.new.source c.args.source.now c.fill.ensures.follows (c.fill.ensures.begun ∙ c.loop.invariant.begun) failed
+
+pub returns-in-Ok-false-2-clause-grows : goal.returns-in-Ok-false-2-clause-grows
+returns-in-Ok-false-2-clause-grows g c = grows-of g.S.Source.given g.S.Source.failures g.S.Source.ends c.fill.new.self c.fill.new.source c.args.source.now c.fill.ensures.follows (c.fill.ensures.begun ∙ c.loop.invariant.begun)
+
+pub returns-in-Ok-false-2-clause-taken : goal.returns-in-Ok-false-2-clause-taken
+returns-in-Ok-false-2-clause-taken g c =
+    let sound = sym c.has_failed.ensures ∙ c.if-has_failed.false in
+    let hands = let P : Bool → Type 0 = λ b. IsPiece b c.fill.new.self in subst P c.in-Ok-false.field-0-test c.in-Ok-false.ensures.hands in
+    subst (λ bytes. g.T.Intake.stands c.loop.intake (records_of bytes)) (all-handed g.S.Source.given g.S.Source.failures g.S.Source.ends c.loop.pieces c.fill.new.self c.fill.new.source c.args.source.now c.fill.ensures.follows (c.fill.ensures.begun ∙ c.loop.invariant.begun) c.fill.ensures.handed sound hands) c.loop.invariant.held
+
+pub returns-in-Ok-false-2-clause-ended : goal.returns-in-Ok-false-2-clause-ended
+returns-in-Ok-false-2-clause-ended g c =
+    let sound = sym c.has_failed.ensures ∙ c.if-has_failed.false in
+    let hands = let P : Bool → Type 0 = λ b. IsPiece b c.fill.new.self in subst P c.in-Ok-false.field-0-test c.in-Ok-false.ensures.hands in
+    ended-since g.S.Source.given g.S.Source.failures g.S.Source.ends c.fill.new.self c.fill.new.source c.args.source.now c.fill.ensures.follows (c.fill.ensures.begun ∙ c.loop.invariant.begun) sound hands
+
+pub returns-in-Err-clause-grows : goal.returns-in-Err-clause-grows
+returns-in-Err-clause-grows g c = grows-of g.S.Source.given g.S.Source.failures g.S.Source.ends c.fill.new.self c.fill.new.source c.args.source.now c.fill.ensures.follows (c.fill.ensures.begun ∙ c.loop.invariant.begun)
+
+pub returns-in-Err-clause-stops : goal.returns-in-Err-clause-stops
+returns-in-Err-clause-stops g c = memory-stops g.S.Source.given g.S.Source.whole (g.T.Intake.judge (g.T.Intake.subject c.args.intake.now)) c.args.source.now c.fill.new.source
+
+pub returns-in_err-take_text-clause-grows : goal.returns-in_err-take_text-clause-grows
+returns-in_err-take_text-clause-grows g c = grows-of g.S.Source.given g.S.Source.failures g.S.Source.ends c.fill.new.self c.fill.new.source c.args.source.now c.fill.ensures.follows (c.fill.ensures.begun ∙ c.loop.invariant.begun)
+
+pub returns-in_err-take_text-clause-taken : goal.returns-in_err-take_text-clause-taken
+returns-in_err-take_text-clause-taken g c =
+    let out = err_from_is_err_and c.from_residual.result c.from_residual.ensures.1 in
+    rw out.1 tt
+
+pub returns-in_err-take_text-clause-ended : goal.returns-in_err-take_text-clause-ended
+returns-in_err-take_text-clause-ended g c =
+    let out = err_from_is_err_and c.from_residual.result c.from_residual.ensures.1 in
+    rw out.1 tt
+
+pub returns-in_err-take_text-clause-broken : goal.returns-in_err-take_text-clause-broken
+returns-in_err-take_text-clause-broken g c =
+    let out = err_from_is_err_and c.from_residual.result c.from_residual.ensures.1 in
+    rw (out.1, out.2) (refused-unread (g.T.Intake.judge (g.T.Intake.subject c.loop.intake)) (records_of (handed c.loop.pieces) ++ (records_of (c.loop.before.now ++ c.piece.result.now) ++ [])) c.in_err-take_text.field-0.0 (λ n. g.S.Source.failures c.args.source.now < g.S.Source.failures c.fill.new.source) (c.in_err-take_text.ensures.refused (records_of (handed c.loop.pieces)) [] c.loop.invariant.held))
+
+pub returns-clause-grows : goal.returns-clause-grows
+returns-clause-grows g c = grows-of g.S.Source.given g.S.Source.failures g.S.Source.ends c.loop.pieces c.loop.source c.args.source.now c.loop.invariant.follows c.loop.invariant.begun
+
+pub returns-clause-stops : goal.returns-clause-stops
+returns-clause-stops g c = memory-stops g.S.Source.given g.S.Source.whole (g.T.Intake.judge (g.T.Intake.subject c.args.intake.now)) c.args.source.now c.loop.source

@@ -1,4 +1,7 @@
-use Rattle.ssb_sections.proofs.SpanFacts.{first-and-others, some-range}
+use Rattle.std.proofs.Common.{ap, arith, inl, inr, length}
+use Rattle.std.proofs.lemmas.List.{length-map}
+use Rattle.std.specs.Io.Take.{take_limit}
+use Rattle.ssb_sections.proofs.SpanFacts.{first-and-others, none-later, some-range}
 use Rattle.ssb_sections.proofs.sections.divide.Goals as goal
 
 pub returns-in-Some-clause-sizes : goal.returns-in-Some-clause-sizes
@@ -14,3 +17,24 @@ returns-in-Some-clause-sizes g c =
 
 pub returns-in-Some-clause-unread : goal.returns-in-Some-clause-unread
 returns-in-Some-clause-unread g c = rw c.in-Some.is at c.in_ok-later.ensures.unread
+
+pub returns-in-Some-clause-alone : goal.returns-in-Some-clause-alone
+returns-in-Some-clause-alone g c = λ few.
+    let spans = c.in_ok-spans.spans in
+    let whole = c.in_ok-spans.ensures.whole (inr few) in
+    let sizes = rw (c.in-Some.is, c.deref.ensures.value) at c.in_ok-later.ensures.sizes in
+    let none = none-later spans.items _ (omega (arith, whole, spans.ok.0)) sizes in
+    let same = length-map c.in-Some.later.items (λ s. take_limit s.begun.value) in
+    omega (arith, none, same, c.in-Some.later.ok.0)
+
+pub index-requires : goal.index-requires
+index-requires g c = let some = some-range c.len.result c.in_ok-spans.spans.items c.in_ok-spans.ensures.spans in omega (arith, some, c.in_ok-spans.spans.ok.0)
+
+pub returns-clause-alone : goal.returns-clause-alone
+returns-clause-alone g c = λ few. let none = ap length c.undivided.ensures.alone in omega (arith, none, c.undivided.result.1.ok.0)
+
+pub returns-clause-sizes : goal.returns-clause-sizes
+returns-clause-sizes g c = c.undivided.ensures.sizes
+
+pub returns-clause-unread : goal.returns-clause-unread
+returns-clause-unread g c = rw c.undivided.ensures.alone (λ k d below. absurd (omega (arith, below)))

@@ -1,7 +1,8 @@
-use Rattle.std.proofs.Common.{◌≡◌, ◌∙◌, ◌∷◌, []}
+use Rattle.std.proofs.Common.{◌≡◌, ◌∙◌, ◌∷◌, [], map, ap, refl, arith}
 use Rattle.std.specs.Io.Take.{take_limit}
-use Rattle.std.proofs.lemmas.List.{map-append}
+use Rattle.std.proofs.lemmas.List.{map-append, take_all}
 use Rattle.std.proofs.lemmas.List.Elements.{All-push}
+use Rattle.ssb_sections.specs.declared.spans.Span.{Span}
 use Rattle.ssb_sections.proofs.SpanFacts.{sizes-more}
 use Rattle.ssb_sections.proofs.sections.sections_anew.Goals as goal
 
@@ -14,3 +15,12 @@ loop-span-preserved g c =
       map-append (λ s. take_limit s.begun.value) l.sections.items (section ∷ [])
           ∙ sizes-more c.args.spans.now l.span-index _ _ _ c.loop-span-test.true c.in-Some.ensures.size l.invariant.1,
     )
+
+pub loop-span-init : goal.loop-span-init
+loop-span-init g c = rw c.new-sections.ensures.items (λ k d below. absurd (omega (arith, below)), refl)
+
+pub returns-clause-unread : goal.returns-clause-unread
+returns-clause-unread g c = c.loop-span.invariant.0
+
+pub returns-clause-sizes : goal.returns-clause-sizes
+returns-clause-sizes g c = c.loop-span.invariant.1 ∙ ap (map (λ (s : Span). s.size)) (take_all c.loop-span.span-index c.args.spans.now c.loop-span-test.false)

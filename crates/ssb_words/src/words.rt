@@ -55,80 +55,129 @@ pub enum WordsFault {
     Memory,
 }
 
-const CATALOG_HELP: &str =
-    "The tables and their columns, where they are not those of the benchmark";
-
-const DATA_HELP: &str = "The folder with a file TABLE.tbl for each table";
-
-const NAME_HELP: &str = "The query of the benchmark, Q1.1 to Q4.3, in place of a file";
-
-const WORKERS_HELP: &str =
-    "How many workers take morsels, each in a thread, 1 to 64; 4 if not given";
-
-const MORSEL_HELP: &str =
-    "How many rows of the fact table are one morsel, 1 to 1048576; 10000 if not given";
-
-const PARTS_HELP: &str = "Into how many parts the morsels are divided, 1 to 16; 1 if not given";
-
 // An option with a value.
-fn option<'a>(alloc: Global, name: &'a str, value: &'a str, help: &'a str) -> Arg<'a> {
-    Arg::new(alloc, name)
-        .long(name)
+#[derive(Clone, Copy)]
+struct Choice {
+    name: &'static str,
+    value: &'static str,
+    help: &'static str,
+    is_required: bool,
+}
+
+// A command of the program, and its options.
+#[derive(Clone, Copy)]
+struct Action {
+    name: &'static str,
+    about: &'static str,
+    choices: &'static [Choice],
+}
+
+const QUERY: Choice = Choice {
+    name: "query",
+    value: "FILE",
+    help: "The query",
+    is_required: false,
+};
+
+const CATALOG: Choice = Choice {
+    name: "catalog",
+    value: "FILE",
+    help: "The tables and their columns, where they are not those of the benchmark",
+    is_required: false,
+};
+
+static RUN: Action = Action {
+    name: "run",
+    about: "Answers a query over tables",
+    choices: &[
+        Choice {
+            name: "data",
+            value: "DIR",
+            help: "The folder with a file TABLE.tbl for each table",
+            is_required: true,
+        },
+        QUERY,
+        Choice {
+            name: "name",
+            value: "NAME",
+            help: "The query of the benchmark, Q1.1 to Q4.3, in place of a file",
+            is_required: false,
+        },
+        CATALOG,
+        Choice {
+            name: "workers",
+            value: "N",
+            help: "How many workers take morsels, each in a thread, 1 to 64; 4 if not given",
+            is_required: false,
+        },
+        Choice {
+            name: "morsel",
+            value: "N",
+            help: "How many rows of the fact table are one morsel, 1 to 1048576; 10000 if not given",
+            is_required: false,
+        },
+        Choice {
+            name: "parts",
+            value: "N",
+            help: "Into how many parts the morsels are divided, 1 to 16; 1 if not given",
+            is_required: false,
+        },
+    ],
+};
+
+static CHECK: Action = Action {
+    name: "check",
+    about: "Says `ok` of a query that means something over the tables, or why it doesn't",
+    choices: &[
+        Choice {
+            is_required: true,
+            ..QUERY
+        },
+        CATALOG,
+    ],
+};
+
+fn option<'a>(alloc: Global, choice: &Choice) -> Arg<'a> {
+    Arg::new(alloc, choice.name)
+        .long(choice.name)
         .action(ArgAction::Set)
-        .value_name(value)
-        .help(help)
+        .value_name(choice.value)
+        .help(choice.help)
+        .required(choice.is_required)
 }
 
-fn query_option<'a>(alloc: Global) -> Arg<'a> {
-    option(alloc, "query", "FILE", "The query")
-}
-
-fn catalog_option<'a>(alloc: Global) -> Arg<'a> {
-    option(alloc, "catalog", "FILE", CATALOG_HELP)
-}
-
-fn run_command<'a>(alloc: Global) -> Result<Command<'a>, AllocError> {
-    let run = Command::new(alloc, "run")
-        .about("Answers a query over tables")
-        .arg(option(alloc, "data", "DIR", DATA_HELP).required(true))?
-        .arg(query_option(alloc))?
-        .arg(option(alloc, "name", "NAME", NAME_HELP))?
-        .arg(catalog_option(alloc))?
-        .arg(option(alloc, "workers", "N", WORKERS_HELP))?
-        .arg(option(alloc, "morsel", "N", MORSEL_HELP))?
-        .arg(option(alloc, "parts", "N", PARTS_HELP))?;
-    Ok(run)
-}
-
-fn check_command<'a>(alloc: Global) -> Result<Command<'a>, AllocError> {
-    let check = Command::new(alloc, "check")
-        .about("Says `ok` of a query that means something over the tables, or why it doesn't")
-        .arg(query_option(alloc).required(true))?
-        .arg(catalog_option(alloc))?;
-    Ok(check)
-}
-
+// The program with a further command, or why there is none. The prover is slow wherever a command may
+// be none, so there are two such places, and both are here: one adds each option, and the other takes
+// what was made before as it is.
 fn with_command<'a>(
-    program: Command<'a>,
-    made: Result<Command<'a>, AllocError>,
+    alloc: Global,
+    program: Result<Command<'a>, AllocError>,
+    action: &'static Action,
 ) -> Result<Command<'a>, AllocError> {
-    match made {
-        Ok(made) => program.subcommand(made),
-        Err(error) => {
-            drop(program);
-            Err(error)
-        }
+    let program = program?;
+    let Action {
+        name,
+        about,
+        choices,
+    } = *action;
+    let mut command = Command::new(alloc, name).about(about);
+    for choice in choices {
+        command = command.arg(option(alloc, choice))?;
     }
+    program.subcommand(command)
+}
+
+fn program<'a>(alloc: Global) -> Result<Command<'a>, AllocError> {
+    Command::new(alloc, "ssb")
+        .about("Answers queries of the Star Schema Benchmark")
+        .disable_help_subcommand(true)
+        .subcommand_required(true)
+        .bin_name("ssb")
 }
 
 fn command<'a>(alloc: Global) -> Result<Command<'a>, AllocError> {
-    let program = Command::new(alloc, "ssb")
-        .bin_name("ssb")?
-        .about("Answers queries of the Star Schema Benchmark")
-        .disable_help_subcommand(true)
-        .subcommand_required(true);
-    let program = with_command(program, run_command(alloc))?;
-    with_command(program, check_command(alloc))
+    let program = with_command(alloc, program(alloc), &RUN);
+    with_command(alloc, program, &CHECK)
 }
 
 fn parse<'a>(alloc: Global, given: &'a [String]) -> Result<ArgMatches<'a>, Error> {
@@ -146,6 +195,11 @@ fn query_source<'a>(found: &ArgMatches<'a>) -> Option<QuerySource<'a>>
     }
 }
 
+// A number, where it is given and has 32 bits.
+fn number(found: &ArgMatches, name: &str) -> Option<Option<u32>> {
+    found.try_get_one(name).ok()
+}
+
 fn run_task<'a>(found: &ArgMatches<'a>) -> Option<Task<'a>>
     ensures { IfSome result AsksKnownQuery }
 {
@@ -153,9 +207,9 @@ fn run_task<'a>(found: &ArgMatches<'a>) -> Option<Task<'a>>
         data: found.get_str("data")?,
         query: query_source(found)?,
         catalog: found.get_str("catalog"),
-        workers: found.try_get_one("workers").ok()?,
-        morsel: found.try_get_one("morsel").ok()?,
-        parts: found.try_get_one("parts").ok()?,
+        workers: number(found, "workers")?,
+        morsel: number(found, "morsel")?,
+        parts: number(found, "parts")?,
     })
 }
 

@@ -1,5 +1,5 @@
 use Rattle.std.proofs.Common.{◌≡◌, map, take, ◌∷◌, ◌++◌, [], sym, ap, ap₂, ◌∙◌, arith}
-use Rattle.ssb_trees.specs.Expressions.{mapped_step}
+use Rattle.ssb_trees.specs.Expressions.{mapped, mapped_step}
 use Rattle.ssb_trees.specs.declared.expr.Step.{Step}
 use Rattle.ssb_trees.specs.declared.expr.Expr.TheOpen.{Expr-F}
 use Rattle.ssb_trees.specs.declared.expr.Expr.TheVariants as expr
@@ -18,6 +18,12 @@ mapped_steps-loop-step-preserved g t c =
     let pushed : Step D = with_term c.step-item.result c.in_ok-term.term in
     let one : pushed ≡ F c.step-item.result = ap (with_term c.step-item.result) c.in_ok-term.ensures ∙ sym (mapped_of_step C D f c.step-item.result) in
     c.in_ok-push.ensures.ok ∙ ap (λ xs. xs ++ pushed ∷ []) c.loop-step.invariant ∙ ap (λ y. map F (take c.loop-step.step-index c.args.steps.now) ++ y ∷ []) one ∙ sym (map_more F c.args.steps.now c.loop-step.step-index c.step-item.result c.loop-step-test.true c.step-item.is)
+
+pub mapped_factors-loop-factor-preserved : goal.mapped_factors-loop-factor-preserved
+mapped_factors-loop-factor-preserved g t c =
+    let F = mapped g.row.C.Denot g.row.D.Denot (g.M.Leaves.given c.args.columns.now) in
+    let pushed = c.in_ok-mapped_expr.field-0 in
+    c.in_ok-push.ensures.ok ∙ ap (λ xs. xs ++ pushed ∷ []) c.loop-factor.invariant ∙ ap (λ y. map F (take c.loop-factor.factor-index c.args.factors.now) ++ y ∷ []) c.in_ok-mapped_expr.ensures ∙ sym (map_more F c.args.factors.now c.loop-factor.factor-index c.factor-item.result c.loop-factor-test.true c.factor-item.is)
 
 pub mapped_expr-returns-in-Number : goal.mapped_expr-returns-in-Number
 mapped_expr-returns-in-Number g t c = sym (mapped_of _ _ (g.M.Leaves.given c.args.columns.now) c.args.expr.now (Expr-F.Number c.in-Number.number) c.in-Number.is)

@@ -188,9 +188,6 @@ of-all old (Some xs) given P same all h = subst (λ w. IfSome w P) same (subst P
 pub grows-of : {S : Type 0} (given : S → List ℕ) (failures ends : S → ℕ) (q : Pieces S) (now base : S) → IsPassedOn given failures ends q now → begun_with q ≡ base → given now ≡ given base ++ given_since (given base) (given now)
 grows-of given failures ends q now base f begun = grows (given base) (handed q ++ rest_of q) (given now) (told-of given failures ends q now base f begun)
 
-pub failed-since : {S : Type 0} (given : S → List ℕ) (failures ends : S → ℕ) (q : Pieces S) (now base : S) → IsPassedOn given failures ends q now → begun_with q ≡ base → q.failed ≡ true → failures base < failures now
-failed-since {S = S} given failures ends q now base f begun failed = let P : S → Type 0 = λ s. failures s < failures now in subst P begun (f.broken failed)
-
 over-of : {S : Type 0} (q : Pieces S) → q.failed ≡ false → IsPiece false q → IsOver q
 over-of q sound (none, inl o) = o
 over-of q sound (none, inr b) = absurd (clash b.failed sound)

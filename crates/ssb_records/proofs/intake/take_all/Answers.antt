@@ -6,7 +6,7 @@ use Rattle.ssb_records.specs.Pieces.{handed, piece_of, IsPiece}
 use Rattle.ssb_records.specs.Records.{Fields, records_of}
 use Rattle.ssb_records.proofs.Blocks.{no-records}
 use Rattle.ssb_records.proofs.LineRecords.{records-lead}
-use Rattle.ssb_records.proofs.TakingAll.{all-handed, always, ended-since, failed-since, follows-start, good-before, grows-of, holds-of, memory-stops, never-over, over-settled, piece-behind, refused-all, refused-fails, refused-given, refused-in, refused-unread, stops-at, told-of}
+use Rattle.ssb_records.proofs.TakingAll.{all-handed, always, ended-since, follows-start, good-before, grows-of, holds-of, memory-stops, never-over, over-settled, piece-behind, refused-all, refused-fails, refused-given, refused-in, refused-unread, stops-at, told-of}
 use Rattle.ssb_records.proofs.intake.take_all.Goals as goal
 
 pub loop-init : goal.loop-init
@@ -74,11 +74,6 @@ loop-preserved g c =
 
 pub returns-in-Ok-false-clause-grows : goal.returns-in-Ok-false-clause-grows
 returns-in-Ok-false-clause-grows g c = grows-of g.S.Source.given g.S.Source.failures g.S.Source.ends c.fill.new.self c.fill.new.source c.args.source.now c.fill.ensures.follows (c.fill.ensures.begun ∙ c.loop.invariant.begun)
-
-pub returns-in-Ok-false-clause-broken : goal.returns-in-Ok-false-clause-broken
-returns-in-Ok-false-clause-broken g c =
-    let failed = sym c.has_failed.ensures ∙ c.if-has_failed.true in
-    failed-since g.S.Source.given g.S.Source.failures g.S.Source.ends c.fill.new.self c.fill.new.source c.args.source.now c.fill.ensures.follows (c.fill.ensures.begun ∙ c.loop.invariant.begun) failed
 
 pub returns-in-Ok-false-2-clause-grows : goal.returns-in-Ok-false-2-clause-grows
 returns-in-Ok-false-2-clause-grows g c = grows-of g.S.Source.given g.S.Source.failures g.S.Source.ends c.fill.new.self c.fill.new.source c.args.source.now c.fill.ensures.follows (c.fill.ensures.begun ∙ c.loop.invariant.begun)

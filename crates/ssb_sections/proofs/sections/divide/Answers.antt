@@ -1,4 +1,4 @@
-use Rattle.std.proofs.Common.{ap, arith, inl, inr, length}
+use Rattle.std.proofs.Common.{arith, inr}
 use Rattle.std.proofs.lemmas.List.{length-map}
 use Rattle.std.specs.Io.Take.{take_limit}
 use Rattle.ssb_sections.proofs.SpanFacts.{first-and-others, none-later, some-range}
@@ -29,12 +29,3 @@ returns-in-Some-clause-alone g c = λ few.
 
 pub index-requires : goal.index-requires
 index-requires g c = let some = some-range c.len.result c.in_ok-spans.spans.items c.in_ok-spans.ensures.spans in omega (arith, some, c.in_ok-spans.spans.ok.0)
-
-pub returns-clause-alone : goal.returns-clause-alone
-returns-clause-alone g c = λ few. let none = ap length c.undivided.ensures.alone in omega (arith, none, c.undivided.result.1.ok.0)
-
-pub returns-clause-sizes : goal.returns-clause-sizes
-returns-clause-sizes g c = c.undivided.ensures.sizes
-
-pub returns-clause-unread : goal.returns-clause-unread
-returns-clause-unread g c = rw c.undivided.ensures.alone (λ k d below. absurd (omega (arith, below)))

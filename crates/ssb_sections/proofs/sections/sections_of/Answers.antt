@@ -5,8 +5,5 @@ use Rattle.ssb_sections.proofs.sections.sections_of.Goals as goal
 pub returns-clause-alone : goal.returns-clause-alone
 returns-clause-alone g c = λ few. let one = c.in_ok-first.ensures.alone few in omega (arith, c.in_ok-insert.ensures.len, one)
 
-pub returns-clause-sizes : goal.returns-clause-sizes
-returns-clause-sizes g c = rw (c.in_ok-insert.ensures.items, c.section_here.ensures.size) c.in_ok-first.ensures.sizes
-
 pub returns-clause-unread : goal.returns-clause-unread
 returns-clause-unread g c = rw c.in_ok-insert.ensures.items (All-cons (λ s. s.given.items ≡ []) c.section_here.result c.in_ok-first.later.items c.section_here.ensures.unread c.in_ok-first.ensures.unread)

@@ -6,4 +6,5 @@ pub mod Names
 pub mod Orders
 pub mod Query
 pub mod Rules
+pub mod Titles
 pub mod Typing

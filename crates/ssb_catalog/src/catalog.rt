@@ -9,7 +9,6 @@ use std::alloc::AllocError;
 use std::marker::Model;
 
 /// A column of a table: its name, its type and its role.
-#[derive(Drop)]
 pub struct ColumnDef {
     /// The name, in lower case.
     pub name: Name,
@@ -17,11 +16,25 @@ pub struct ColumnDef {
     pub rule: Rule,
 }
 
+impl Drop for ColumnDef {
+    fn drop(self) {
+        let ColumnDef { name, rule: _ } = self;
+        drop(name);
+    }
+}
+
 /// A table of a catalog, seen as its name and the list of its columns.
-#[derive(Drop)]
 pub struct TableDef {
     name: Name,
     columns: Vec<ColumnDef>,
+}
+
+impl Drop for TableDef {
+    fn drop(self) {
+        let TableDef { name, columns } = self;
+        drop(name);
+        drop(columns);
+    }
 }
 
 impl Model for TableDef {

@@ -10,12 +10,24 @@ use std::marker::Model;
 
 /// Columns of one type, seen as the column that they make in their order: its type and the list of all
 /// values. There may be 4,294,967,295 of these.
-#[derive(Drop)]
 pub struct ColumnParts {
     alloc: Global,
     kind: ColType,
     len: u32,
     parts: Vec<Column>,
+}
+
+// Written out, so that the crates above need no proof of how it is let go.
+impl Drop for ColumnParts {
+    fn drop(self) {
+        let ColumnParts {
+            alloc: _,
+            kind: _,
+            len: _,
+            parts,
+        } = self;
+        drop(parts);
+    }
 }
 
 impl Model for ColumnParts {

@@ -2,7 +2,7 @@
 // by a call of `drop`, since the prover writes out all that it holds where the end of a scope lets go
 // of it.
 
-ghost use Rattle.std.specs.Prelude.{◌≡◌, ◌⊎◌, length, vec_len};
+ghost use Rattle.std.specs.Prelude.{◌≡◌, ◌⊎◌, IfOk, length, vec_len};
 ghost use Rattle.ssb_files.specs.Faults.{IsStatus, out_of_memory, program_status};
 
 use ssb_answer::{NoGate, query_of, run_from};
@@ -146,6 +146,18 @@ fn answer_over<R: Files<File = File> + Print + AllocGlobal + Threads + Wait + Sy
     }
 }
 
+// The files of a folder's tables as sources, in the catalog's order.
+fn sources_of<R: Files<File = File> + AllocGlobal>(
+    rt: &R,
+    words: RunWords<'_>,
+    catalog: &Catalog,
+) -> Result<Vec<Joined<Section<File>>>, ProgramFault>
+    ensures { IfOk result (λ sources. vec_len sources ≡ length catalog.now) }
+{
+    let files = open_all(rt, words.data, catalog, words.settings.workers)?;
+    Ok(Joined::of_each(rt.alloc(), files)?)
+}
+
 // Answers a text over the tables of a folder, which have these names.
 fn answer_named<R: Files<File = File> + Print + AllocGlobal + Threads + Wait + Sync>(
     rt: &R,
@@ -154,7 +166,7 @@ fn answer_named<R: Files<File = File> + Print + AllocGlobal + Threads + Wait + S
     names: Vec<String>,
     text: &str,
 ) -> Result<(), ProgramFault> {
-    match open_all(rt, words.data, &catalog, words.settings.workers) {
+    match sources_of(rt, words, &catalog) {
         Ok(sources) => answer_over(rt, catalog, names, sources, text, words.settings),
         Err(fault) => {
             drop(names);

@@ -11,7 +11,7 @@ use Rattle.ssb_bind.specs.declared.fault.BindFault.{BindFault}
 use Rattle.ssb_bind.specs.declared.fault.BindFault.TheVariants as bind
 use Rattle.ssb_rows.specs.declared.fault.AnswerFault.{AnswerFault}
 use Rattle.ssb_rows.specs.declared.fault.AnswerFault.TheVariants as answer
-use Rattle.ssb_reply.specs.FaultLine.{IsLoadLine, IsMemoryLine, IsRunLine, line_of}
+use Rattle.ssb_reply.specs.FaultLine.{load_words, memory_words, run_words}
 use Rattle.ssb_reply.specs.declared.run_fault.RunFault.{RunFault}
 use Rattle.ssb_reply.specs.declared.run_fault.RunFault.TheVariants as run
 use Rattle.ssb_files.specs.declared.fault.ProgramFault.{ProgramFault}
@@ -88,13 +88,13 @@ name_told names (run.Bind fault) = []
 name_told names (run.Answer fault) = []
 name_told names run.Memory = []
 
--- the line of the program's fault, as far as its words are known
-abbrev pub IsProgramLine : ProgramFault → List ℕ → Type 0
-IsProgramLine program.BadWords line = line ≡ line_of (codes "U1 BadWords" ∷ [])
-IsProgramLine (program.CannotOpen path) line = line ≡ line_of (codes "F1 CannotOpen" ∷ string_bytes path ∷ [])
-IsProgramLine (program.Catalog fault) line = IsLoadLine (codes "catalog") fault line
-IsProgramLine (program.Run names fault) line = IsRunLine (name_told names.items fault) fault line
-IsProgramLine program.Memory line = IsMemoryLine line
+-- the words of the program's fault
+abbrev pub program_words : ProgramFault → List (List ℕ)
+program_words program.BadWords = codes "U1 BadWords" ∷ []
+program_words (program.CannotOpen path) = codes "F1 CannotOpen" ∷ string_bytes path ∷ []
+program_words (program.Catalog fault) = load_words (codes "catalog") fault
+program_words (program.Run names fault) = run_words (name_told names.items fault) fault
+program_words program.Memory = memory_words
 
 -- an exit status of the program is 0, or that of a fault
 abbrev pub IsStatus : ℕ → Type 0

@@ -1,9 +1,9 @@
 // Files that are opened and read.
 
-ghost use Rattle.std.specs.Prelude.{◌≡◌, ◌≤◌, ◌<◌, ◌+◌, IfOk, IfErr, IsNone, IsOk, IsErrAnd, IsUtf8, length, map, vec_len, string_bytes};
+ghost use Rattle.std.specs.Prelude.{◌≡◌, ◌≤◌, ◌<◌, ◌+◌, IfOk, IfErr, IsNone, IsOk, IsErrAnd, IsUtf8, [], length, map, vec_len, string_bytes};
+ghost use Rattle.std.specs.List.{All};
 ghost use Rattle.std.specs.Io.Take.{take_limit};
 ghost use Rattle.ssb_catalog.specs.BuiltIn.{ssb_tables};
-ghost use Rattle.ssb_load.specs.Joined.{sources_in};
 ghost use Rattle.ssb_files.specs.Faults.{IsNoCatalog, IsNoQuery, IsOpenFault, IsQueryFault};
 ghost use Rattle.ssb_files.specs.Files.{longest_query, section_count};
 ghost use Rattle.ssb_files.specs.Opening.{AreOpened, AreSectionsOf, GainsTable};
@@ -11,7 +11,6 @@ ghost use Rattle.ssb_sections.specs.Sections.{AreSizes};
 
 use crate::fault::ProgramFault;
 use ssb_catalog::{Catalog, TableDef};
-use ssb_load::Joined;
 use ssb_reply::RunFault;
 use ssb_sections::{Section, sections_of};
 use ssb_sql::SqlFault;
@@ -146,19 +145,18 @@ fn section_count(table: &TableDef, workers: u32) -> u64
     }
 }
 
-// The sections of a file, one after the other as one source.
 fn open_sections<R: Files + AllocGlobal>(
     rt: &R,
     path: &str,
     count: u64,
-) -> Result<Joined<Section<R::File>>, ProgramFault>
-    ensures sizes { IfOk result (λ source. AreSizes (map (λ s. take_limit s.begun.value) (sources_in source.lanes.items))) }
-    ensures alone { count ≤ 1 → IfOk result (λ source. length (map (λ s. take_limit s.begun.value) (sources_in source.lanes.items)) ≡ 1) }
+) -> Result<Vec<Section<R::File>>, ProgramFault>
+    ensures unread { IfOk result (λ sections. All (λ s. s.given.items ≡ []) sections.items) }
+    ensures sizes { IfOk result (λ sections. AreSizes (map (λ s. take_limit s.begun.value) sections.items)) }
+    ensures alone { count ≤ 1 → IfOk result (λ sections. vec_len sections ≡ 1) }
     ensures fault { IfErr result IsOpenFault }
 {
     let file = open(rt, path)?;
-    let sections = sections_of(rt, path, file, count)?;
-    Ok(Joined::new(rt.alloc(), sections)?)
+    Ok(sections_of(rt, path, file, count)?)
 }
 
 fn open_table<R: Files + AllocGlobal>(
@@ -166,8 +164,9 @@ fn open_table<R: Files + AllocGlobal>(
     data: &str,
     table: &TableDef,
     workers: u32,
-) -> Result<Joined<Section<R::File>>, ProgramFault>
-    ensures sections { IfOk result (λ source. AreSectionsOf table.now (map (λ s. take_limit s.begun.value) (sources_in source.lanes.items))) }
+) -> Result<Vec<Section<R::File>>, ProgramFault>
+    ensures unread { IfOk result (λ sections. All (λ s. s.given.items ≡ []) sections.items) }
+    ensures sections { IfOk result (λ sections. AreSectionsOf table.now (map (λ s. take_limit s.begun.value) sections.items)) }
     ensures fault { IfErr result IsOpenFault }
 {
     let path = path_of(rt.alloc(), data, table.name())?;
@@ -177,28 +176,29 @@ fn open_table<R: Files + AllocGlobal>(
     opened
 }
 
-// Opens the file of a table, and puts it behind the sources.
-fn add_source<R: Files + AllocGlobal>(
+// Opens the file of a table, and puts it behind the files.
+fn add_file<R: Files + AllocGlobal>(
     rt: &R,
     data: &str,
     table: &TableDef,
     workers: u32,
-    sources: &mut Vec<Joined<Section<R::File>>>,
+    files: &mut Vec<Vec<Section<R::File>>>,
 ) -> Result<(), ProgramFault>
-    ensures added { IfOk result (λ u. vec_len sources.new ≡ vec_len sources.old + 1) }
-    ensures sections { IfOk result (λ u. GainsTable (λ source. map (λ s. take_limit s.begun.value) (sources_in source.lanes.items)) table.now sources.old.items sources.new.items) }
+    ensures added { IfOk result (λ u. vec_len files.new ≡ vec_len files.old + 1) }
+    ensures unread { IfOk result (λ u. All (λ f. All (λ s. s.given.items ≡ []) f.items) files.old.items → All (λ f. All (λ s. s.given.items ≡ []) f.items) files.new.items) }
+    ensures sections { IfOk result (λ u. GainsTable (λ f. map (λ s. take_limit s.begun.value) f.items) table.now files.old.items files.new.items) }
     ensures fault { IfErr result IsOpenFault }
 {
-    let source = open_table(rt, data, table, workers)?;
-    let Ok(()) = sources.push(source) else {
+    let sections = open_table(rt, data, table, workers)?;
+    let Ok(()) = files.push(sections) else {
         return Err(ProgramFault::Memory);
     };
     Ok(())
 }
 
-/// The files of the tables as sources, in the catalog's order. The file of the fact table is
-/// opened in sections, four for each worker, where handles of its own can be had for each; so each may be
-/// read by a thread of its own.
+/// The files of the tables, in the catalog's order, each in sections of which nothing was read. The fact
+/// table's has four for each worker, where handles of its own can be had for each, so that each may be
+/// read by a thread of its own; each other file is one section.
 ///
 /// # Errors
 ///
@@ -208,17 +208,18 @@ pub fn open_all<R: Files + AllocGlobal>(
     data: &str,
     catalog: &Catalog,
     workers: u32,
-) -> Result<Vec<Joined<Section<R::File>>>, ProgramFault>
-    ensures sources { IfOk result (λ sources. vec_len sources ≡ length catalog.now) }
-    ensures sections { IfOk result (λ sources. AreOpened (λ source. map (λ s. take_limit s.begun.value) (sources_in source.lanes.items)) catalog.now sources.items) }
+) -> Result<Vec<Vec<Section<R::File>>>, ProgramFault>
+    ensures files { IfOk result (λ files. vec_len files ≡ length catalog.now) }
+    ensures unread { IfOk result (λ files. All (λ f. All (λ s. s.given.items ≡ []) f.items) files.items) }
+    ensures sections { IfOk result (λ files. AreOpened (λ f. map (λ s. take_limit s.begun.value) f.items) catalog.now files.items) }
     ensures fault { IfErr result IsOpenFault }
 {
-    let mut sources = Vec::new(rt.alloc());
+    let mut files = Vec::new(rt.alloc());
     for table in catalog.tables() {
-        if let Err(fault) = add_source(rt, data, table, workers, &mut sources) {
-            drop(sources);
+        if let Err(fault) = add_file(rt, data, table, workers, &mut files) {
+            drop(files);
             return Err(fault);
         }
     }
-    Ok(sources)
+    Ok(files)
 }

@@ -1,7 +1,8 @@
 // What is told of a fault: one line, and the status that the program ends with.
 
 ghost use Rattle.std.specs.Prelude.{◌≡◌, IfOk, string_bytes};
-ghost use Rattle.ssb_files.specs.Faults.{IsProgramLine, name_told, load_status, sql_status, bind_status, answer_status, status, program_status};
+ghost use Rattle.ssb_reply.specs.FaultLine.{line_of};
+ghost use Rattle.ssb_files.specs.Faults.{program_words, name_told, load_status, sql_status, bind_status, answer_status, status, program_status};
 
 use crate::fault::ProgramFault;
 use ssb_bind::BindFault;
@@ -106,7 +107,7 @@ fn name_in<'a>(names: &'a [String], fault: &RunFault) -> &'a str
 ///
 /// `AllocError` where a growth was refused.
 pub fn program_line(alloc: Global, fault: &ProgramFault) -> Result<String, AllocError>
-    ensures { IfOk result (λ line. IsProgramLine fault.now (string_bytes line)) }
+    ensures { IfOk result (λ line. string_bytes line ≡ line_of (program_words fault.now)) }
 {
     match fault {
         ProgramFault::BadWords => words_line(alloc, &["U1 BadWords"]),

@@ -7,9 +7,17 @@ use std::alloc::{AllocError, Global};
 
 /// What stands for the values of the group columns, in their order. Two keys of one job are equal
 /// exactly where their values are.
-#[derive(PartialEq, Eq, Hash, Drop)]
+#[derive(PartialEq, Eq, Hash)]
 pub(crate) struct GroupKey {
     pub cells: Vec<Kept>,
+}
+
+// Written out, so that what lets go of one need not say how its parts are let go.
+impl Drop for GroupKey {
+    fn drop(self) {
+        let GroupKey { cells } = self;
+        drop(cells);
+    }
 }
 
 impl GroupKey {

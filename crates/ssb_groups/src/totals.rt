@@ -52,9 +52,16 @@ fn join_each(tables: &[Table], joinings: &[Joining], into: &mut [KeptTotal], mor
 }
 
 /// The aggregates of a group as they are kept, in the order of the query, seen as their list.
-#[derive(Drop)]
 pub(crate) struct Totals {
     each: Vec<KeptTotal>,
+}
+
+// Written out, so that what lets go of one need not say how its parts are let go.
+impl Drop for Totals {
+    fn drop(self) {
+        let Totals { each } = self;
+        drop(each);
+    }
 }
 
 impl Model for Totals {

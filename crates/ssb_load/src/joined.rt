@@ -1,6 +1,6 @@
 // Sources one after the other as one.
 
-ghost use Rattle.std.specs.Prelude.{◌≡◌, ◌↔◌, ◌++◌, ◌<◌, [], false, length, map, IfErr, IfOk, IsTrue, OnOk};
+ghost use Rattle.std.specs.Prelude.{◌≡◌, ◌↔◌, ◌++◌, ◌<◌, [], false, length, map, vec_len, IfErr, IfOk, IsTrue, OnOk};
 ghost use Rattle.std.specs.List.{All};
 ghost use Rattle.ssb_records.specs.CutShort.{IfRead};
 ghost use Rattle.ssb_records.specs.Giving.{given_since};
@@ -80,6 +80,25 @@ impl<S: Source + Drop> Joined<S> {
             failed: History::new(),
             ended: History::new(),
         })
+    }
+
+    /// The sources of each of these lists as one, in the lists' order, before any read of them.
+    ///
+    /// # Errors
+    ///
+    /// [`AllocError`] where memory for a list was refused; the sources are dropped.
+    pub fn of_each(alloc: Global, lists: Vec<Vec<S>>) -> Result<Vec<Joined<S>>, AllocError>
+        requires { All (λ sources. All (λ s. S.given s ≡ []) sources.items) lists.items }
+        ensures count { IfOk result (λ joined. vec_len joined ≡ vec_len lists) }
+        ensures sources { IfOk result (λ joined. map (λ j. sources_in j.lanes.items) joined.items ≡ map (λ sources. sources.items) lists.items) }
+        ensures given { IfOk result (λ joined. All (λ j. given_upto S.given j.at (sources_in j.lanes.items) ≡ []) joined.items) }
+    {
+        let mut joined = Vec::new(alloc);
+        for sources in lists {
+            let source = Joined::new(alloc, sources)?;
+            joined.push(source)?;
+        }
+        Ok(joined)
     }
 }
 

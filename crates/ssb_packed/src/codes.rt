@@ -12,10 +12,17 @@ use std::marker::Model;
 
 /// A list of codes, seen as that list. Each takes as many bytes as the number that is kept for it: one
 /// while all are below 256.
-#[derive(Drop)]
 pub struct Codes {
     // For each the number that is 128 less.
     numbers: Numbers,
+}
+
+// Written out, so that what lets go of one need not say how its parts are let go.
+impl Drop for Codes {
+    fn drop(self) {
+        let Codes { numbers } = self;
+        drop(numbers);
+    }
 }
 
 impl Model for Codes {

@@ -9,10 +9,17 @@ use std::marker::Model;
 
 /// A list of flags, seen as that list. It has words of 64 flags up to the last that is set, and none
 /// before one is.
-#[derive(Drop)]
 pub struct Nulls {
     len: u32,
     words: Vec<u64>,
+}
+
+// Written out, so that what lets go of one need not say how its parts are let go.
+impl Drop for Nulls {
+    fn drop(self) {
+        let Nulls { len: _, words } = self;
+        drop(words);
+    }
 }
 
 impl Model for Nulls {

@@ -5,4 +5,5 @@ pub mod Lines
 pub mod Pieces
 pub mod Records
 pub mod Settled
+pub mod Titles
 pub mod Width

@@ -1,66 +1,102 @@
 // Why a file is no table, or no catalog.
 
+ghost use Rattle.std.specs.Prelude.{◌≡◌};
+ghost use Rattle.ssb_records.specs.Titles.{reason_number, record_title};
+
+use std::fmt;
 use thiserror::Error;
 
 /// What is wrong with a record of a table, least number first.
 #[derive(Clone, Copy, PartialEq, Eq, Debug, Error)]
 pub enum RecordFault {
     /// Not as many fields as the table has columns, and not one more that is empty.
-    #[error("L1 FieldCount")]
     FieldCount,
     /// A field that is not UTF-8.
-    #[error("L2 BadUtf8")]
     BadUtf8,
     /// A field of an `int` column that is not empty and spells no number of 64 bits.
-    #[error("L3 BadNumber")]
     BadNumber,
     /// An empty field in a `key` or `need` column.
-    #[error("L4 NullNotAllowed")]
     NullNotAllowed,
     /// A key that stands in an earlier record.
-    #[error("L5 DuplicateKey")]
     DuplicateKey,
     /// A record past the most that a table may have.
-    #[error("L6 TooManyRows")]
     TooManyRows,
     /// A text of more than 4,096 bytes.
-    #[error("L7 TextTooLong")]
     TextTooLong,
+}
+
+impl RecordFault {
+    /// Its number and its name.
+    pub fn title(&self) -> &str
+        ensures { result.now ≡ record_title self.now }
+    {
+        match self {
+            RecordFault::FieldCount => "L1 FieldCount",
+            RecordFault::BadUtf8 => "L2 BadUtf8",
+            RecordFault::BadNumber => "L3 BadNumber",
+            RecordFault::NullNotAllowed => "L4 NullNotAllowed",
+            RecordFault::DuplicateKey => "L5 DuplicateKey",
+            RecordFault::TooManyRows => "L6 TooManyRows",
+            RecordFault::TextTooLong => "L7 TextTooLong",
+        }
+    }
+}
+
+impl fmt::Display for RecordFault {
+    fn fmt<W: fmt::Write>(&self, f: &mut fmt::Formatter<W>) -> fmt::Result {
+        f.write_str(self.title())
+    }
 }
 
 /// What is wrong with a catalog, least number first.
 #[derive(Clone, Copy, PartialEq, Eq, Debug, Error)]
 pub enum CatalogFault {
     /// Not four fields, and not five of which the last is empty.
-    #[error("C1")]
     FieldCount,
     /// A table or column name that is no name, is a reserved word, or has more than 128 bytes.
-    #[error("C2")]
     BadName,
     /// A type other than `int` and `text`.
-    #[error("C3")]
     BadType,
     /// A role other than `key`, `need` and `null`.
-    #[error("C4")]
     BadRole,
     /// A column that the table has already.
-    #[error("C5")]
     ColumnTwice,
     /// A second key of a table.
-    #[error("C6")]
     KeyTwice,
     /// A key that is a text.
-    #[error("C7")]
     KeyNotInt,
     /// A seventeenth table, or a table's sixty-fifth column.
-    #[error("C8")]
     TooMany,
     /// No table without a key; the record is 0.
-    #[error("C9")]
     NoFact,
     /// Two or more tables without a key; the record is 0.
-    #[error("C10")]
     TwoFacts,
+}
+
+impl CatalogFault {
+    /// Its number among the reasons why a file is no catalog.
+    pub fn number(&self) -> &str
+        ensures { result.now ≡ reason_number self.now }
+    {
+        match self {
+            CatalogFault::FieldCount => "C1",
+            CatalogFault::BadName => "C2",
+            CatalogFault::BadType => "C3",
+            CatalogFault::BadRole => "C4",
+            CatalogFault::ColumnTwice => "C5",
+            CatalogFault::KeyTwice => "C6",
+            CatalogFault::KeyNotInt => "C7",
+            CatalogFault::TooMany => "C8",
+            CatalogFault::NoFact => "C9",
+            CatalogFault::TwoFacts => "C10",
+        }
+    }
+}
+
+impl fmt::Display for CatalogFault {
+    fn fmt<W: fmt::Write>(&self, f: &mut fmt::Formatter<W>) -> fmt::Result {
+        f.write_str(self.number())
+    }
 }
 
 /// Why a table or a catalog could not be loaded. Records are numbered from 1.

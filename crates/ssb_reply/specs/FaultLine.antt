@@ -1,12 +1,16 @@
--- The line that tells of a fault, as far as its words are known. Where a fault's own message stands in it, what that says is not known here.
+-- The line that tells of a fault.
 -- Source: own; docs/FAULTS.md lists the lines.
-use Rattle.std.specs.Prelude.{◌≡◌, ◌++◌, ◌∷◌, [], ℕ, List, codes, decimal}
+use Rattle.std.specs.Prelude.{◌++◌, ◌∷◌, [], ℕ, List, codes, decimal}
+use Rattle.ssb_records.specs.Titles.{reason_number, record_title}
 use Rattle.ssb_records.specs.declared.fault.LoadFault.{LoadFault}
 use Rattle.ssb_records.specs.declared.fault.LoadFault.TheVariants as load
+use Rattle.ssb_sql.specs.Titles.{sql_title}
 use Rattle.ssb_sql.specs.declared.fault.SqlFault.{SqlFault}
 use Rattle.ssb_sql.specs.declared.fault.SqlFault.TheVariants as sql
+use Rattle.ssb_bind.specs.Titles.{bind_title, many_word}
 use Rattle.ssb_bind.specs.declared.fault.BindFault.{BindFault}
 use Rattle.ssb_bind.specs.declared.fault.BindFault.TheVariants as bind
+use Rattle.ssb_rows.specs.Titles.{answer_title}
 use Rattle.ssb_rows.specs.declared.fault.AnswerFault.{AnswerFault}
 use Rattle.ssb_rows.specs.declared.fault.AnswerFault.TheVariants as answer
 use Rattle.ssb_reply.specs.declared.run_fault.RunFault.{RunFault}
@@ -21,49 +25,46 @@ spaced (word ∷ words) = codes " " ++ word ++ spaced words
 abbrev pub line_of : List (List ℕ) → List ℕ
 line_of words = codes "ssb:" ++ spaced words
 
--- a fault's message alone
-abbrev pub IsMessageLine : List ℕ → Type 0
-IsMessageLine line = (message : List ℕ) × (line ≡ line_of (message ∷ []))
+-- the words where memory ran out
+abbrev pub memory_words : List (List ℕ)
+memory_words = codes "Memory" ∷ []
 
-abbrev pub IsMemoryLine : List ℕ → Type 0
-IsMemoryLine line = line ≡ line_of (codes "Memory" ∷ [])
+-- the words of a fault of the table of this name
+abbrev pub load_words : List ℕ → LoadFault → List (List ℕ)
+load_words name (load.Record fault record_number) = record_title fault ∷ name ∷ decimal record_number ∷ []
+load_words name (load.BadCatalog reason record_number) = codes "L8 BadCatalog" ∷ reason_number reason ∷ decimal record_number ∷ []
+load_words name (load.Read record_number) = codes "L9 Read" ∷ name ∷ decimal record_number ∷ []
+load_words name load.Memory = memory_words
 
--- the line of a fault of the table of this name
-abbrev pub IsLoadLine : List ℕ → LoadFault → List ℕ → Type 0
-IsLoadLine name (load.Record f n) line = (message : List ℕ) × (line ≡ line_of (message ∷ name ∷ decimal n ∷ []))
-IsLoadLine name (load.BadCatalog f n) line = (reason : List ℕ) × (line ≡ line_of (codes "L8 BadCatalog" ∷ reason ∷ decimal n ∷ []))
-IsLoadLine name (load.Read n) line = line ≡ line_of (codes "L9 Read" ∷ name ∷ decimal n ∷ [])
-IsLoadLine name load.Memory line = IsMemoryLine line
+abbrev pub sql_words : SqlFault → List (List ℕ)
+sql_words sql.Syntax = sql_title sql.Syntax ∷ []
+sql_words sql.TooDeep = sql_title sql.TooDeep ∷ []
+sql_words sql.TooLong = sql_title sql.TooLong ∷ []
+sql_words sql.Memory = memory_words
 
-abbrev pub IsSqlLine : SqlFault → List ℕ → Type 0
-IsSqlLine sql.Syntax line = IsMessageLine line
-IsSqlLine sql.TooDeep line = IsMessageLine line
-IsSqlLine sql.TooLong line = IsMessageLine line
-IsSqlLine sql.Memory line = IsMemoryLine line
+abbrev pub bind_words : BindFault → List (List ℕ)
+bind_words (bind.UnknownTable name) = bind_title (bind.UnknownTable name) ∷ name ∷ []
+bind_words (bind.TableTwice name) = bind_title (bind.TableTwice name) ∷ name ∷ []
+bind_words (bind.UnknownColumn name) = bind_title (bind.UnknownColumn name) ∷ name ∷ []
+bind_words (bind.AmbiguousColumn name) = bind_title (bind.AmbiguousColumn name) ∷ name ∷ []
+bind_words bind.TypeMismatch = bind_title bind.TypeMismatch ∷ []
+bind_words (bind.NotGrouped name) = bind_title (bind.NotGrouped name) ∷ name ∷ []
+bind_words (bind.BadOrderItem key) = bind_title (bind.BadOrderItem key) ∷ decimal key ∷ []
+bind_words bind.NoFactTable = bind_title bind.NoFactTable ∷ []
+bind_words (bind.NotStar name) = bind_title (bind.NotStar name) ∷ name ∷ []
+bind_words (bind.TooMany what) = bind_title (bind.TooMany what) ∷ many_word what ∷ []
+bind_words bind.Memory = memory_words
 
-abbrev pub IsBindLine : BindFault → List ℕ → Type 0
-IsBindLine (bind.UnknownTable name) line = IsMessageLine line
-IsBindLine (bind.TableTwice name) line = IsMessageLine line
-IsBindLine (bind.UnknownColumn name) line = IsMessageLine line
-IsBindLine (bind.AmbiguousColumn name) line = IsMessageLine line
-IsBindLine bind.TypeMismatch line = IsMessageLine line
-IsBindLine (bind.NotGrouped name) line = IsMessageLine line
-IsBindLine (bind.BadOrderItem key) line = line ≡ line_of (codes "B7 BadOrderItem" ∷ decimal key ∷ [])
-IsBindLine bind.NoFactTable line = IsMessageLine line
-IsBindLine (bind.NotStar name) line = IsMessageLine line
-IsBindLine (bind.TooMany what) line = IsMessageLine line
-IsBindLine bind.Memory line = IsMemoryLine line
+abbrev pub answer_words : AnswerFault → List (List ℕ)
+answer_words (answer.RowOverflow row) = answer_title (answer.RowOverflow row) ∷ decimal row ∷ []
+answer_words answer.SumOutOfRange = answer_title answer.SumOutOfRange ∷ []
+answer_words answer.Memory = memory_words
+answer_words answer.Write = answer_title answer.Write ∷ []
 
-abbrev pub IsAnswerLine : AnswerFault → List ℕ → Type 0
-IsAnswerLine (answer.RowOverflow row) line = line ≡ line_of (codes "A1 RowOverflow" ∷ decimal row ∷ [])
-IsAnswerLine answer.SumOutOfRange line = IsMessageLine line
-IsAnswerLine answer.Memory line = IsMemoryLine line
-IsAnswerLine answer.Write line = IsMessageLine line
-
--- the line of a run's fault, with the name of the table that it tells of by its number
-abbrev pub IsRunLine : List ℕ → RunFault → List ℕ → Type 0
-IsRunLine name (run.Load table fault) line = IsLoadLine name fault line
-IsRunLine name (run.Sql fault) line = IsSqlLine fault line
-IsRunLine name (run.Bind fault) line = IsBindLine fault line
-IsRunLine name (run.Answer fault) line = IsAnswerLine fault line
-IsRunLine name run.Memory line = IsMemoryLine line
+-- the words of a run's fault, with the name of the table that it tells of by its number
+abbrev pub run_words : List ℕ → RunFault → List (List ℕ)
+run_words name (run.Load table fault) = load_words name fault
+run_words name (run.Sql fault) = sql_words fault
+run_words name (run.Bind fault) = bind_words fault
+run_words name (run.Answer fault) = answer_words fault
+run_words name run.Memory = memory_words

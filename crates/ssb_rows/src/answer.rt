@@ -4,9 +4,16 @@ use ssb_values::OwnedValue;
 use std::marker::Model;
 
 /// The values of a row, from left to right, seen as their list.
-#[derive(Drop)]
 pub struct AnswerRow {
     fields: Vec<OwnedValue>,
+}
+
+// Written out, so that what lets go of one need not say how its parts are let go.
+impl Drop for AnswerRow {
+    fn drop(self) {
+        let AnswerRow { fields } = self;
+        drop(fields);
+    }
 }
 
 impl Model for AnswerRow {

@@ -1,20 +1,43 @@
 // Why a query's answer could not be given.
 
+ghost use Rattle.std.specs.Prelude.{◌≡◌};
+ghost use Rattle.ssb_rows.specs.Titles.{answer_title};
+
+use std::fmt;
 use thiserror::Error;
 
 /// Why an answer could not be computed or written, least number first.
 #[derive(Clone, Copy, PartialEq, Eq, Debug, Error)]
 pub enum AnswerFault {
     /// An expression leaves 64 bits at a fact row, numbered from 1.
-    #[error("A1 RowOverflow {0}")]
     RowOverflow(u32),
     /// A sum leaves 64 bits.
-    #[error("A2 SumOutOfRange")]
     SumOutOfRange,
     /// A growth was refused.
-    #[error("A3 Memory")]
     Memory,
     /// The writer failed.
-    #[error("A4 Write")]
     Write,
+}
+
+impl AnswerFault {
+    /// Its number and its name.
+    pub fn title(&self) -> &str
+        ensures { result.now ≡ answer_title self.now }
+    {
+        match self {
+            AnswerFault::RowOverflow(_) => "A1 RowOverflow",
+            AnswerFault::SumOutOfRange => "A2 SumOutOfRange",
+            AnswerFault::Memory => "A3 Memory",
+            AnswerFault::Write => "A4 Write",
+        }
+    }
+}
+
+impl fmt::Display for AnswerFault {
+    fn fmt<W: fmt::Write>(&self, f: &mut fmt::Formatter<W>) -> fmt::Result {
+        match self {
+            AnswerFault::RowOverflow(row) => write!(f, "{} {row}", self.title()),
+            _ => f.write_str(self.title()),
+        }
+    }
 }

@@ -11,4 +11,5 @@ pub mod ReadSelects
 pub mod Room
 pub mod Spells
 pub mod Steps
+pub mod Titles
 pub mod Told

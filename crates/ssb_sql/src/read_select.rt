@@ -21,14 +21,6 @@ use ssb_tokens::{Mark, Sign, Stop, Token};
 use ssb_trees::Filter;
 use std::alloc::Global;
 
-// WHERE, GROUP BY, HAVING and ORDER BY.
-type Clauses = (
-    Option<Filter<ColumnName>>,
-    Items<ColumnName>,
-    Option<Filter<Output>>,
-    Items<Order>,
-);
-
 // The word and a condition; or nothing.
 #[tactic(auto, unfolding(crate::specs::ReadSelects::filter_at))]
 fn condition_if<C: Subject>(
@@ -114,45 +106,49 @@ fn ordered(alloc: Global, tokens: &[Token]) -> Result<Items<Order>, Stop>
     }
 }
 
+// What is read from here on fills a select from its end: each clause is read, then what follows it, and is
+// put to that. So no more than one clause is in hand where what follows can't be read.
+
 // HAVING, and what follows.
 #[tactic(auto, unfolding(crate::specs::ReadSelects::kept_at))]
-fn kept(
-    alloc: Global,
-    depth: usize,
-    tokens: &[Token],
-) -> Result<(Option<Filter<Output>>, Items<Order>), Stop>
+fn kept(alloc: Global, depth: usize, tokens: &[Token]) -> Result<Select, Stop>
     requires { depth < 2 ^ 32 }
-    ensures { Gives (λ x. x) result (kept_at depth tokens.now) }
+    ensures { Gives (λ s. (s.having, s.orders)) result (kept_at depth tokens.now) }
 {
     let (having, rest) = condition_if(alloc, Keyword::Having, depth + 1, tokens)?;
     let orders = ordered(alloc, rest)?;
-    Ok((having, orders))
+    Ok(Select {
+        items: Items::new(alloc),
+        from: Items::new(alloc),
+        condition: None,
+        groups: Items::new(alloc),
+        having,
+        orders,
+    })
 }
 
 // GROUP BY, and what follows.
 #[tactic(auto, unfolding(crate::specs::ReadSelects::grouped_at))]
-fn grouped(
-    alloc: Global,
-    depth: usize,
-    tokens: &[Token],
-) -> Result<(Items<ColumnName>, Option<Filter<Output>>, Items<Order>), Stop>
+fn grouped(alloc: Global, depth: usize, tokens: &[Token]) -> Result<Select, Stop>
     requires { depth < 2 ^ 32 }
-    ensures { Gives (λ x. x) result (grouped_at depth tokens.now) }
+    ensures { Gives (λ s. (s.groups, s.having, s.orders)) result (grouped_at depth tokens.now) }
 {
     let (groups, rest) = by(alloc, Keyword::Group, tokens, |list| columns(alloc, list))?;
-    let (having, orders) = kept(alloc, depth, rest)?;
-    Ok((groups, having, orders))
+    let mut select = kept(alloc, depth, rest)?;
+    select.groups = groups;
+    Ok(select)
 }
 
 // WHERE, and what follows.
 #[tactic(auto, unfolding(crate::specs::ReadSelects::filtered_at))]
-fn filtered(alloc: Global, depth: usize, tokens: &[Token]) -> Result<Clauses, Stop>
+fn filtered(alloc: Global, depth: usize, tokens: &[Token]) -> Result<Select, Stop>
     requires { depth < 2 ^ 32 }
-    ensures { Gives (λ x. x) result (filtered_at depth tokens.now) }
+    ensures { Gives (λ s. (s.condition, s.groups, s.having, s.orders)) result (filtered_at depth tokens.now) }
 {
     let (condition, rest) = condition_if(alloc, Keyword::Where, depth + 1, tokens)?;
-    let (groups, having, orders) = grouped(alloc, depth, rest)?;
-    Ok((condition, groups, having, orders))
+    let mut select = grouped(alloc, depth, rest)?;
+    select.condition = condition;
+    Ok(select)
 }
 
 // The tables of FROM.
@@ -165,14 +161,15 @@ fn tables(alloc: Global, tokens: &[Token]) -> Parsed<'_, Items<Name>>
 
 // FROM, and what follows.
 #[tactic(auto, unfolding(crate::specs::ReadSelects::joined_at))]
-fn joined(alloc: Global, depth: usize, tokens: &[Token]) -> Result<(Items<Name>, Clauses), Stop>
+fn joined(alloc: Global, depth: usize, tokens: &[Token]) -> Result<Select, Stop>
     requires { depth < 2 ^ 32 }
-    ensures { Gives (λ x. x) result (joined_at depth tokens.now) }
+    ensures { Gives (λ s. (s.from, (s.condition, s.groups, s.having, s.orders))) result (joined_at depth tokens.now) }
 {
     let start = expect(tokens, Sign::Word(Keyword::From))?;
     let (from, rest) = tables(alloc, start)?;
-    let clauses = filtered(alloc, depth, rest)?;
-    Ok((from, clauses))
+    let mut select = filtered(alloc, depth, rest)?;
+    select.from = from;
+    Ok(select)
 }
 
 /// Reads a query up to its end, with at most `depth` open parentheses.
@@ -183,13 +180,7 @@ pub(crate) fn query(alloc: Global, depth: usize, tokens: &[Token]) -> Result<Sel
 {
     let start = expect(tokens, Sign::Word(Keyword::Select))?;
     let (items, rest) = items(alloc, depth, start)?;
-    let (from, (condition, groups, having, orders)) = joined(alloc, depth, rest)?;
-    Ok(Select {
-        items,
-        from,
-        condition,
-        groups,
-        having,
-        orders,
-    })
+    let mut select = joined(alloc, depth, rest)?;
+    select.items = items;
+    Ok(select)
 }

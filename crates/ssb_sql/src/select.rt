@@ -6,7 +6,6 @@ use sqlite_items::Items;
 use ssb_terms::Name;
 
 /// What an item of the select list gives.
-#[derive(Drop)]
 pub enum Output {
     /// A column's value.
     Column(ColumnName),
@@ -14,8 +13,16 @@ pub enum Output {
     Aggregate(Aggregate<ColumnName>),
 }
 
+impl Drop for Output {
+    fn drop(self) {
+        match self {
+            Output::Column(name) => drop(name),
+            Output::Aggregate(aggregate) => drop(aggregate),
+        }
+    }
+}
+
 /// An item of the select list.
-#[derive(Drop)]
 pub struct Item {
     /// What it gives.
     pub output: Output,
@@ -23,8 +30,15 @@ pub struct Item {
     pub alias: Option<Name>,
 }
 
+impl Drop for Item {
+    fn drop(self) {
+        let Item { output, alias } = self;
+        drop(output);
+        drop(alias);
+    }
+}
+
 /// What the answer is ordered by.
-#[derive(Drop)]
 pub enum Key {
     /// The item of this name.
     Name(Name),
@@ -32,13 +46,28 @@ pub enum Key {
     Position(u64),
 }
 
+impl Drop for Key {
+    fn drop(self) {
+        match self {
+            Key::Name(name) => drop(name),
+            Key::Position(_) => {}
+        }
+    }
+}
+
 /// A key of ORDER BY.
-#[derive(Drop)]
 pub struct Order {
     /// What is compared.
     pub key: Key,
     /// Whether the greatest come first.
     pub descending: bool,
+}
+
+impl Drop for Order {
+    fn drop(self) {
+        let Order { key, descending: _ } = self;
+        drop(key);
+    }
 }
 
 /// A query, as it is written. Names are in lower case.

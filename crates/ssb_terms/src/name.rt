@@ -11,9 +11,17 @@ use std::alloc::{AllocError, Global};
 use std::marker::Model;
 
 /// A name in lower case, and no reserved word, seen as its bytes.
-#[derive(Debug, Drop)]
+#[derive(Debug)]
 pub struct Name {
     letters: Text,
+}
+
+// Written out, so that the crates above need no proof of how it is let go.
+impl Drop for Name {
+    fn drop(self) {
+        let Name { letters } = self;
+        drop(letters);
+    }
 }
 
 impl Model for Name {

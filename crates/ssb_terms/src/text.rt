@@ -6,9 +6,17 @@ use std::alloc::{AllocError, Global};
 use std::marker::Model;
 
 /// A text, seen as its bytes.
-#[derive(Debug, Drop)]
+#[derive(Debug)]
 pub struct Text {
     letters: String,
+}
+
+// Written out, so that the crates above need no proof of how it is let go.
+impl Drop for Text {
+    fn drop(self) {
+        let Text { letters } = self;
+        drop(letters);
+    }
 }
 
 impl Model for Text {

@@ -9,7 +9,9 @@ loop-table-preserved g c =
     let below = subst (λ ts. k < length ts) is c.loop-table-test.true in
     let table = c.table-item.is ∙ ap (λ ts. get_or ts k c.table-item.result) is in
     let added = c.in_default.ensures.added in
-    let count = c.loop-table.invariant.0 in (
-      omega (arith, added, count),
-      rw (take_more c.args.catalog.now k c.table-item.result below, sym table) (c.in_default.ensures.sections (take k c.args.catalog.now) c.loop-table.invariant.1),
-    )
+    let count = c.loop-table.invariant.files in
+    record {
+      files = omega (arith, added, count);
+      unread = c.in_default.ensures.unread c.loop-table.invariant.unread;
+      sections = rw (take_more c.args.catalog.now k c.table-item.result below, sym table) (c.in_default.ensures.sections (take k c.args.catalog.now) c.loop-table.invariant.sections);
+    }

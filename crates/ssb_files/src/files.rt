@@ -1,13 +1,12 @@
 // Files that are opened and read.
 
-ghost use Rattle.std.specs.Prelude.{◌≡◌, ◌≤◌, ◌<◌, ◌+◌, IfOk, IfErr, IsNone, IsOk, IsErrAnd, IsUtf8, [], length, map, vec_len, string_bytes};
+ghost use Rattle.std.specs.Prelude.{◌≡◌, ◌≤◌, ◌<◌, ◌+◌, IfOk, IfErr, IsNone, IsOk, IsErrAnd, IsUtf8, length, map, vec_len, string_bytes};
 ghost use Rattle.std.specs.List.{All};
-ghost use Rattle.std.specs.Io.Take.{take_limit};
 ghost use Rattle.ssb_catalog.specs.BuiltIn.{ssb_tables};
 ghost use Rattle.ssb_files.specs.Faults.{IsNoCatalog, IsNoQuery, IsOpenFault, IsQueryFault};
 ghost use Rattle.ssb_files.specs.Files.{longest_query, section_count};
 ghost use Rattle.ssb_files.specs.Opening.{AreOpened, AreSectionsOf, GainsTable};
-ghost use Rattle.ssb_sections.specs.Sections.{AreSizes};
+ghost use Rattle.ssb_sections.specs.Sections.{AreSizes, AreUnread, sizes_of};
 
 use crate::fault::ProgramFault;
 use ssb_catalog::{Catalog, TableDef};
@@ -150,8 +149,8 @@ fn open_sections<R: Files + AllocGlobal>(
     path: &str,
     count: u64,
 ) -> Result<Vec<Section<R::File>>, ProgramFault>
-    ensures unread { IfOk result (λ sections. All (λ s. s.given.items ≡ []) sections.items) }
-    ensures sizes { IfOk result (λ sections. AreSizes (map (λ s. take_limit s.begun.value) sections.items)) }
+    ensures unread { IfOk result (λ sections. AreUnread sections.items) }
+    ensures sizes { IfOk result (λ sections. AreSizes (sizes_of sections.items)) }
     ensures alone { count ≤ 1 → IfOk result (λ sections. vec_len sections ≡ 1) }
     ensures fault { IfErr result IsOpenFault }
 {
@@ -165,8 +164,8 @@ fn open_table<R: Files + AllocGlobal>(
     table: &TableDef,
     workers: u32,
 ) -> Result<Vec<Section<R::File>>, ProgramFault>
-    ensures unread { IfOk result (λ sections. All (λ s. s.given.items ≡ []) sections.items) }
-    ensures sections { IfOk result (λ sections. AreSectionsOf table.now (map (λ s. take_limit s.begun.value) sections.items)) }
+    ensures unread { IfOk result (λ sections. AreUnread sections.items) }
+    ensures sections { IfOk result (λ sections. AreSectionsOf table.now (sizes_of sections.items)) }
     ensures fault { IfErr result IsOpenFault }
 {
     let path = path_of(rt.alloc(), data, table.name())?;
@@ -185,8 +184,8 @@ fn add_file<R: Files + AllocGlobal>(
     files: &mut Vec<Vec<Section<R::File>>>,
 ) -> Result<(), ProgramFault>
     ensures added { IfOk result (λ u. vec_len files.new ≡ vec_len files.old + 1) }
-    ensures unread { IfOk result (λ u. All (λ f. All (λ s. s.given.items ≡ []) f.items) files.old.items → All (λ f. All (λ s. s.given.items ≡ []) f.items) files.new.items) }
-    ensures sections { IfOk result (λ u. GainsTable (λ f. map (λ s. take_limit s.begun.value) f.items) table.now files.old.items files.new.items) }
+    ensures unread { IfOk result (λ u. All (λ f. AreUnread f.items) files.old.items → All (λ f. AreUnread f.items) files.new.items) }
+    ensures sections { IfOk result (λ u. GainsTable table.now files.old.items files.new.items) }
     ensures fault { IfErr result IsOpenFault }
 {
     let sections = open_table(rt, data, table, workers)?;
@@ -210,8 +209,8 @@ pub fn open_all<R: Files + AllocGlobal>(
     workers: u32,
 ) -> Result<Vec<Vec<Section<R::File>>>, ProgramFault>
     ensures files { IfOk result (λ files. vec_len files ≡ length catalog.now) }
-    ensures unread { IfOk result (λ files. All (λ f. All (λ s. s.given.items ≡ []) f.items) files.items) }
-    ensures sections { IfOk result (λ files. AreOpened (λ f. map (λ s. take_limit s.begun.value) f.items) catalog.now files.items) }
+    ensures unread { IfOk result (λ files. All (λ f. AreUnread f.items) files.items) }
+    ensures sections { IfOk result (λ files. AreOpened catalog.now files.items) }
     ensures fault { IfErr result IsOpenFault }
 {
     let mut files = Vec::new(rt.alloc());

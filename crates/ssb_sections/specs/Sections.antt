@@ -1,6 +1,11 @@
 -- Which ranges of bytes the sections of a file have.
 -- Source: own.
 use Rattle.std.specs.Prelude.{◌≡◌, ◌+◌, ◌<◌, ◌≤◌, ◌++◌, ◌⊎◌, [], ◌∷◌, ℕ, List, map}
+use Rattle.std.specs.List.{All}
+use Rattle.std.specs.Io.Take.{take_limit}
+use Rattle.std.specs.declared.io.traits.Read.{Ghosts as Read}
+use Rattle.std.specs.declared.io.traits.Take.{Take}
+use Rattle.ssb_records.specs.declared.reader.In.{In}
 use Rattle.ssb_sections.specs.declared.spans.Span.{Span}
 
 -- a file of no more bytes is not cut: 16 MB
@@ -35,3 +40,11 @@ pub record AreSizes (sizes : List ℕ) : Type 0 where
   pub spans : List Span
   pub ranges : AreSpans len spans
   pub same : sizes ≡ map (λ s. s.size) spans
+
+-- how many bytes each of these sections may give
+abbrev pub sizes_of : {F : Type 0} {read : Read (Take F)} → List (In (Take F) read) → List ℕ
+sizes_of sections = map (λ s. take_limit s.begun.value) sections
+
+-- nothing was read of any of these sections
+abbrev pub AreUnread : {F : Type 0} {read : Read (Take F)} → List (In (Take F) read) → Type 0
+AreUnread sections = All (λ s. s.given.items ≡ []) sections

@@ -1,9 +1,9 @@
 // The sections of a file: ranges of its bytes, each read through a handle of its own.
 
-ghost use Rattle.std.specs.Prelude.{◌≡◌, ◌≤◌, [], ◌∷◌, Some, All, IfOk, IfSome, IsTrue, map, vec_len};
+ghost use Rattle.std.specs.Prelude.{◌≡◌, ◌≤◌, [], ◌∷◌, Some, IfOk, IfSome, IsTrue, map, vec_len};
 ghost use Rattle.std.specs.Fs.{metadata_len};
 ghost use Rattle.std.specs.Io.Take.{take_inner, take_limit};
-ghost use Rattle.ssb_sections.specs.Sections.{AreSizes};
+ghost use Rattle.ssb_sections.specs.Sections.{AreSizes, AreUnread, sizes_of};
 
 use crate::spans::{ENDLESS, Span, spans_of};
 use ssb_records::In;
@@ -75,8 +75,8 @@ fn sections_anew<R: Files + AllocGlobal>(
     known: &Metadata,
     spans: &[Span],
 ) -> Result<Option<Vec<Section<R::File>>>, AllocError>
-    ensures unread { IfOk result (λ made. IfSome made (λ sections. All (λ s. s.given.items ≡ []) sections.items)) }
-    ensures sizes { IfOk result (λ made. IfSome made (λ sections. map (λ s. take_limit s.begun.value) sections.items ≡ map (λ s. s.size) spans.now)) }
+    ensures unread { IfOk result (λ made. IfSome made (λ sections. AreUnread sections.items)) }
+    ensures sizes { IfOk result (λ made. IfSome made (λ sections. sizes_of sections.items ≡ map (λ s. s.size) spans.now)) }
 {
     let mut sections = Vec::new(rt.alloc());
     for span in spans {
@@ -91,7 +91,7 @@ fn sections_anew<R: Files + AllocGlobal>(
 // All bytes in the first section.
 fn undivided<F: Read>(alloc: Global) -> Division<F>
     ensures alone { result.1.items ≡ [] }
-    ensures sizes { AreSizes (result.0 ∷ map (λ s. take_limit s.begun.value) result.1.items) }
+    ensures sizes { AreSizes (result.0 ∷ sizes_of result.1.items) }
 {
     (ENDLESS, Vec::new(alloc))
 }
@@ -103,8 +103,8 @@ fn divide<R: Files + AllocGlobal>(
     known: &Metadata,
     count: u64,
 ) -> Result<Division<R::File>, AllocError>
-    ensures unread { IfOk result (λ d. All (λ s. s.given.items ≡ []) d.1.items) }
-    ensures sizes { IfOk result (λ d. AreSizes (d.0 ∷ map (λ s. take_limit s.begun.value) d.1.items)) }
+    ensures unread { IfOk result (λ d. AreUnread d.1.items) }
+    ensures sizes { IfOk result (λ d. AreSizes (d.0 ∷ sizes_of d.1.items)) }
     ensures alone { count ≤ 1 → IfOk result (λ d. vec_len d.1 ≡ 0) }
 {
     let spans = spans_of(rt.alloc(), known.len(), count)?;
@@ -122,8 +122,8 @@ fn division_of<R: Files + AllocGlobal>(
     file: &R::File,
     count: u64,
 ) -> Result<Division<R::File>, AllocError>
-    ensures unread { IfOk result (λ d. All (λ s. s.given.items ≡ []) d.1.items) }
-    ensures sizes { IfOk result (λ d. AreSizes (d.0 ∷ map (λ s. take_limit s.begun.value) d.1.items)) }
+    ensures unread { IfOk result (λ d. AreUnread d.1.items) }
+    ensures sizes { IfOk result (λ d. AreSizes (d.0 ∷ sizes_of d.1.items)) }
     ensures alone { count ≤ 1 → IfOk result (λ d. vec_len d.1 ≡ 0) }
 {
     match file.metadata() {
@@ -148,8 +148,8 @@ pub fn sections_of<R: Files + AllocGlobal>(
     file: R::File,
     count: u64,
 ) -> Result<Vec<Section<R::File>>, AllocError>
-    ensures unread { IfOk result (λ sections. All (λ s. s.given.items ≡ []) sections.items) }
-    ensures sizes { IfOk result (λ sections. AreSizes (map (λ s. take_limit s.begun.value) sections.items)) }
+    ensures unread { IfOk result (λ sections. AreUnread sections.items) }
+    ensures sizes { IfOk result (λ sections. AreSizes (sizes_of sections.items)) }
     ensures alone { count ≤ 1 → IfOk result (λ sections. vec_len sections ≡ 1) }
 {
     let (first, later) = division_of(rt, path, &file, count)?;

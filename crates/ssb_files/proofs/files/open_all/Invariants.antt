@@ -1,12 +1,12 @@
-use Rattle.std.proofs.Common.{◌≡◌, [], map, take, vec_len}
-use Rattle.std.specs.Io.Take.{take_limit}
+use Rattle.std.proofs.Common.{◌≡◌, take, vec_len}
 use Rattle.std.specs.List.{All}
 use Rattle.ssb_files.specs.Opening.{AreOpened}
+use Rattle.ssb_sections.specs.Sections.{AreUnread}
 use Rattle.ssb_files.proofs.files.open_all.Given as goal
 
 abbrev pub invariant-loop-table : goal.invariant-loop-table
 invariant-loop-table g l = record {
   files : vec_len l.files ≡ l.table-index;
-  unread : All (λ f. All (λ s. s.given.items ≡ []) f.items) l.files.items;
-  sections : AreOpened (λ f. map (λ s. take_limit s.begun.value) f.items) (take l.table-index l.catalog) l.files.items;
+  unread : All (λ f. AreUnread f.items) l.files.items;
+  sections : AreOpened (take l.table-index l.catalog) l.files.items;
 }

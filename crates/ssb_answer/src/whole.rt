@@ -18,7 +18,7 @@ use ssb_catalog::Catalog;
 use ssb_cells::Table;
 use ssb_groups::Groups;
 use ssb_job::Job;
-use ssb_load::{Joined, load_all_with};
+use ssb_lanes::{Joined, load_all_with};
 use ssb_pipeline::Gate;
 use ssb_query::Query;
 use ssb_records::{PIECE_SIZE, Source};

@@ -2,9 +2,9 @@
 
 ghost use Rattle.std.specs.Prelude.{◌≡◌, IfSome, length, vec_len};
 
-use crate::probe::{catalog_in, micros_since};
+use crate::probe::{catalog_in, micros_since, path_of};
 use ssb_catalog::{Catalog, TableDef};
-use ssb_load::{Joined, load_all_with};
+use ssb_lanes::{Joined, load_all_with};
 use ssb_records::{In, PIECE_SIZE};
 use ssb_sections::{Section, sections_of};
 use std::fs;
@@ -21,8 +21,7 @@ fn source_of<R: Files + AllocGlobal>(
     table: &TableDef,
     count: u64,
 ) -> Option<Joined<Section<R::File>>> {
-    let name = table.name();
-    let path = format!(in rt.alloc(); "{folder}/{name}.tbl").ok()?;
+    let path = path_of(rt.alloc(), folder, table)?;
     let count = if table.is_fact() { count } else { 1 };
     let file = fs::open(rt, path.as_str()).ok()?;
     let sections = sections_of(rt, path.as_str(), file, count).ok()?;

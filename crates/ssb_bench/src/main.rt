@@ -34,8 +34,11 @@ fn words<R: Env + AllocGlobal>(rt: &R) -> Option<Vec<String>> {
 }
 
 // Prints how many records a file has.
-fn print_count<R: Files + Print + AllocGlobal>(rt: &R, path: &str) -> u8 {
-    let Ok(file) = fs::open(rt, path) else {
+fn print_count<R: Files + Print + AllocGlobal>(rt: &R, given: &[String]) -> u8 {
+    let [path] = given else {
+        return BAD_WORDS;
+    };
+    let Ok(file) = fs::open(rt, path.as_str()) else {
         return FAILED;
     };
     let Ok(count) = count_records(rt.alloc(), file) else {
@@ -61,8 +64,11 @@ fn print_report<R: Print>(rt: &R, report: &Report) -> io::Result<()> {
 }
 
 // Prints how long loading all tables, building a job and probing each fact row took.
-fn print_measures<R: Files + Clock + Print + AllocGlobal>(rt: &R, folder: &str, path: &str) -> u8 {
-    let Some(report) = measure(rt, folder, path) else {
+fn print_measures<R: Files + Clock + Print + AllocGlobal>(rt: &R, given: &[String]) -> u8 {
+    let [folder, path] = given else {
+        return BAD_WORDS;
+    };
+    let Some(report) = measure(rt, folder.as_str(), path.as_str()) else {
         return FAILED;
     };
     match print_report(rt, &report) {
@@ -71,36 +77,18 @@ fn print_measures<R: Files + Clock + Print + AllocGlobal>(rt: &R, folder: &str, 
     }
 }
 
-// Prints the least milliseconds of so many answers.
-fn print_own_time<R: Files + Clock + Print + Threads + Wait + Sync + AllocGlobal>(
-    rt: &R,
-    folder: &str,
-    path: &str,
-    by: Option<By>,
-    times: &str,
-) -> u8 {
-    let (Some(by), Ok(times)) = (by, times.parse()) else {
-        return BAD_WORDS;
-    };
-    let Some(micros) = own_time(rt, folder, path, by, times) else {
-        return FAILED;
-    };
-    match print_micros(rt, "answering", micros) {
-        Ok(()) => 0,
-        Err(_) => FAILED,
-    }
-}
-
 // Prints the milliseconds of loading from so many sections.
 fn print_loading_time<R: Files<File = File> + Clock + Print + Threads + Sync + AllocGlobal>(
     rt: &R,
-    folder: &str,
-    count: &str,
+    given: &[String],
 ) -> u8 {
+    let [folder, count] = given else {
+        return BAD_WORDS;
+    };
     let Ok(count) = count.parse() else {
         return BAD_WORDS;
     };
-    let Some(micros) = loading_time(rt, folder, count) else {
+    let Some(micros) = loading_time(rt, folder.as_str(), count) else {
         return FAILED;
     };
     match print_micros(rt, "loading", micros) {
@@ -120,30 +108,63 @@ fn workers(workers: &str, morsel_size: &str, parts: &str) -> Option<By> {
     Some(By::Workers(Settings::new(workers, morsel_size, parts)?))
 }
 
+// Prints the least milliseconds of so many answers, given by such workers.
+fn print_least<R: Files + Clock + Print + Threads + Wait + Sync + AllocGlobal>(
+    rt: &R,
+    folder: &str,
+    path: &str,
+    by: Option<By>,
+    times: &str,
+) -> u8 {
+    let (Some(by), Ok(times)) = (by, times.parse()) else {
+        return BAD_WORDS;
+    };
+    let Some(micros) = own_time(rt, folder, path, by, times) else {
+        return FAILED;
+    };
+    match print_micros(rt, "answering", micros) {
+        Ok(()) => 0,
+        Err(_) => FAILED,
+    }
+}
+
+// Prints how long an answer over loaded tables took.
+fn print_own_time<R: Files + Clock + Print + Threads + Wait + Sync + AllocGlobal>(
+    rt: &R,
+    given: &[String],
+) -> u8 {
+    match given {
+        [folder, path, morsel_size, times] => {
+            let by = alone(morsel_size.as_str());
+            print_least(rt, folder.as_str(), path.as_str(), by, times.as_str())
+        }
+        [folder, path, morsel_size, times, count, parts] => {
+            let by = workers(count.as_str(), morsel_size.as_str(), parts.as_str());
+            print_least(rt, folder.as_str(), path.as_str(), by, times.as_str())
+        }
+        _ => BAD_WORDS,
+    }
+}
+
 // Does what the words ask, and gives the exit status.
 fn act<R: Files<File = File> + Clock + Print + Threads + Wait + Sync + AllocGlobal>(
     rt: &R,
     given: &[String],
 ) -> u8 {
-    match given {
-        [] | [_] => 0,
-        [_, command, path] if command.as_str() == "read" => print_count(rt, path.as_str()),
-        [_, command, folder, count] if command.as_str() == "load" => {
-            print_loading_time(rt, folder.as_str(), count.as_str())
-        }
-        [_, command, folder, path] if command.as_str() == "probe" => {
-            print_measures(rt, folder.as_str(), path.as_str())
-        }
-        [_, command, folder, path, morsel_size, times] if command.as_str() == "run" => {
-            let by = alone(morsel_size.as_str());
-            print_own_time(rt, folder.as_str(), path.as_str(), by, times.as_str())
-        }
-        [_, command, folder, path, morsel_size, times, count, parts] if command.as_str() == "run" =>
-            {
-                let by = workers(count.as_str(), morsel_size.as_str(), parts.as_str());
-                print_own_time(rt, folder.as_str(), path.as_str(), by, times.as_str())
-            }
-        _ => BAD_WORDS,
+    let [_, command, given @ ..] = given else {
+        return 0;
+    };
+    let command = command.as_str();
+    if command == "read" {
+        print_count(rt, given)
+    } else if command == "load" {
+        print_loading_time(rt, given)
+    } else if command == "probe" {
+        print_measures(rt, given)
+    } else if command == "run" {
+        print_own_time(rt, given)
+    } else {
+        BAD_WORDS
     }
 }
 

@@ -11,7 +11,7 @@ use ssb_files::{
     OUT_OF_MEMORY, ProgramFault, Section, catalog_of, names_of, open_all, program_line,
     program_status_of, read_query,
 };
-use ssb_load::Joined;
+use ssb_lanes::Joined;
 use ssb_records::Source;
 use ssb_reply::{MEMORY_LINE, Out, RunFault, Settings};
 use ssb_rows::AnswerFault;

@@ -2,7 +2,7 @@
 use Rattle.std.proofs.Common.{◌≡◌, [], ◌∷◌, ◌∙◌, List, Option, None, Some, map, refl, ap, subst}
 use Rattle.std.proofs.lemmas.List.{append-nil}
 use Rattle.ssb_load.specs.Files.{Bytes, given_each}
-use Rattle.ssb_load.specs.Joined.{all_bytes}
+use Rattle.ssb_lanes.specs.Joined.{all_bytes}
 
 pub fresh-each : {R : Type 0} (remaining : R → Option Bytes) (readers : List R) (files : List Bytes) → map remaining readers ≡ map Some files → given_each (map (λ r. []) readers) files ≡ files
 fresh-each remaining [] [] e = refl

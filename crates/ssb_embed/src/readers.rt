@@ -8,7 +8,7 @@ ghost use Rattle.ssb_reply.specs.Running.{LeavesSink};
 use crate::alone::run_alone_from;
 use ssb_answer::run_from;
 use ssb_catalog::Catalog;
-use ssb_load::Joined;
+use ssb_lanes::Joined;
 use ssb_pipeline::Gate;
 use ssb_records::{In, PIECE_SIZE, Source};
 use ssb_reply::{RunFault, Settings};

@@ -1,19 +1,10 @@
-mod AssemblyFacts
-mod AssemblyLines
 pub mod DigitFacts
 pub mod FaultFacts
 pub mod HoldsFacts
-pub mod JoinedFacts
-mod JoiningFacts
 mod KeyFacts
 pub mod LawfulFacts
-mod LaneFacts
-mod LoadingAll
-mod MovedFacts
+pub mod LoadingAll
 pub mod NumberFacts
 pub mod OneKey
-mod PartReading
-mod PartTaking
 pub mod RuleFacts
-mod TableTaking
-mod TogetherFacts
+pub mod TableTaking

@@ -1,16 +1,7 @@
-pub mod Assembly
 pub mod Files
-pub mod Joined
-pub mod JoinedLaws
-pub mod JoinedSource
-pub mod Joining
-pub mod Lane
-pub mod Lanes
 pub mod Loader
 pub mod Loading
-pub mod Moved
 pub mod Numbers
-pub mod Part
 pub mod Rules
 pub mod Runs
 pub mod Subject

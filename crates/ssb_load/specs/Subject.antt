@@ -1,5 +1,5 @@
 -- What the records of a table are taken for, and what is wrong with them.
--- For the contracts inside this crate.
+-- For the contracts inside this crate, and those inside `ssb_lanes`.
 use Rattle.std.specs.Prelude.{◌≡◌, ℕ, List, [], Some}
 use Rattle.ssb_load.specs.Loading.{AreGoodRows}
 use Rattle.ssb_load.specs.Tables.{first_fault}

@@ -1,5 +1,5 @@
 -- What a table on its way stands for.
--- For the contracts inside this crate.
+-- For the contracts inside this crate, and those inside `ssb_lanes`.
 use Rattle.std.specs.Prelude.{◌≡◌, ◌≤◌, ◌<◌, ◌^◌, List, [], length, None}
 use Rattle.ssb_load.specs.Subject.{Subject, table}
 use Rattle.ssb_load.specs.Loader.{Holds}

@@ -1,6 +1,6 @@
 // What is wrong with a record.
 
-ghost use Rattle.std.specs.Prelude.{◌≡◌, ◌≢◌, ◌+◌, ◌^◌, ℤ, length, true, None, Some, ◌<◌};
+ghost use Rattle.std.specs.Prelude.{◌≡◌, ◌≢◌, ◌+◌, ◌^◌, true, None, Some, ◌<◌};
 ghost use Rattle.std.specs.List.{list_all};
 ghost use Rattle.std.specs.Str.{is_utf8};
 ghost use Rattle.csv.specs.Records.{fields_of};
@@ -30,8 +30,8 @@ fn any_field_fails(test: Test, rules: &[Rule], row: &ByteRecord) -> bool
     false
 }
 
-// The place of the key under these rules.
-pub(crate) fn key_place(rules: &[Rule]) -> Option<usize>
+/// The place of the key under these rules, from 0, if one is a key's.
+pub fn key_place(rules: &[Rule]) -> Option<usize>
     ensures { result ≡ key_place rules.now }
 {
     for k in 0..rules.len() {

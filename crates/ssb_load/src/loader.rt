@@ -1,6 +1,6 @@
 // A table on its way, record by record.
 
-ghost use Rattle.std.specs.Prelude.{◌≡◌, ◌≢◌, ◌+◌, ◌<◌, ◌^◌, ◌++◌, ◌∷◌, ◌||◌, [], true, false, not, is_none, if◌then◌else◌, List, length, IfOk, IfErr, IfSome, OnOk, MatchResult, None, vec_len};
+ghost use Rattle.std.specs.Prelude.{◌≡◌, ◌+◌, ◌<◌, ◌^◌, ◌||◌, [], true, false, not, is_none, if◌then◌else◌, IfOk, IfErr, IfSome, OnOk, None, vec_len};
 ghost use Rattle.std.specs.List.{list_all};
 ghost use Rattle.std.specs.Str.{is_utf8};
 ghost use Rattle.csv.specs.Records.{fields_of};

@@ -1,6 +1,6 @@
 // Numbers in decimal.
 
-ghost use Rattle.std.specs.Prelude.{◌≡◌, ◌<◌, ◌^◌, Some, OnSome, IfSome, pos};
+ghost use Rattle.std.specs.Prelude.{◌≡◌, ◌<◌, Some, IfSome};
 ghost use Rattle.ssb_load.specs.Numbers.{number_of};
 
 /// The number that a text spells.

@@ -20,8 +20,13 @@ fn rules_of(alloc: Global, columns: &[ColumnDef]) -> Result<Vec<Rule>, Memory>
     columns.iter().map(|column| column.rule).collect(alloc)
 }
 
-// What the columns of a table take: some column there is, and one key at most.
-pub(crate) fn rules_at(alloc: Global, catalog: &Catalog, table: usize) -> Result<Vec<Rule>, Memory>
+/// What the columns of a table take: some column there is, and one key at most. `table` is the number,
+/// from 0, of a table of the catalog.
+///
+/// # Errors
+///
+/// [`Memory`] where a growth was refused.
+pub fn rules_at(alloc: Global, catalog: &Catalog, table: usize) -> Result<Vec<Rule>, Memory>
     requires { table < length catalog.now }
     ensures rules { IfOk result (λ rules. rules.items ≡ rules_at catalog.now table) }
     ensures some { IfOk result (λ rules. 0 < length rules.items) }

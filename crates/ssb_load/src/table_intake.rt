@@ -1,6 +1,6 @@
 // A table on its way, under the rules of its columns.
 
-ghost use Rattle.std.specs.Prelude.{◌≡◌, ◌<◌, [], List, IfOk, length, vec_len};
+ghost use Rattle.std.specs.Prelude.{◌≡◌, ◌<◌, [], List, IfOk, vec_len};
 
 use crate::judge::key_place;
 use crate::loader::Loader;
@@ -10,11 +10,13 @@ use ssb_records::{Intake, LoadFault};
 use ssb_terms::Rule;
 use std::alloc::{AllocError, Global};
 
-// The rules, how many rows there may be, and the rows so far.
-pub(crate) struct TableIntake {
+/// A table on its way: the rules of its columns, how many rows there may be, and the rows so far.
+pub struct TableIntake {
     rules: Vec<Rule>,
     key: Option<usize>,
+    /// How many rows there may be.
     pub max_rows: u32,
+    /// How many rows there are so far.
     pub accepted: u64,
     loader: Loader,
 }
@@ -28,7 +30,6 @@ impl Drop for TableIntake {
 
 impl TableIntake {
     ghost use Rattle.ssb_load.specs.Subject.{Subject, table};
-    ghost use Rattle.ssb_cells.specs.Lawful.{HasOneKey, IsLawful};
     ghost use Rattle.ssb_records.specs.Records.{Fields};
     ghost use Rattle.ssb_load.specs.Rules.{columns_of};
     ghost use Rattle.ssb_load.specs.TableIntake.{IsLoading, subject_of};
@@ -53,12 +54,12 @@ impl TableIntake {
         })
     }
 
-    // The same, under a copy of these rules.
-    pub(crate) fn under(
-        alloc: Global,
-        rules: &[Rule],
-        max_rows: u32,
-    ) -> Result<TableIntake, AllocError>
+    /// A table of no row yet, under a copy of these rules.
+    ///
+    /// # Errors
+    ///
+    /// [`AllocError`] where a growth was refused.
+    pub fn under(alloc: Global, rules: &[Rule], max_rows: u32) -> Result<TableIntake, AllocError>
         ensures subject { IfOk result (λ t. subject_of t ≡ table rules.now max_rows) }
         ensures stands { IfOk result (λ t. IsLoading t []) }
     {
@@ -67,8 +68,8 @@ impl TableIntake {
         TableIntake::new(alloc, own, max_rows)
     }
 
-    // What its columns take.
-    pub(crate) fn rules(&self) -> &[Rule]
+    /// What its columns take.
+    pub fn rules(&self) -> &[Rule]
         ensures { result.now ≡ self.now.rules.items }
     {
         self.rules.as_slice()
@@ -83,8 +84,8 @@ impl TableIntake {
         self.into_loader().into_table()
     }
 
-    // The columns of the records that were taken.
-    pub(crate) fn into_columns(self) -> Vec<Column>
+    /// The columns of the records that were taken.
+    pub fn into_columns(self) -> Vec<Column>
         ensures { (good : List Fields) → IsLoading self good → result.items ≡ columns_of self.rules.items good }
     {
         self.into_loader().into_columns()

@@ -1,5 +1,5 @@
 use Rattle.std.proofs.Common.{◌≡◌, [], map}
-use Rattle.ssb_load.specs.Joined.{all_bytes, given_upto, sources_in}
+use Rattle.ssb_lanes.specs.Joined.{all_bytes, given_upto, sources_in}
 use Rattle.ssb_embed.proofs.readers.joined_of.Given as goal
 
 abbrev pub invariant-loop-reader : goal.invariant-loop-reader

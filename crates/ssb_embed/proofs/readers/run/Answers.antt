@@ -1,5 +1,5 @@
 use Rattle.std.proofs.Common.{map}
-use Rattle.ssb_load.specs.Joined.{all_bytes, given_upto, sources_in}
+use Rattle.ssb_lanes.specs.Joined.{all_bytes, given_upto, sources_in}
 use Rattle.ssb_reply.specs.Reply.{Replies}
 use Rattle.ssb_embed.proofs.Fresh.{told-whole}
 use Rattle.ssb_embed.proofs.readers.run.Goals as goal

@@ -1,0 +1,86 @@
+-- Sources that are read side by side: why they stop, said of the bytes given and of all bytes.
+use Rattle.std.proofs.Common.{◌≡◌, ◌∙◌, ◌<◌, ◌++◌, ◌∷◌, ℕ, List, [], length, length-append, take, drop, sym, ap, subst, arith, append_assoc}
+use Rattle.std.specs.List.{All}
+use Rattle.std.specs.Prelude.{Vec}
+use Rattle.std.specs.declared.alloc.Global.{Global}
+use Rattle.std.proofs.lemmas.List.{append-nil, drop_all, get_or-map, length-map, take_all}
+use Rattle.ssb_lanes.specs.Assembly.{Halts}
+use Rattle.ssb_records.specs.CutShort.{IfRead}
+use Rattle.ssb_records.specs.Giving.{given_since}
+use Rattle.ssb_records.specs.Intake.{Refuses, StopsBy, StopsIn}
+use Rattle.ssb_load.specs.Subject.{RefusesRow, Subject, judge}
+use Rattle.ssb_lanes.specs.Joined.{failures_with, sources_in}
+use Rattle.ssb_records.specs.Records.{Fields, records_of}
+use Rattle.ssb_records.specs.declared.fault.LoadFault.{LoadFault}
+use Rattle.ssb_records.specs.declared.fault.LoadFault.TheVariants as load
+use Rattle.ssb_lanes.specs.declared.lane.Lane.{Lane}
+use Rattle.ssb_records.proofs.LineRecords.{first-records}
+use Rattle.ssb_records.proofs.TakingAll.{grows, since-is}
+
+-- a list that was written over by one as long
+written : {A : Type 0} (n : ℕ) (old new : List A) → length old ≡ n → length new ≡ n → take n (new ++ drop (length new) old) ≡ new
+written n old new was is =
+    let none : drop (length new) old ≡ [] = drop_all (length new) old (omega (arith, was, is)) in
+    rw (none, append-nil new) (take_all n new (omega (arith, is)))
+
+-- lanes that were lent, as they came back
+pub record IsBack {S : Type 0} (old : Vec (Lane S) Global) (new : List (Lane S)) : Type 0 where
+  pub is : take old.len (new ++ drop (length new) old.items) ≡ new
+  pub count : length (sources_in new) ≡ old.len
+
+pub came-back : {S : Type 0} (old : Vec (Lane S) Global) (new : List (Lane S)) → length new ≡ old.len → IsBack old new
+came-back old new long = record { is = written old.len old.items new (sym old.ok.0) long; count = length-map new (λ l. l.source) ∙ long }
+
+-- what is told of each source is told of each lane's
+pub silent-lanes : {S : Type 0} (given : S → List ℕ) (lanes : List (Lane S)) → All (λ s. given s ≡ []) (sources_in lanes) → All (λ l. given l.source ≡ []) lanes
+silent-lanes given lanes h k d lt =
+    let n = length-map lanes (λ l. l.source) in
+    ap given (sym (get_or-map (λ l. l.source) lanes k d d.source lt)) ∙ h k d.source (omega (arith, n, lt))
+
+-- where nothing was given before, all bytes count
+pub since-none : (base all : List ℕ) → base ≡ [] → given_since base all ≡ all
+since-none base all none = since-is base all all (ap (λ t. t ++ all) (sym none))
+
+pub grows-none : (base all : List ℕ) → base ≡ [] → all ≡ base ++ given_since base all
+grows-none base all none = grows base all all (ap (λ t. t ++ all) (sym none))
+
+-- why sources stop, of the bytes given
+pub halts-fails : (s : Subject) (bytes : List ℕ) (e : LoadFault) → Halts s bytes e → StopsBy (judge s) bytes e
+halts-fails s bytes (load.Record f n) h = subst (λ t. RefusesRow s (records_of t) f n) (append-nil bytes) (h [])
+halts-fails s bytes (load.BadCatalog f n) h = absurd h
+halts-fails s bytes (load.Read n) h = h
+halts-fails s bytes load.Memory h = tt
+
+-- and of all bytes, of which these are a beginning
+pub halts-in : (s : Subject) (bytes more all : List ℕ) (e : LoadFault) → all ≡ bytes ++ more → Halts s bytes e → StopsIn (judge s) all e
+halts-in s bytes more all (load.Record f n) is h = subst (λ t. RefusesRow s (records_of t) f n) (sym is) (h more)
+halts-in s bytes more all (load.BadCatalog f n) is h = absurd h
+halts-in s bytes more all (load.Read n) is h =
+    let front = first-records h.lines (h.rest ++ more) h.cut.whole in
+    (records_of h.lines, front.0, ap records_of (is ∙ ap (λ t. t ++ more) h.cut.split ∙ append_assoc h.lines h.rest more) ∙ front.1, h.good, h.number)
+halts-in s bytes more all load.Memory is h = tt
+
+-- a failed read is counted
+pub counted : (e : LoadFault) (before after : ℕ) → after ≡ failures_with e before → IfRead e (λ n. before < after)
+counted (load.Record f n) before after is = tt
+counted (load.BadCatalog f n) before after is = tt
+counted (load.Read n) before after is = omega (arith, is)
+counted load.Memory before after is = tt
+
+-- a refusal is no failed read
+pub no-read : (s : Subject) (rs : List Fields) (e : LoadFault) (P : ℕ → Type 0) → Refuses (judge s) rs e → IfRead e P
+no-read s rs (load.Record f n) P h = tt
+no-read s rs (load.BadCatalog f n) P h = tt
+no-read s rs (load.Read n) P h = absurd h
+no-read s rs load.Memory P h = tt
+
+-- a count that rose is above nothing
+pub more-ends : (before after : ℕ) → before < after → 0 < after
+more-ends before after more = omega (arith, more)
+
+-- a list that has one item more is longer
+pub one-more : {A : Type 0} (old now : List A) (x : A) → now ≡ old ++ x ∷ [] → length old < length now
+one-more old now x e =
+    let n = length-append old (x ∷ []) in
+    let l = ap length e in
+    omega (arith, n, l)

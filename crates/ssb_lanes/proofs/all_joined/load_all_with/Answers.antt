@@ -1,0 +1,20 @@
+use Rattle.ssb_lanes.specs.JoinedSource.{joined_source}
+use Rattle.ssb_load.proofs.LoadingAll.{always-ok, ran-ended, ran-failed, ran-grows, ran-lawful, ran-loads, ran-told, ran-whole}
+use Rattle.ssb_lanes.proofs.all_joined.load_all_with.Goals as goal
+
+pub returns : goal.returns
+returns g c =
+    let catalog = c.args.catalog.now in
+    let before = c.args.sources.now in
+    let after = c.load_tables.new.sources in
+    let r = c.load_tables.result in
+    let ran = ran-whole joined_source catalog before after r c.requires c.load_tables.ensures in
+    record {
+      grows = ran-grows joined_source 0 catalog before after r ran;
+      loads = ran-loads joined_source catalog before after r ran;
+      ended = ran-ended joined_source 0 catalog before after r ran;
+      failed = ran-failed joined_source catalog before after r ran;
+      told = λ files is. ran-told joined_source catalog before after r files ran is;
+      lawful = ran-lawful joined_source 0 catalog before after r ran;
+      catalog = always-ok r c.tables-lawful.ensures.lawful;
+    }

@@ -1,0 +1,9 @@
+pub mod Assembly
+pub mod Joined
+pub mod JoinedLaws
+pub mod JoinedSource
+pub mod Joining
+pub mod Lane
+pub mod Lanes
+pub mod Moved
+pub mod Part

@@ -1,0 +1,193 @@
+// Sources one after the other as one.
+
+ghost use Rattle.std.specs.Prelude.{◌≡◌, ◌↔◌, ◌++◌, ◌<◌, [], false, length, map, vec_len, IfErr, IfOk, IsTrue, OnOk};
+ghost use Rattle.std.specs.List.{All};
+ghost use Rattle.ssb_records.specs.CutShort.{IfRead};
+ghost use Rattle.ssb_records.specs.Giving.{given_since};
+ghost use Rattle.ssb_records.specs.Intake.{Stops};
+ghost use Rattle.ssb_lanes.specs.Assembly.{IsAssembled, subject_in};
+ghost use Rattle.ssb_lanes.specs.Joined.{IsJoined, all_bytes, failures_with, given_upto, sources_in, unread};
+ghost use Rattle.ssb_lanes.specs.JoinedLaws.{joined_begins, joined_settled};
+ghost use Rattle.ssb_load.specs.Subject.{judge};
+
+use crate::assembly::Assembly;
+use crate::lane::Lane;
+use crate::lanes::{Stop, read_together};
+use ssb_records::{History, LoadFault, Source, SourceFault};
+use std::alloc::{AllocError, Global};
+use std::thread::Threads;
+
+/// Sources one after the other as one source: it gives what they give, in their order, and meets its
+/// end where the last of them does. After a failed read each further read fails, so that no source
+/// that failed, or was left in its middle, is passed over.
+pub struct Joined<S: Source> {
+    lanes: Vec<Lane<S>>,
+    // The lane that is read now, or their number once all have met their ends.
+    at: usize,
+    // Whether anything was read.
+    begun: bool,
+    // Whether a read failed.
+    stopped: bool,
+    failed: History<()>,
+    ended: History<()>,
+    ghost joined: { IsJoined S.given S.ends (sources_in lanes.items) at begun stopped (length failed.items) (length ended.items) },
+}
+
+// Written out, so that the crates above need no proof of how its parts are let go.
+impl<S: Source + Drop> Drop for Joined<S> {
+    fn drop(self) {
+        let Joined {
+            lanes,
+            at: _,
+            begun: _,
+            stopped: _,
+            failed: _,
+            ended: _,
+        } = self;
+        drop(lanes);
+    }
+}
+
+// A lane for each source, in their order.
+fn lanes_of<S: Drop>(alloc: Global, sources: Vec<S>) -> Result<Vec<Lane<S>>, AllocError>
+    ensures { IfOk result (λ lanes. lanes.items ≡ map unread sources.items) }
+{
+    sources
+        .into_iter()
+        .map(|source| Lane { source, read: None })
+        .collect(alloc)
+}
+
+impl<S: Source + Drop> Joined<S> {
+    /// These sources, in this order, before any read of them.
+    ///
+    /// # Errors
+    ///
+    /// [`AllocError`] where memory for their list was refused; the sources are dropped.
+    pub fn new(alloc: Global, sources: Vec<S>) -> Result<Joined<S>, AllocError>
+        requires { All (λ s. S.given s ≡ []) sources.items }
+        ensures sources { IfOk result (λ j. sources_in j.lanes.items ≡ sources.items) }
+        ensures given { IfOk result (λ j. given_upto S.given j.at (sources_in j.lanes.items) ≡ []) }
+        ensures failed { IfOk result (λ j. j.failed.items ≡ []) }
+        ensures ended { IfOk result (λ j. j.ended.items ≡ []) }
+        ensures whole { IfOk result (λ j. all_bytes (map S.whole (sources_in j.lanes.items)) ≡ all_bytes (map S.whole sources.items)) }
+    {
+        Ok(Joined {
+            lanes: lanes_of(alloc, sources)?,
+            at: 0,
+            begun: false,
+            stopped: false,
+            failed: History::new(),
+            ended: History::new(),
+        })
+    }
+
+    /// The sources of each of these lists as one, in the lists' order, before any read of them.
+    ///
+    /// # Errors
+    ///
+    /// [`AllocError`] where memory for a list was refused; the sources are dropped.
+    pub fn of_each(alloc: Global, lists: Vec<Vec<S>>) -> Result<Vec<Joined<S>>, AllocError>
+        requires { All (λ sources. All (λ s. S.given s ≡ []) sources.items) lists.items }
+        ensures count { IfOk result (λ joined. vec_len joined ≡ vec_len lists) }
+        ensures sources { IfOk result (λ joined. map (λ j. sources_in j.lanes.items) joined.items ≡ map (λ sources. sources.items) lists.items) }
+        ensures given { IfOk result (λ joined. All (λ j. given_upto S.given j.at (sources_in j.lanes.items) ≡ []) joined.items) }
+    {
+        let mut joined = Vec::new(alloc);
+        for sources in lists {
+            let source = Joined::new(alloc, sources)?;
+            joined.push(source)?;
+        }
+        Ok(joined)
+    }
+}
+
+// Counts a failed read, where the fault is one.
+fn count_failure(failed: &mut History<()>, fault: LoadFault)
+    ensures { length failed.new.items ≡ failures_with fault (length failed.old.items) }
+{
+    match fault {
+        LoadFault::Read(_) => *failed = failed.and(&()),
+        LoadFault::Record(_, _) | LoadFault::BadCatalog(_, _) | LoadFault::Memory => {}
+    }
+}
+
+impl<S: Source + Send> Joined<S> {
+    // Whether there are several sources, and nothing was read of them.
+    pub(crate) fn is_divided(&self) -> bool
+        ensures { IsTrue result ↔ ((self.now.begun ≡ false) × (1 < length self.now.lanes.items)) }
+    {
+        !self.begun && self.lanes.len() > 1
+    }
+
+    // Reads each source to its end by a thread of its own, and puts together what they gave.
+    pub(crate) fn read_together<R: Threads + Sync>(
+        &mut self,
+        rt: &R,
+        alloc: Global,
+        size: usize,
+        assembly: &mut Assembly,
+    ) -> Result<(), LoadFault>
+        requires unread { self.old.begun ≡ false }
+        requires none { IsAssembled assembly.old [] }
+        ensures grows { ⟦<Joined<S> as Source>⟧.given self.new ≡ ⟦<Joined<S> as Source>⟧.given self.old ++ given_since (⟦<Joined<S> as Source>⟧.given self.old) (⟦<Joined<S> as Source>⟧.given self.new) }
+        ensures whole { ⟦<Joined<S> as Source>⟧.whole self.new ≡ ⟦<Joined<S> as Source>⟧.whole self.old }
+        ensures subject { OnOk result (subject_in assembly.new ≡ subject_in assembly.old) }
+        ensures taken { OnOk result (IsAssembled assembly.new (given_since (⟦<Joined<S> as Source>⟧.given self.old) (⟦<Joined<S> as Source>⟧.given self.new))) }
+        ensures ended { OnOk result (⟦<Joined<S> as Source>⟧.ends self.old < ⟦<Joined<S> as Source>⟧.ends self.new) }
+        ensures stops { IfErr result (Stops ⟦<Joined<S> as Source>⟧.given ⟦<Joined<S> as Source>⟧.whole (judge (subject_in assembly.old)) self.old self.new) }
+        ensures broken { IfErr result (λ e. IfRead e (λ n. ⟦<Joined<S> as Source>⟧.failures self.old < ⟦<Joined<S> as Source>⟧.failures self.new)) }
+    {
+        self.begun = true;
+        match read_together(rt, alloc, size, &mut self.lanes, assembly) {
+            Ok(()) => {
+                self.at = self.lanes.len();
+                self.ended = self.ended.and(&());
+                Ok(())
+            }
+            Err(Stop { at, fault }) => {
+                self.at = at;
+                self.stopped = true;
+                count_failure(&mut self.failed, fault);
+                Err(fault)
+            }
+        }
+    }
+}
+
+impl<S: Source> Source for Joined<S> {
+    ghost given = { λ joined. given_upto S.given joined.at (sources_in joined.lanes.items) };
+
+    ghost failures = { λ joined. length joined.failed.items };
+
+    ghost ends = { λ joined. length joined.ended.items };
+
+    ghost whole = { λ joined. all_bytes (map S.whole (sources_in joined.lanes.items)) };
+
+    fn read(&mut self, room: &mut [u8]) -> Result<usize, SourceFault> {
+        self.begun = true;
+        while !self.stopped && self.at < self.lanes.len() {
+            match self.lanes[self.at].source.read(room) {
+                Ok(count) => {
+                    if count > 0 || room.is_empty() {
+                        return Ok(count);
+                    }
+                    self.at += 1;
+                }
+                Err(_) => self.stopped = true,
+            }
+        }
+        if self.stopped {
+            self.failed = self.failed.and(&());
+            return Err(SourceFault);
+        }
+        if !room.is_empty() {
+            self.ended = self.ended.and(&());
+        }
+        Ok(0)
+    }
+
+    ghost begins = { λ joined. joined_begins S.given S.ends S.whole S.begins S.settled (sources_in joined.lanes.items) joined.at joined.joined.met };
+
+    ghost settled = { λ joined more. joined_settled S.given S.ends S.whole S.begins S.settled (sources_in joined.lanes.items) joined.at (joined.joined.over more).1 joined.joined.met };
+}

@@ -1,0 +1,51 @@
+// Reading a table of several sources, each by a thread of its own.
+
+ghost use Rattle.std.specs.Prelude.{◌<◌, length};
+ghost use Rattle.ssb_load.specs.Loading.{LoadsFrom, rules_at};
+
+use crate::assembly::Assembly;
+use crate::joined::Joined;
+use crate::joining::join_parts;
+use ssb_catalog::Catalog;
+use ssb_cells::Table;
+use ssb_load::{key_place, load_in_pieces, rules_at};
+use ssb_records::{LoadFault, Source};
+use std::alloc::Global;
+use std::thread::Threads;
+
+/// [`load_in_pieces`](ssb_load::load_in_pieces) over sources one after the other, where a table without a
+/// key is read by several threads: each source by one of its own, where one can be made. The answer is
+/// the same. A table with a key is read by the caller's thread, and so is any table of one source, or of
+/// sources that were read before.
+///
+/// # Errors
+///
+/// As of [`load_from`](ssb_load::load_from).
+pub fn load_with<S: Source + Send, R: Threads + Sync>(
+    rt: &R,
+    alloc: Global,
+    catalog: &Catalog,
+    table: usize,
+    max_rows: u32,
+    source: &mut Joined<S>,
+    size: usize,
+) -> Result<Table, LoadFault>
+    requires { table < length catalog.now }
+    ensures { LoadsFrom ⟦<Joined<S> as Source>⟧.given ⟦<Joined<S> as Source>⟧.failures ⟦<Joined<S> as Source>⟧.ends ⟦<Joined<S> as Source>⟧.whole (rules_at catalog.now table) max_rows source.old source.new result }
+{
+    let Ok(rules) = rules_at(alloc, catalog, table) else {
+        return Err(LoadFault::Memory);
+    };
+    if !source.is_divided() || key_place(&rules).is_some() {
+        return load_in_pieces(alloc, catalog, table, max_rows, source, size);
+    }
+    let Ok(mut assembly) = Assembly::new(alloc, &rules, max_rows) else {
+        return Err(LoadFault::Memory);
+    };
+    source.read_together(rt, alloc, size, &mut assembly)?;
+    let parts = assembly.finish(alloc)?;
+    match join_parts(rt, alloc, &rules, parts) {
+        Ok(table) => Ok(table),
+        Err(_) => Err(LoadFault::Memory),
+    }
+}

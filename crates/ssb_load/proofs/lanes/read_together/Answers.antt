@@ -1,6 +1,0 @@
-use Rattle.std.proofs.Common.{arith}
-use Rattle.std.proofs.lemmas.Grind.{common_steps}
-use Rattle.ssb_load.proofs.lanes.read_together.Goals as goal
-
-pub add_all-requires-clause-read : goal.add_all-requires-clause-read
-add_all-requires-clause-read g c = grind (arith, common_steps)

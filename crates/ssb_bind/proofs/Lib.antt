@@ -1,6 +1,3 @@
-pub mod Counting
-pub mod Finding
 pub mod Having
-pub mod Least
 pub mod Meaning
 pub mod Relation

@@ -1,37 +1,26 @@
--- How the code binds and judges, step by step: the query of a select whose names each stand for one column.
+-- How the code binds, step by step: the query of a select whose names each stand for one column.
 -- For the contracts inside this crate.
-use Rattle.std.specs.Prelude.{◌≡◌, ℕ, ◌+◌, Bool, true, false, if◌then◌else◌, List, [], ◌∷◌, ◌++◌, length, map, Option, None, Some, Result, Ok, Err, unwrap_or, ⊤}
+use Rattle.std.specs.Prelude.{◌≡◌, ℕ, ◌+◌, if◌then◌else◌, List, [], ◌∷◌, ◌++◌, length, map, Option, None, Some, Result, Ok, Err, unwrap_or, ⊤}
 use Rattle.ssb_catalog.specs.Shapes.{TableShape}
 use Rattle.ssb_sql.specs.declared.select.Item.{Item}
-use Rattle.ssb_sql.specs.declared.select.Order.{Order}
 use Rattle.ssb_sql.specs.declared.select.Output.{Output}
 use Rattle.ssb_sql.specs.declared.select.Output.TheVariants as output
 use Rattle.ssb_sql.specs.declared.select.Select.{Select}
 use Rattle.ssb_trees.specs.Conditions.{Filter, mapped_operand, operands}
 use Rattle.ssb_trees.specs.declared.aggregate.Aggregate.{Aggregate}
 use Rattle.ssb_trees.specs.declared.operand.Operand.{Operand}
-use Rattle.ssb_bind.specs.Bound.{bound_where, aggregates_of, group_place, having_aggregates, operand_aggregate}
-use Rattle.ssb_bind.specs.Columns.{bound_name, fit_of, the_one}
-use Rattle.ssb_bind.specs.Faults.{Says}
-use Rattle.ssb_bind.specs.Orders.{name_of_item, places_for}
+use Rattle.ssb_judge.specs.Bound.{bound_where, aggregates_of, group_place, having_aggregates, is_aggregate, operand_aggregate}
+use Rattle.ssb_judge.specs.Columns.{bound_name}
+use Rattle.ssb_judge.specs.Orders.{bound_order, name_of_item}
 use Rattle.ssb_bind.specs.Query.{form}
-use Rattle.ssb_bind.specs.Rules.{rules_in}
+use Rattle.ssb_judge.specs.Rules.{rules_in}
 use Rattle.ssb_query.specs.Tables.{fact_place}
 use Rattle.ssb_query.specs.declared.column.BoundColumn.{BoundColumn}
-use Rattle.ssb_bind.specs.declared.fault.BindFault.{BindFault}
-use Rattle.ssb_bind.specs.declared.fit.Fit.{Fit}
-use Rattle.ssb_bind.specs.declared.fit.Fit.TheVariants as fit
+use Rattle.ssb_judge.specs.declared.fault.BindFault.{BindFault}
 use Rattle.ssb_query.specs.declared.query.BoundItem.{BoundItem}
-use Rattle.ssb_query.specs.declared.query.BoundOrder.{BoundOrder}
 use Rattle.ssb_query.specs.declared.query.Origin.{Origin}
 use Rattle.ssb_query.specs.declared.query.Origin.TheVariants as origin
 use Rattle.ssb_query.specs.declared.query.QueryParts.{QueryParts}
-
--- what a name fits, once it also fits this
-abbrev pub and_one : {A : Type 0} → Fit A → A → Fit A
-and_one fit.Missing x = fit.One x
-and_one (fit.One y) x = fit.Several
-and_one fit.Several x = fit.Several
 
 -- A select column by its place: that of its group column, or of its aggregate, of which so many stand before it. A column that is
 -- no group column, which no bound query has, takes the first.
@@ -45,17 +34,9 @@ bound_item c from groups before item = record {
   name = name_of_item item;
 }
 
-abbrev pub is_aggregate : Output → Bool
-is_aggregate (output.Column name) = false
-is_aggregate (output.Aggregate a) = true
-
 abbrev pub bound_items : List TableShape → List ℕ → List BoundColumn → ℕ → List Item → List BoundItem
 bound_items c from groups before [] = []
 bound_items c from groups before (item ∷ items) = bound_item c from groups before item ∷ bound_items c from groups (if is_aggregate item.output then before + 1 else before) items
-
--- A key stands for the one select column that it fits: of a key that does not fit one alone, which no bound query has, for the first.
-abbrev pub bound_order : List Item → Order → BoundOrder
-bound_order items o = record { item = the_one (fit_of (places_for items o.key)) 0; descending = o.descending }
 
 -- an operand of HAVING in its turn, of which so many aggregates stand before it
 abbrev pub operand_of : List TableShape → List ℕ → List BoundColumn → ℕ → Operand Output → Operand Origin
@@ -103,11 +84,6 @@ bound_from c from s having = bound_over c from (groups_of c from s) (bound_items
 pub record IsBound (c : List TableShape) (from : List ℕ) (s : Select) (q : QueryParts) : Type 0 where
   pub parts : q ≡ bound_from c from s q.having
   pub having : BindsHaving c from (groups_of c from s) (aggregates_of c from s.items) s.having q.having
-
--- a check for one fault, or several
-abbrev pub Judges : {A : Type 0} → Option BindFault → Result A BindFault → Type 0
-Judges applies (Ok x) = applies ≡ None
-Judges applies (Err f) = Says applies f
 
 -- a value, where a check passes
 abbrev pub Keeps : {A : Type 0} → A → Result ⊤ BindFault → Result A BindFault → Type 0

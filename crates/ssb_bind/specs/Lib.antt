@@ -1,10 +1,3 @@
 pub mod Binding
-pub mod Bound
-pub mod Columns
-pub mod Faults
-pub mod Names
-pub mod Orders
+pub mod Meaning
 pub mod Query
-pub mod Rules
-pub mod Titles
-pub mod Typing

@@ -2,10 +2,10 @@
 
 ghost use Rattle.std.specs.Prelude.{◌≡◌, ◌++◌, IfOk, length};
 ghost use Rattle.ssb_bind.specs.Binding as binding;
-ghost use Rattle.ssb_bind.specs.Bound.{having_aggregates};
+ghost use Rattle.ssb_judge.specs.Bound.{having_aggregates};
 
 use crate::bind_select::{aggregate_of, origin_of};
-use crate::resolve::Scope;
+use crate::bind_trees::Scope;
 use sqlite_items::Items;
 use ssb_query::{BoundColumn, Origin};
 use ssb_sql::Output;

@@ -1,14 +1,26 @@
 // Conditions and aggregates with a column in the place of each name.
 
 ghost use Rattle.std.specs.Prelude.{◌≡◌, IfOk};
-ghost use Rattle.ssb_bind.specs.Bound as spec;
-ghost use Rattle.ssb_bind.specs.Columns as columns;
+ghost use Rattle.ssb_judge.specs.Bound as spec;
+ghost use Rattle.ssb_judge.specs.Columns as columns;
 
-use crate::resolve::{Scope, bound_name};
+use ssb_catalog::TableDef;
+use ssb_judge::bound_name;
 use ssb_query::{BoundColumn, BoundOperand};
 use ssb_sql::ColumnName;
 use ssb_trees::{Aggregate, Filter, Leaves, Operand};
 use std::alloc::{AllocError, Global};
+
+/// Where names are bound: to the columns of these tables of a catalog.
+#[derive(Clone, Copy)]
+pub(crate) struct Scope<'a> {
+    /// Where the bound tree is kept.
+    pub alloc: Global,
+    /// The catalog's tables.
+    pub catalog: &'a [TableDef],
+    /// The tables of FROM, by their numbers in the catalog.
+    pub from: &'a [usize],
+}
 
 impl Leaves<ColumnName, BoundColumn> for Scope<'_> {
     ghost given = { λ scope name. columns.bound_name scope.catalog.now scope.from.now name };

@@ -1,7 +1,7 @@
 // Laws of what a query means.
 
 ghost use Rattle.std.specs.Prelude.{◌≡◌, List};
-ghost use Rattle.ssb_bind.specs.Faults.{Means};
+ghost use Rattle.ssb_bind.specs.Meaning.{Means};
 ghost use Rattle.ssb_query.specs.declared.query.QueryParts.{QueryParts};
 ghost use Rattle.ssb_catalog.specs.Shapes.{TableShape};
 ghost use Rattle.ssb_sql.specs.declared.select.Select.{Select};

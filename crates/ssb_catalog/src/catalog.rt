@@ -16,6 +16,7 @@ pub struct ColumnDef {
     pub rule: Rule,
 }
 
+// Written out, as each below: letting go of a value is then one call wherever one is in hand.
 impl Drop for ColumnDef {
     fn drop(self) {
         let ColumnDef { name, rule: _ } = self;

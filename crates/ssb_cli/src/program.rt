@@ -13,8 +13,8 @@ use ssb_files::{
 };
 use ssb_lanes::Joined;
 use ssb_records::Source;
-use ssb_reply::{MEMORY_LINE, Out, RunFault, Settings};
-use ssb_rows::AnswerFault;
+use ssb_reply::{MEMORY_LINE, RunFault, Settings};
+use ssb_rows::{AnswerFault, Out};
 use ssb_words::{QuerySource, Task, WordsFault, task_of};
 use std::alloc::{AllocError, Global};
 use std::fs::File;

@@ -6,8 +6,8 @@ ghost use Rattle.ssb_reply.specs.Reply.{IsOfContent, Replies};
 use crate::readers::run_alone;
 use ssb_catalog::Catalog;
 use ssb_records::LoadFault;
-use ssb_reply::{DEFAULT_MORSEL_SIZE, Out, RunFault};
-use ssb_rows::AnswerFault;
+use ssb_reply::{DEFAULT_MORSEL_SIZE, RunFault};
+use ssb_rows::{AnswerFault, Out};
 use std::alloc::Global;
 
 // A slice never fails a read, and a `Vec` fails a write for want of memory alone: any other fault than

@@ -26,7 +26,7 @@ pub enum RecordFault {
 }
 
 impl RecordFault {
-    /// Its number and its name.
+    /// Its number and its name, as `docs/FAULTS.md` lists them.
     pub fn title(&self) -> &str
         ensures { result.now ≡ record_title self.now }
     {
@@ -74,7 +74,7 @@ pub enum CatalogFault {
 }
 
 impl CatalogFault {
-    /// Its number among the reasons why a file is no catalog.
+    /// Its number among the reasons why a file is no catalog, as `docs/FAULTS.md` lists them.
     pub fn number(&self) -> &str
         ensures { result.now ≡ reason_number self.now }
     {

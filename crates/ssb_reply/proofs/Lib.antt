@@ -1,3 +1,2 @@
-pub mod KnownLemmas
 pub mod Loading
 pub mod OneReply

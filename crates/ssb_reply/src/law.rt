@@ -6,7 +6,7 @@ ghost use Rattle.ssb_catalog.specs.Catalog.{IsCatalog};
 ghost use Rattle.ssb_catalog.specs.Shapes.{TableShape};
 ghost use Rattle.ssb_sql.specs.declared.select.Select.{Select};
 ghost use Rattle.ssb_query.specs.declared.query.QueryParts.{QueryParts};
-ghost use Rattle.ssb_bind.specs.Faults.{Means};
+ghost use Rattle.ssb_bind.specs.Meaning.{Means};
 ghost use Rattle.ssb_cells.specs.Tables.{Columns};
 ghost use Rattle.ssb_job.specs.Loaded.{AreLoaded};
 ghost use Rattle.ssb_reply.specs.Settled.{OneReply};

@@ -20,7 +20,7 @@ pub enum AnswerFault {
 }
 
 impl AnswerFault {
-    /// Its number and its name.
+    /// Its number and its name, as `docs/FAULTS.md` lists them.
     pub fn title(&self) -> &str
         ensures { result.now ≡ answer_title self.now }
     {

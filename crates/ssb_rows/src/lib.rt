@@ -1,4 +1,4 @@
-//! Rows: the answer's rows of a query's groups, in order, and their text.
+//! Rows: the answer's rows of a query's groups, in order, their text, and the sink that takes it.
 //!
 //! `specs/Result.antt` says which rows a query has, `specs/Order.antt` how they are ordered, and
 //! `specs/Text.antt` how they are written.
@@ -14,6 +14,7 @@ mod rows_of;
 mod shown;
 pub mod sink;
 mod write;
+pub mod writer;
 
 pub use answer::{Answer, AnswerRow};
 pub use fault::AnswerFault;
@@ -21,3 +22,4 @@ pub use order::one_order;
 pub use rows_of::rows;
 pub use sink::{Sink, SinkFault};
 pub use write::write_answer;
+pub use writer::Out;

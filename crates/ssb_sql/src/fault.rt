@@ -22,7 +22,7 @@ pub enum SqlFault {
 }
 
 impl SqlFault {
-    /// Its number and its name.
+    /// Its number and its name, as `docs/FAULTS.md` lists them.
     pub fn title(&self) -> &str
         ensures { result.now ≡ sql_title self.now }
     {

@@ -10,7 +10,7 @@ pub struct ColumnName {
     pub column: Name,
 }
 
-// Written out, as the two of `select.rt`: letting go of a value is then one call wherever one is in hand.
+// Written out, as those of `select.rt`: letting go of a value is then one call wherever one is in hand.
 impl Drop for ColumnName {
     fn drop(self) {
         let ColumnName { table, column } = self;

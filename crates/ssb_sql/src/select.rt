@@ -1,9 +1,9 @@
-use ssb_trees::{Aggregate, Filter};
 // What a query asks for, as it is written.
 
 use crate::named::ColumnName;
 use sqlite_items::Items;
 use ssb_terms::Name;
+use ssb_trees::{Aggregate, Filter};
 
 /// What an item of the select list gives.
 pub enum Output {
@@ -13,6 +13,7 @@ pub enum Output {
     Aggregate(Aggregate<ColumnName>),
 }
 
+// Written out, as each below: letting go of a value is then one call wherever one is in hand.
 impl Drop for Output {
     fn drop(self) {
         match self {

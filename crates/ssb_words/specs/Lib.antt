@@ -1,2 +1,1 @@
-pub mod Benchmark
 pub mod Words

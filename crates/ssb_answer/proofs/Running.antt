@@ -9,16 +9,17 @@ use Rattle.ssb_cells.specs.Tables.{Columns}
 use Rattle.ssb_sql.specs.declared.fault.SqlFault.TheVariants as sql
 use Rattle.ssb_rows.specs.Order.{Row}
 use Rattle.ssb_rows.proofs.Written.{grew-none}
-use Rattle.ssb_rows.specs.Taking.{IsBeginning}
+use Rattle.ssb_rows.specs.Taking.{GrewAlike, IsBeginning}
 use Rattle.ssb_rows.specs.Text.{text_of}
 use Rattle.ssb_rows.specs.declared.fault.AnswerFault.{AnswerFault}
 use Rattle.ssb_rows.specs.declared.fault.AnswerFault.TheVariants as answer
 use Rattle.ssb_reply.specs.Reply.{Answered, IfLoaded, IfReadOf, IsSilentBut, Replies}
 use Rattle.ssb_reply.specs.Running.{LeavesSink, RunsFrom}
-use Rattle.ssb_reply.specs.Told.{told_answer, told_at}
+use Rattle.ssb_reply.specs.Told.{told_at}
 use Rattle.ssb_reply.specs.declared.run_fault.RunFault.{RunFault}
 use Rattle.ssb_reply.specs.declared.run_fault.RunFault.TheVariants as run
 use Rattle.ssb_answer.specs.Asking.{AnswersText, IsAnswered}
+use Rattle.ssb_answer.specs.Writing.{Writes}
 
 -- ---- what is replied
 
@@ -94,14 +95,14 @@ before_answer c ts text (run.Answer answer.Memory) h P Q q = q
 before_answer c ts text (run.Answer answer.Write) h P Q q = absurd h
 before_answer c ts text run.Memory h P Q q = q
 
-untouched : (f told : RunFault) (old : Bytes) (n : ℕ) (holds : Option Bytes) → told ≡ f → IsBefore f → LeavesSink (Err told) old old n n holds holds
-untouched f told old n holds is before = rw is (record { silent = before (n < n) (old ≡ old) refl; clean = tt; holds = grew-none old holds })
-
 pub sink_unloaded : (t : ℕ) (f : LoadFault) (told : RunFault) (old : Bytes) (n : ℕ) (holds : Option Bytes) → told ≡ told_at t f → LeavesSink (Err told) old old n n holds holds
-sink_unloaded t f told old n holds is = untouched (told_at t f) told old n holds is (before_load t f)
+sink_unloaded t f told old n holds is = rw is (record { silent = before_load t f (n < n) (old ≡ old) refl; clean = tt; holds = grew-none old holds })
 
-pub sink_unanswered : (c : List TableShape) (ts : List Columns) (text : Bytes) (f told : RunFault) (old : Bytes) (n : ℕ) (holds : Option Bytes) → told ≡ f → AnswersText c ts text (Err f) → LeavesSink (Err told) old old n n holds holds
-sink_unanswered c ts text f told old n holds is h = untouched f told old n holds is (before_answer c ts text f h)
+pub sink_replied : (c : List TableShape) (ts : List Columns) (text : Bytes) (answered : Result (List Row) RunFault) (r : Result (Unit {0}) RunFault) (old new : Bytes) (m n : ℕ) (held holds : Option Bytes)
+    → AnswersText c ts text answered → Writes answered r old new m n → GrewAlike old new held holds → LeavesSink r old new m n held holds
+sink_replied c ts text (Err f) r old new m n held holds a w grew = rw w.0 (record { silent = before_answer c ts text f a (m < n) (new ≡ old) w.1; clean = tt; holds = grew })
+sink_replied c ts text (Ok rows) (Ok u) old new m n held holds a w grew = record { silent = tt; clean = w.1; holds = grew }
+sink_replied c ts text (Ok rows) (Err f) old new m n held holds a w grew = rw w.0 (record { silent = w.1.1; clean = tt; holds = grew })
 
 -- ---- the run
 
@@ -128,25 +129,25 @@ module _ {S : Type 0} (given : S → Bytes) (failures ends : S → ℕ) (known :
 
   module _ (ts : List Columns) (grows : GrewEach (map given before) (map given after)) (loads : loaded c files ≡ Ok ts) (ended : RoseEach (map ends before) (map ends after))
       (known_loads : Told (λ all. loaded c all ≡ Ok ts)) where
-    pub runs_unanswered : (f told : RunFault) (old : Bytes) → told ≡ f → AnswersText c ts text (Err f) → Runs (Err told) old old
-    runs_unanswered f told old is h = rw is (record {
+    runs_unanswered : (f : RunFault) (old : Bytes) → AnswersText c ts text (Err f) → Runs (Err f) old old
+    runs_unanswered f old h = record {
       grows = grows;
       replies = unanswered c files text ts f old loads h;
       ended = all_loaded (RoseEach (map ends before) (map ends after)) f ended;
       failed = no_read (FailedAt c files (map failures before) (map failures after)) c text ts f h;
       told = λ all same. unanswered c (given_each (map given before) all) text ts f old (known_loads all same) h;
-    })
+    }
 
-    pub runs_unwritten : (rows : List Row) (f : AnswerFault) (told : RunFault) (old new : Bytes) → told ≡ told_answer f → f ≡ answer.Write → IsAnswered c ts text (Ok rows) → IsBeginning old new (text_of rows) → Runs (Err told) old new
-    runs_unwritten rows f told old new is write h began = rw (is, write) (record {
+    runs_unwritten : (rows : List Row) (old new : Bytes) → IsAnswered c ts text (Ok rows) → IsBeginning old new (text_of rows) → Runs (Err (run.Answer answer.Write)) old new
+    runs_unwritten rows old new h began = record {
       grows = grows;
       replies = (rows, answered_over c files text ts (Ok rows) loads h, began);
       ended = ended;
       failed = tt;
       told = λ all same. (rows, answered_over c (given_each (map given before) all) text ts (Ok rows) (known_loads all same) h, began);
-    })
+    }
 
-    pub runs_answered : (rows : List Row) (old new : Bytes) → IsAnswered c ts text (Ok rows) → new ≡ old ++ text_of rows → Runs (Ok tt) old new
+    runs_answered : (rows : List Row) (old new : Bytes) → IsAnswered c ts text (Ok rows) → new ≡ old ++ text_of rows → Runs (Ok tt) old new
     runs_answered rows old new h wrote = record {
       grows = grows;
       replies = (rows, answered_over c files text ts (Ok rows) loads h, wrote);
@@ -154,3 +155,8 @@ module _ {S : Type 0} (given : S → Bytes) (failures ends : S → ℕ) (known :
       failed = tt;
       told = λ all same. (rows, answered_over c (given_each (map given before) all) text ts (Ok rows) (known_loads all same) h, wrote);
     }
+
+    pub runs_replied : (answered : Result (List Row) RunFault) (r : Result (Unit {0}) RunFault) (old new : Bytes) (m n : ℕ) → AnswersText c ts text answered → Writes answered r old new m n → Runs r old new
+    runs_replied (Err f) r old new m n a w = rw (w.0, w.1) (runs_unanswered f old a)
+    runs_replied (Ok rows) (Ok u) old new m n a w = runs_answered rows old new a w.0
+    runs_replied (Ok rows) (Err f) old new m n a w = rw w.0 (runs_unwritten rows old new a w.1.0)

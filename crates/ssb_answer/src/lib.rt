@@ -8,4 +8,4 @@ mod grouping;
 mod whole;
 
 pub use ssb_pipeline::{Gate, NoGate};
-pub use whole::{answer_of_groups, answer_shared, job_of_text, query_of, run_from};
+pub use whole::{answer_of_groups, answer_shared, job_of_text, query_of, run_from, write_answered};

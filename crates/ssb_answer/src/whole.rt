@@ -4,6 +4,7 @@ ghost use Rattle.std.specs.Prelude.{◌≡◌, Err, IfErr, IfOk, length};
 ghost use Rattle.std.specs.Arc.{arc_value};
 ghost use Rattle.ssb_catalog.specs.Catalog.{IsCatalog};
 ghost use Rattle.ssb_answer.specs.Asking.{Asked, AnswersText};
+ghost use Rattle.ssb_answer.specs.Writing.{Writes};
 ghost use Rattle.ssb_groups.specs.Stands.{Stands};
 ghost use Rattle.ssb_job.specs.Kept.{AreOneJob};
 ghost use Rattle.ssb_job.specs.Loaded.{AreLoaded};
@@ -11,6 +12,7 @@ ghost use Rattle.ssb_load.specs.Files.{AreLawful};
 ghost use Rattle.ssb_reply.specs.Reply.{Asks, seen_rows};
 ghost use Rattle.ssb_reply.specs.Running.{LeavesSink, RunsFrom};
 ghost use Rattle.ssb_rows.specs.Result.{Answers};
+ghost use Rattle.ssb_rows.specs.Taking.{GrewAlike};
 
 use crate::grouping::group_shared;
 use ssb_bind::bind;
@@ -141,6 +143,23 @@ fn answer_text_shared<R: Threads + Wait + Sync, G: Gate + Sync>(
     Ok(answer?)
 }
 
+/// Writes what a text answers.
+///
+/// # Errors
+///
+/// The fault that the text has for an answer, with nothing written; `Answer(Write)` only where the sink
+/// failed, and then what it took is a beginning of the rows.
+pub fn write_answered<W: Sink>(
+    answered: Result<Answer, RunFault>,
+    out: &mut W,
+) -> Result<(), RunFault>
+    ensures writes { Writes answered result (W.taken out.old) (W.taken out.new) (W.failures out.old) (W.failures out.new) }
+    ensures holds { GrewAlike (W.taken out.old) (W.taken out.new) (W.contents out.old) (W.contents out.new) }
+{
+    write_answer(&answered?, out)?;
+    Ok(())
+}
+
 /// Answers a query over the tables of a catalog, each of what its sources give, in the catalog's order,
 /// and writes the answer's rows. It loads all tables, reads the query, binds it, answers and writes;
 /// the first fault ends it, and nothing is written before the answer is complete.
@@ -171,7 +190,6 @@ pub fn run_from<R: Threads + Wait + Sync, S: Source + Send, G: Gate + Sync, W: S
     ensures sink { LeavesSink result (W.taken out.old) (W.taken out.new) (W.failures out.old) (W.failures out.new) (W.contents out.old) (W.contents out.new) }
 {
     let tables = load_all_with(rt, alloc, &catalog, sources, PIECE_SIZE)?;
-    let answer = answer_text_shared(rt, alloc, &catalog, tables, text, settings, gate)?;
-    write_answer(&answer, out)?;
-    Ok(())
+    let answered = answer_text_shared(rt, alloc, &catalog, tables, text, settings, gate);
+    write_answered(answered, out)
 }

@@ -1,48 +1,17 @@
 // Loading alone: the tables of a folder, the fact table from several sections of its file.
 
-ghost use Rattle.std.specs.Prelude.{◌≡◌, IfSome, length, vec_len};
+ghost use Rattle.std.specs.Prelude.{◌≡◌, length};
 
-use crate::probe::{catalog_in, micros_since, path_of};
-use ssb_catalog::{Catalog, TableDef};
+use crate::folder::{catalog_in, sources_of};
+use crate::probe::micros_since;
+use ssb_catalog::Catalog;
 use ssb_lanes::{Joined, load_all_with};
 use ssb_records::{In, PIECE_SIZE};
-use ssb_sections::{Section, sections_of};
-use std::fs;
 use std::fs::File;
 use std::io::Read;
 use std::rt::{Clock, Files};
 use std::thread::Threads;
 use std::time::Instant;
-
-// The file of a table, the fact table's in so many sections.
-fn source_of<R: Files + AllocGlobal>(
-    rt: &R,
-    folder: &str,
-    table: &TableDef,
-    count: u64,
-) -> Option<Joined<Section<R::File>>> {
-    let path = path_of(rt.alloc(), folder, table)?;
-    let count = if table.is_fact() { count } else { 1 };
-    let file = fs::open(rt, path.as_str()).ok()?;
-    let sections = sections_of(rt, path.as_str(), file, count).ok()?;
-    Joined::new(rt.alloc(), sections).ok()
-}
-
-fn sources_of<R: Files + AllocGlobal>(
-    rt: &R,
-    folder: &str,
-    catalog: &Catalog,
-    count: u64,
-) -> Option<Vec<Joined<Section<R::File>>>>
-    ensures { IfSome result (λ sources. vec_len sources ≡ length catalog.now) }
-{
-    let mut sources = Vec::new(rt.alloc());
-    for table in catalog.tables() {
-        let source = source_of(rt, folder, table, count)?;
-        sources.push(source).ok()?;
-    }
-    Some(sources)
-}
 
 // How long it takes to load tables from sources that stand joined, in microseconds.
 fn time_of<R: Clock + Threads + Sync + AllocGlobal, F: Read + Drop + Send>(

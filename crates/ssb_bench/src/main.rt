@@ -3,6 +3,7 @@
 //! sections of a file.
 #![tactic(auto)]
 
+mod folder;
 mod load;
 mod probe;
 mod read;

@@ -1,5 +1,5 @@
 -- Sources that gave nothing yet: what they give is all.
-use Rattle.std.proofs.Common.{◌≡◌, [], ◌∷◌, ◌∙◌, List, Option, None, Some, map, refl, ap, subst}
+use Rattle.std.proofs.Common.{◌≡◌, ◌++◌, [], ◌∷◌, ◌∙◌, List, Option, None, Some, Result, Ok, Err, IfOk, map, refl, ap, subst}
 use Rattle.std.proofs.lemmas.List.{append-nil}
 use Rattle.ssb_load.specs.Files.{Bytes, given_each}
 use Rattle.ssb_lanes.specs.Joined.{all_bytes}
@@ -22,3 +22,9 @@ told-whole now start readers files given whole remaining P same empty all e told
 pub whole-alone : (w : Option Bytes) → all_bytes (w ∷ []) ≡ w
 whole-alone None = refl
 whole-alone (Some bytes) = ap Some (append-nil bytes)
+
+-- what is made of one source has just its bytes
+pub told-alone : {J S E : Type 0} (made : Result J E) (bytes : J → Option Bytes) (whole : S → Option Bytes) (before sources : List S) (source : S) (w : Option Bytes)
+    → before ≡ [] → sources ≡ before ++ (source ∷ []) → whole source ≡ w → IfOk made (λ j. bytes j ≡ all_bytes (map whole sources)) → IfOk made (λ j. bytes j ≡ w)
+told-alone (Ok j) bytes whole before sources source w empty same own told = let one : sources ≡ source ∷ [] = rw empty at same in told ∙ ap (λ ss. all_bytes (map whole ss)) one ∙ whole-alone (whole source) ∙ own
+told-alone (Err e) bytes whole before sources source w empty same own told = tt

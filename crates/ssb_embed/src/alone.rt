@@ -11,7 +11,7 @@ ghost use Rattle.ssb_reply.specs.Reply.{seen_rows};
 ghost use Rattle.ssb_reply.specs.Running.{LeavesSink, RunsFrom};
 ghost use Rattle.ssb_rows.specs.Result.{Answers};
 
-use ssb_answer::{answer_of_groups, job_of_text};
+use ssb_answer::{answer_of_groups, job_of_text, write_answered};
 use ssb_catalog::Catalog;
 use ssb_cells::Table;
 use ssb_groups::Groups;
@@ -20,7 +20,7 @@ use ssb_load::load_all;
 use ssb_pipeline::{Part, every_run};
 use ssb_records::Source;
 use ssb_reply::RunFault;
-use ssb_rows::{Answer, AnswerFault, Sink, write_answer};
+use ssb_rows::{Answer, AnswerFault, Sink};
 use std::alloc::{AllocError, Global};
 use std::sync::Arc;
 
@@ -107,7 +107,6 @@ pub fn run_alone_from<S: Source, W: Sink>(
     ensures sink { LeavesSink result (W.taken out.old) (W.taken out.new) (W.failures out.old) (W.failures out.new) (W.contents out.old) (W.contents out.new) }
 {
     let tables = load_all(alloc, &catalog, sources, piece_size)?;
-    let answer = answer_text(alloc, &catalog, tables, text, morsel_size)?;
-    write_answer(&answer, out)?;
-    Ok(())
+    let answered = answer_text(alloc, &catalog, tables, text, morsel_size);
+    write_answered(answered, out)
 }

@@ -1,5 +1,5 @@
 -- A run over sources, by where it ends: tables that are not loaded, a text that is not answered, an answer that is not written, and one that is.
-use Rattle.std.proofs.Common.{◌≡◌, ◌++◌, ◌<◌, ℕ, List, Option, Some, Result, Ok, Err, map, refl}
+use Rattle.std.proofs.Common.{◌≡◌, ◌++◌, ◌<◌, ℕ, List, Option, Some, Result, Ok, Err, IfErr, map, refl}
 use Rattle.ssb_catalog.specs.Shapes.{TableShape}
 use Rattle.ssb_records.specs.CutShort.{IfRead}
 use Rattle.ssb_records.specs.declared.fault.LoadFault.{LoadFault}
@@ -129,32 +129,20 @@ module _ {S : Type 0} (given : S → Bytes) (failures ends : S → ℕ) (known :
 
   module _ (ts : List Columns) (grows : GrewEach (map given before) (map given after)) (loads : loaded c files ≡ Ok ts) (ended : RoseEach (map ends before) (map ends after))
       (known_loads : Told (λ all. loaded c all ≡ Ok ts)) where
+    -- what is replied to files of these tables, whether to those given or to all
+    runs_loaded : (r : Result (Unit {0}) RunFault) (old new : Bytes) → ((all : List Bytes) → loaded c all ≡ Ok ts → Replies c all text r old new) → IfLoaded r (RoseEach (map ends before) (map ends after))
+        → IfErr r (λ e. IfReadOf e (FailedAt c files (map failures before) (map failures after))) → Runs r old new
+    runs_loaded r old new replies ended failed = record { grows = grows; replies = replies files loads; ended = ended; failed = failed; told = λ all same. replies (given_each (map given before) all) (known_loads all same) }
+
     runs_unanswered : (f : RunFault) (old : Bytes) → AnswersText c ts text (Err f) → Runs (Err f) old old
-    runs_unanswered f old h = record {
-      grows = grows;
-      replies = unanswered c files text ts f old loads h;
-      ended = all_loaded (RoseEach (map ends before) (map ends after)) f ended;
-      failed = no_read (FailedAt c files (map failures before) (map failures after)) c text ts f h;
-      told = λ all same. unanswered c (given_each (map given before) all) text ts f old (known_loads all same) h;
-    }
+    runs_unanswered f old h = runs_loaded (Err f) old old (λ all is. unanswered c all text ts f old is h) (all_loaded (RoseEach (map ends before) (map ends after)) f ended)
+        (no_read (FailedAt c files (map failures before) (map failures after)) c text ts f h)
 
     runs_unwritten : (rows : List Row) (old new : Bytes) → IsAnswered c ts text (Ok rows) → IsBeginning old new (text_of rows) → Runs (Err (run.Answer answer.Write)) old new
-    runs_unwritten rows old new h began = record {
-      grows = grows;
-      replies = (rows, answered_over c files text ts (Ok rows) loads h, began);
-      ended = ended;
-      failed = tt;
-      told = λ all same. (rows, answered_over c (given_each (map given before) all) text ts (Ok rows) (known_loads all same) h, began);
-    }
+    runs_unwritten rows old new h began = runs_loaded (Err (run.Answer answer.Write)) old new (λ all is. (rows, answered_over c all text ts (Ok rows) is h, began)) ended tt
 
     runs_answered : (rows : List Row) (old new : Bytes) → IsAnswered c ts text (Ok rows) → new ≡ old ++ text_of rows → Runs (Ok tt) old new
-    runs_answered rows old new h wrote = record {
-      grows = grows;
-      replies = (rows, answered_over c files text ts (Ok rows) loads h, wrote);
-      ended = ended;
-      failed = tt;
-      told = λ all same. (rows, answered_over c (given_each (map given before) all) text ts (Ok rows) (known_loads all same) h, wrote);
-    }
+    runs_answered rows old new h wrote = runs_loaded (Ok tt) old new (λ all is. (rows, answered_over c all text ts (Ok rows) is h, wrote)) ended tt
 
     pub runs_replied : (answered : Result (List Row) RunFault) (r : Result (Unit {0}) RunFault) (old new : Bytes) (m n : ℕ) → AnswersText c ts text answered → Writes answered r old new m n → Runs r old new
     runs_replied (Err f) r old new m n a w = rw (w.0, w.1) (runs_unanswered f old a)

@@ -34,6 +34,13 @@ fn words<R: Env + AllocGlobal>(rt: &R) -> Option<Vec<String>> {
     collected.ok()
 }
 
+fn status_of(printed: io::Result<()>) -> u8 {
+    match printed {
+        Ok(()) => 0,
+        Err(_) => FAILED,
+    }
+}
+
 // Prints how many records a file has.
 fn print_count<R: Files + Print + AllocGlobal>(rt: &R, given: &[String]) -> u8 {
     let [path] = given else {
@@ -45,10 +52,7 @@ fn print_count<R: Files + Print + AllocGlobal>(rt: &R, given: &[String]) -> u8 {
     let Ok(count) = count_records(rt.alloc(), file) else {
         return FAILED;
     };
-    match println!(rt; "{count}") {
-        Ok(()) => 0,
-        Err(_) => FAILED,
-    }
+    status_of(println!(rt; "{count}"))
 }
 
 fn print_micros<R: Print>(rt: &R, what: &str, micros: u128) -> io::Result<()> {
@@ -72,10 +76,7 @@ fn print_measures<R: Files + Clock + Print + AllocGlobal>(rt: &R, given: &[Strin
     let Some(report) = measure(rt, folder.as_str(), path.as_str()) else {
         return FAILED;
     };
-    match print_report(rt, &report) {
-        Ok(()) => 0,
-        Err(_) => FAILED,
-    }
+    status_of(print_report(rt, &report))
 }
 
 // Prints the milliseconds of loading from so many sections.
@@ -92,10 +93,7 @@ fn print_loading_time<R: Files<File = File> + Clock + Print + Threads + Sync + A
     let Some(micros) = loading_time(rt, folder.as_str(), count) else {
         return FAILED;
     };
-    match print_micros(rt, "loading", micros) {
-        Ok(()) => 0,
-        Err(_) => FAILED,
-    }
+    status_of(print_micros(rt, "loading", micros))
 }
 
 fn alone(morsel_size: &str) -> Option<By> {
@@ -123,10 +121,7 @@ fn print_least<R: Files + Clock + Print + Threads + Wait + Sync + AllocGlobal>(
     let Some(micros) = own_time(rt, folder, path, by, times) else {
         return FAILED;
     };
-    match print_micros(rt, "answering", micros) {
-        Ok(()) => 0,
-        Err(_) => FAILED,
-    }
+    status_of(print_micros(rt, "answering", micros))
 }
 
 // Prints how long an answer over loaded tables took.

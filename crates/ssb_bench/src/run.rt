@@ -68,9 +68,7 @@ pub(crate) fn own_time<R: Files + Clock + Threads + Wait + Sync + AllocGlobal>(
     by: By,
     times: u32,
 ) -> Option<u128> {
-    let Ok(job) = Arc::new(rt.alloc(), job_in(rt, folder, path)?.job) else {
-        return None;
-    };
+    let job = job_in(rt, folder, path)?.job;
     let least = least_of(rt, &job, by, times);
     drop(job);
     least

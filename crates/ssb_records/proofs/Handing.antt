@@ -1,9 +1,9 @@
 -- What a piece is that is cut where it may be.
-use Rattle.std.proofs.Common.{◌≡◌, ◌++◌, ◌∙◌, ◌<◌, ◌≤◌, ℕ, zero, suc, true, false, List, [], ◌∷◌, inl, inr, length, take, drop, nat_lt, refl, sym, ap, subst, arith, rules, length-append}
+use Rattle.std.proofs.Common.{◌≡◌, ◌++◌, ◌∙◌, ◌<◌, ◌≤◌, ℕ, zero, suc, true, false, List, [], ◌∷◌, inl, inr, length, take, drop, nat_lt, refl, sym, ap, subst, arith, rules, length-append, append_assoc}
 use Rattle.std.proofs.lemmas.Grind.{common_steps}
 use Rattle.std.proofs.lemmas.List.{length-take-le, drop_all}
 use Rattle.ssb_records.specs.Lines.{EndsInLf, IsPartOfLine}
-use Rattle.ssb_records.specs.Pieces.{IsPiece, IsCut, IsPlace, piece_of, rest_of}
+use Rattle.ssb_records.specs.Pieces.{IsPassedOn, IsPiece, IsCut, IsPlace, handed, piece_of, rest_of}
 use Rattle.ssb_records.specs.declared.pieces.Pieces.{Pieces}
 
 pub front-none : (xs ys : List ℕ) → [] ≡ xs ++ ys → xs ≡ []
@@ -53,3 +53,14 @@ some old now n p c cut =
 pub hands : {S : Type 0} (old now : Pieces S) (n : ℕ) → IsPlace n old → IsCutOff old now n → IsPiece (nat_lt 0 n) now
 hands old now zero p c = nothing old now p c p.cut
 hands old now (suc n) p c = let more : nat_lt 0 (suc n) ≡ true = search (rules, common_steps) in rw more (some old now n p c p.cut)
+
+-- what was passed on stays so where a piece is handed out
+pub passed-out : {S : Type 0} (given : S → List ℕ) (failures ends : S → ℕ) (p q : Pieces S) (s : S) → IsPassedOn given failures ends p s → handed q ≡ handed p ++ piece_of q → rest_of p ≡ piece_of q ++ rest_of q → q.stopped ≡ p.stopped → q.failed ≡ p.failed
+    → q.begun ≡ p.begun → IsPassedOn given failures ends q s
+passed-out given failures ends p q s f out split stopped failed begun = record {
+  told = f.told ∙ ap (λ t. given p.begun.value ++ t) (ap (λ t. handed p ++ t) split ∙ sym (append_assoc (handed p) (piece_of q) (rest_of q)) ∙ ap (λ t. t ++ rest_of q) (sym out)) ∙ ap (λ b. given b.value ++ (handed q ++ rest_of q)) (sym begun);
+  over = λ st fa. subst (λ b. ends b.value < ends s) (sym begun) (f.over (sym stopped ∙ st) (sym failed ∙ fa));
+  broken = λ fa. subst (λ b. failures b.value < failures s) (sym begun) (f.broken (sym failed ∙ fa));
+  forth = (subst (λ b. failures b.value ≤ failures s) (sym begun) f.forth.0, subst (λ b. ends b.value ≤ ends s) (sym begun) f.forth.1);
+  stops = λ fa. stopped ∙ f.stops (sym failed ∙ fa);
+}

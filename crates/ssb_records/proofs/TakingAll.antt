@@ -195,6 +195,9 @@ over-of q sound (none, inr b) = absurd (clash b.failed sound)
 pub ended-since : {S : Type 0} (given : S → List ℕ) (failures ends : S → ℕ) (q : Pieces S) (now base : S) → IsPassedOn given failures ends q now → begun_with q ≡ base → q.failed ≡ false → IsPiece false q → ends base < ends now
 ended-since {S = S} given failures ends q now base f begun sound hands = let P : S → Type 0 = λ s. ends s < ends now in subst P begun (f.over (over-of q sound hands).stopped sound)
 
+pub broken-since : {S : Type 0} (given : S → List ℕ) (failures ends : S → ℕ) (q : Pieces S) (now base : S) → IsPassedOn given failures ends q now → begun_with q ≡ base → q.failed ≡ true → failures base < failures now
+broken-since {S = S} given failures ends q now base f begun broke = let P : S → Type 0 = λ s. failures s < failures now in subst P begun (f.broken broke)
+
 -- all that was given is in the pieces handed out
 pub all-handed : {S : Type 0} (given : S → List ℕ) (failures ends : S → ℕ) (p q : Pieces S) (now base : S) → IsPassedOn given failures ends q now → begun_with q ≡ base → handed q ≡ handed p ++ piece_of q → q.failed ≡ false → IsPiece false q
     → handed p ≡ given_since (given base) (given now)

@@ -1,5 +1,5 @@
 -- How far a write of a text has come.
-use Rattle.std.proofs.Common.{◌≡◌, ◌∙◌, ◌++◌, ◌<◌, ◌+◌, [], ℕ, List, Option, take, drop, refl, sym, ap, subst, arith, append_assoc, rules}
+use Rattle.std.proofs.Common.{◌≡◌, ◌∙◌, ◌++◌, ◌∷◌, ◌<◌, ◌+◌, ◌==◌, [], ℕ, List, Option, zero, suc, true, false, length, take, drop, refl, sym, ap, subst, arith, append_assoc, length-append, rules}
 use Rattle.std.proofs.lemmas.List.{append-nil, take-append-drop}
 use Rattle.std.proofs.lemmas.Bool.Decides.{nat_tests}
 use Rattle.std.proofs.lemmas.Grind.{common_steps}
@@ -23,6 +23,15 @@ written-more old now next gone rest text n f g h pos w e k = record {
   taken = e ∙ ap (λ t. t ++ take n rest) w.taken ∙ append_assoc old gone (take n rest);
   clean = let c = w.clean in grind (arith, nat_tests, k, c);
 }
+
+-- one failure more, where none of some bytes was taken
+pub failed-once : {A : Type 0} (old new : List A) (x : A) (n : ℕ) (bytes : List ℕ) → new ≡ old ++ x ∷ [] → n ≡ 0 → (length bytes == 0) ≡ false → length new ≡ length old + refusals n bytes
+failed-once old new x n bytes e z some = let l = ap length e ∙ length-append old (x ∷ []) in grind (arith, nat_tests, l, z, some)
+
+-- no failure more, where some were taken or there were none
+pub failed-not : (f g n : ℕ) (bytes : List ℕ) → g ≡ f → (n ≡ 0 → (length bytes == 0) ≡ true) → g ≡ f + refusals n bytes
+failed-not f g zero bytes k none = let e = none refl in grind (arith, nat_tests, k, e)
+failed-not f g (suc n) bytes k none = grind (arith, nat_tests, k)
 
 -- one more write of what is left, which is a slice of the text
 pub written-slice : (old now next gone rest left text : List ℕ) (n f g h : ℕ) → 0 < n → Written old now gone rest text f g → next ≡ now ++ take n rest → h ≡ g + refusals n rest → left ≡ drop n rest → Written old next (gone ++ take n rest) left text f h

@@ -1,5 +1,6 @@
 -- What is made of a condition, by its form.
-use Rattle.std.proofs.Common.{◌≡◌, List, ap, refl, sym, ◌∙◌}
+use Rattle.std.proofs.Common.{◌≡◌, List, Result, ap, refl, subst, sym, ◌∙◌}
+use Rattle.std.specs.Result.{IfOk}
 use Rattle.ssb_trees.specs.Conditions.{in_order, in_order_layer, operands, operands_layer}
 use Rattle.ssb_trees.specs.declared.condition.Condition.{Condition}
 use Rattle.ssb_trees.specs.declared.condition.Condition.TheVariants as condition
@@ -36,10 +37,12 @@ rolls O (Condition-F.IsNotNull x) = refl
 pub operands_of : (O : Type 0) (c : Condition O) (x : Condition-F O (Condition O)) → c ≡ of_form O x → operands O c ≡ operands_layer O (map-Condition O (Condition O) (List O) (operands O) x)
 operands_of O c x is = ap (operands O) (is ∙ rolls O x) ∙ fold-roll-Condition O (List O) (operands_layer O) x
 
-pub in_order_of : (O P S : Type 0) (given : S → O → P) (next : S → O → S) (c : Condition O) (x : Condition-F O (Condition O)) (s : S) → c ≡ of_form O x
+in_order_of : (O P S : Type 0) (given : S → O → P) (next : S → O → S) (c : Condition O) (x : Condition-F O (Condition O)) (s : S) → c ≡ of_form O x
     → in_order O P S given next c s ≡ in_order_layer O P S given next (map-Condition O (Condition O) (S → Condition P × S) (in_order O P S given next) x) s
 in_order_of O P S given next c x s is = ap (λ d. in_order O P S given next d s) (is ∙ rolls O x) ∙ ap (λ make. make s) (fold-roll-Condition O (S → Condition P × S) (in_order_layer O P S given next) x)
 
--- two that were made are the two that are due
-pub both_made : {A B : Type 0} (due r : A × B) (a : A) (b : B) → due ≡ r → a ≡ r.0 → b ≡ r.1 → (a ≡ due.0) × (b ≡ due.1)
-both_made due r a b is h k = (h ∙ sym (ap (λ t. t.0) is), k ∙ sym (ap (λ t. t.1) is))
+-- what was made is what is due, where it is so by the form
+pub is_due : (O P S : Type 0) (given : S → O → P) (next : S → O → S) (c : Condition O) (x : Condition-F O (Condition O)) (s : S) {E : Type 0} (made : Result (Condition P) E) (t : S) → c ≡ of_form O x
+    → IfOk made (λ d. let r = in_order_layer O P S given next (map-Condition O (Condition O) (S → Condition P × S) (in_order O P S given next) x) s in (d ≡ r.0) × (t ≡ r.1))
+    → IfOk made (λ d. let r = in_order O P S given next c s in (d ≡ r.0) × (t ≡ r.1))
+is_due O P S given next c x s made t is = subst (λ r. IfOk made (λ d. (d ≡ r.0) × (t ≡ r.1))) (sym (in_order_of O P S given next c x s is))

@@ -22,6 +22,17 @@ made_of (Ok x) (Err e) f P Q h p then = tt
 made_of (Err e) (Ok y) f P Q h p then = absurd cc
 made_of (Err e) (Err d) f P Q h p then = tt
 
+-- what follows from what was made, where it was
+pub if_made : {A E : Type 0} (r : Result A E) {P Q : A → Type 0} (G : Type 0) → IsOkAnd r Q → IfOk r P → ((x : A) → Q x → P x → G) → G
+if_made (Ok x) G q p then = then x q p
+if_made (Err e) G q p then = absurd q
+
+-- what was made of what was made
+pub ok_of_ok : {A B E : Type 0} (r : Result B E) (s : Result A E) (f : A → B) (P : B → Type 0) → IsOkAnd r P → IfOk r (λ y. IsOkAnd s (λ x. y ≡ f x)) → IsOkAnd s (λ x. P (f x))
+ok_of_ok (Ok y) (Ok x) f P p is = subst P is p
+ok_of_ok (Ok y) (Err e) f P p is = is
+ok_of_ok (Err e) s f P p is = absurd p
+
 -- one more of what a function makes of each
 pub map_more : {X Y : Type 0} (f : X → Y) (xs : List X) (i : ℕ) (x : X) → i < length xs → x ≡ get_or xs i x → map f (take (i + 1) xs) ≡ map f (take i xs) ++ f x ∷ []
 map_more f xs i x within is = ap (map f) (take_more xs i x within ∙ ap (λ y. take i xs ++ y ∷ []) (sym is)) ∙ map-append f (take i xs) (x ∷ [])

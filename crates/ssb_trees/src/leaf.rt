@@ -1,8 +1,9 @@
 // The leaves of a tree: the operands of a condition, the columns of an expression.
 
-ghost use Rattle.std.specs.Prelude.{◌≡◌, ◌∷◌, [], Bool, IfOk, find};
+ghost use Rattle.std.specs.Prelude.{◌≡◌, ◌++◌, ◌∷◌, [], Bool, IfOk, IsOkAnd, find};
 ghost use Rattle.std.specs.Option.{option_copied};
 
+use sqlite_items::Items;
 use std::alloc::{AllocError, Global};
 
 /// What was made, or an `Err` where a growth was refused.
@@ -53,6 +54,14 @@ impl<A, B, M: Leaves<A, B>> LeavesInOrder<A, B> for Whatever<'_, M> {
     fn leaf(&mut self, alloc: Global, leaf: &A) -> Made<B> {
         self.leaves.leaf(alloc, leaf)
     }
+}
+
+// The items, and one more if it was made.
+pub(crate) fn with_made<X: Drop>(mut items: Items<X>, item: Made<X>) -> Made<Items<X>>
+    ensures { IfOk result (λ all. IsOkAnd item (λ x. all ≡ items ++ x ∷ [])) }
+{
+    items.push(item?)?;
+    Ok(items)
 }
 
 /// A test of the leaves of a tree.

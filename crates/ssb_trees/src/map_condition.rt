@@ -1,53 +1,67 @@
 // The same condition over other operands.
 
-ghost use Rattle.std.specs.Prelude.{◌≡◌, IfOk, map};
+ghost use Rattle.std.specs.Prelude.{◌≡◌, IfOk, cond, map};
 ghost use Rattle.ssb_trees.specs.Conditions.{each_in_order, in_order, mapped};
+ghost use Rattle.ssb_trees.specs.declared.condition.Condition.TheVariants as condition;
 
 use crate::condition::Condition;
-use crate::leaf::{Leaves, LeavesInOrder, Made, Whatever};
+use crate::leaf::{Leaves, LeavesInOrder, Made, Whatever, with_made};
 use sqlite_items::{Boxed, Items};
-use ssb_terms::{Literal, copy_literals};
+use ssb_terms::{Literal, Op, copy_literals};
 use std::alloc::Global;
 
-fn mapped_two<O, P: Drop, M: LeavesInOrder<O, P>>(
+fn mapped_compare<O, P: Drop, M: LeavesInOrder<O, P>>(
     alloc: Global,
     operands: &mut M,
-    a: &O,
-    b: &O,
-) -> Made<(P, P)>
-    ensures { let t = M.next operands.old a.now in IfOk result (λ two. (two ≡ (M.given operands.old a.now, M.given t b.now)) × (operands.new ≡ M.next t b.now)) }
+    op: Op,
+    left: &O,
+    right: &O,
+) -> Made<Condition<P>>
+    ensures { let t = M.next operands.old left.now in IfOk result (λ c. (c ≡ condition.Compare op (M.given operands.old left.now) (M.given t right.now)) × (operands.new ≡ M.next t right.now)) }
 {
-    let a = operands.leaf(alloc, a)?;
-    let b = operands.leaf(alloc, b)?;
-    Ok((a, b))
+    let left = operands.leaf(alloc, left)?;
+    let right = operands.leaf(alloc, right)?;
+    Ok(Condition::Compare(op, left, right))
 }
 
-fn mapped_three<O, P: Drop, M: LeavesInOrder<O, P>>(
+// BETWEEN where the operand is to lie inside, NOT BETWEEN elsewhere.
+fn mapped_range<O, P: Drop, M: LeavesInOrder<O, P>>(
     alloc: Global,
     operands: &mut M,
+    inside: bool,
     x: &O,
     a: &O,
     b: &O,
-) -> Made<(P, P, P)>
-    ensures { let t = M.next operands.old x.now in let u = M.next t a.now in IfOk result (λ three. (three ≡ (M.given operands.old x.now, M.given t a.now, M.given u b.now)) × (operands.new ≡ M.next u b.now)) }
+) -> Made<Condition<P>>
+    ensures { let t = M.next operands.old x.now in let u = M.next t a.now in IfOk result (λ c. (c ≡ cond inside condition.Between condition.NotBetween (M.given operands.old x.now) (M.given t a.now) (M.given u b.now)) × (operands.new ≡ M.next u b.now)) }
 {
     let x = operands.leaf(alloc, x)?;
-    let (a, b) = mapped_two(alloc, operands, a, b)?;
-    Ok((x, a, b))
+    let a = operands.leaf(alloc, a)?;
+    let b = operands.leaf(alloc, b)?;
+    Ok(if inside {
+        Condition::Between(x, a, b)
+    } else {
+        Condition::NotBetween(x, a, b)
+    })
 }
 
-// An operand, and the literals that it is compared to.
-fn mapped_test<O, P: Drop, M: LeavesInOrder<O, P>>(
+// IN where the operand is to be one of the literals, NOT IN elsewhere.
+fn mapped_set<O, P: Drop, M: LeavesInOrder<O, P>>(
     alloc: Global,
     operands: &mut M,
+    inside: bool,
     x: &O,
     literals: &[Literal],
-) -> Made<(P, Items<Literal>)>
-    ensures { IfOk result (λ test. (test ≡ (M.given operands.old x.now, literals.now)) × (operands.new ≡ M.next operands.old x.now)) }
+) -> Made<Condition<P>>
+    ensures { IfOk result (λ c. (c ≡ cond inside condition.In condition.NotIn (M.given operands.old x.now) literals.now) × (operands.new ≡ M.next operands.old x.now)) }
 {
     let literals = copy_literals(alloc, literals)?;
     let x = operands.leaf(alloc, x)?;
-    Ok((x, literals))
+    Ok(if inside {
+        Condition::In(x, literals)
+    } else {
+        Condition::NotIn(x, literals)
+    })
 }
 
 #[cycle(condition)]
@@ -60,7 +74,7 @@ fn mapped_parts<O, P: Drop, M: LeavesInOrder<O, P>>(
 {
     let mut all = Items::new(alloc);
     for part in parts {
-        all.push(mapped_condition(alloc, operands, part)?)?;
+        all = with_made(all, mapped_condition(alloc, operands, part))?;
     }
     Ok(all)
 }
@@ -84,26 +98,11 @@ fn mapped_condition<O, P: Drop, M: LeavesInOrder<O, P>>(
             let part = mapped_condition(alloc, operands, part.get())?;
             Boxed::new(alloc, part).map(Condition::Not)
         }
-        Condition::Compare(op, a, b) => {
-            let (a, b) = mapped_two(alloc, operands, a, b)?;
-            Ok(Condition::Compare(*op, a, b))
-        }
-        Condition::Between(x, a, b) => {
-            let (x, a, b) = mapped_three(alloc, operands, x, a, b)?;
-            Ok(Condition::Between(x, a, b))
-        }
-        Condition::NotBetween(x, a, b) => {
-            let (x, a, b) = mapped_three(alloc, operands, x, a, b)?;
-            Ok(Condition::NotBetween(x, a, b))
-        }
-        Condition::In(x, literals) => {
-            let (x, literals) = mapped_test(alloc, operands, x, literals.as_slice())?;
-            Ok(Condition::In(x, literals))
-        }
-        Condition::NotIn(x, literals) => {
-            let (x, literals) = mapped_test(alloc, operands, x, literals.as_slice())?;
-            Ok(Condition::NotIn(x, literals))
-        }
+        Condition::Compare(op, a, b) => mapped_compare(alloc, operands, *op, a, b),
+        Condition::Between(x, a, b) => mapped_range(alloc, operands, true, x, a, b),
+        Condition::NotBetween(x, a, b) => mapped_range(alloc, operands, false, x, a, b),
+        Condition::In(x, literals) => mapped_set(alloc, operands, true, x, literals.as_slice()),
+        Condition::NotIn(x, literals) => mapped_set(alloc, operands, false, x, literals.as_slice()),
         Condition::IsNull(x) => operands.leaf(alloc, x).map(Condition::IsNull),
         Condition::IsNotNull(x) => operands.leaf(alloc, x).map(Condition::IsNotNull),
     }

@@ -1,12 +1,20 @@
 // The same expression over other columns.
 
-ghost use Rattle.std.specs.Prelude.{◌≡◌, IfOk, map};
+ghost use Rattle.std.specs.Prelude.{◌≡◌, IfOk, IsOkAnd, map};
 ghost use Rattle.ssb_trees.specs.Expressions.{mapped, mapped_step};
 
 use crate::expr::{Expr, Step};
-use crate::leaf::{Leaves, Made};
+use crate::leaf::{Leaves, Made, with_made};
 use sqlite_items::{Boxed, Items};
+use ssb_terms::Adding;
 use std::alloc::Global;
+
+fn made_step<D: Drop>(adding: Adding, term: Made<Expr<D>>) -> Made<Step<D>>
+    ensures { IfOk result (λ step. IsOkAnd term (λ t. step ≡ record { adding = adding; term = t })) }
+{
+    let term = term?;
+    Ok(Step { adding, term })
+}
 
 #[cycle(expr)]
 fn mapped_steps<C, D: Drop, M: Leaves<C, D>>(
@@ -18,9 +26,10 @@ fn mapped_steps<C, D: Drop, M: Leaves<C, D>>(
 {
     let mut all = Items::new(alloc);
     for step in steps {
-        let term = mapped_expr(alloc, columns, &step.term)?;
-        let adding = step.adding;
-        all.push(Step { adding, term })?;
+        all = with_made(
+            all,
+            made_step(step.adding, mapped_expr(alloc, columns, &step.term)),
+        )?;
     }
     Ok(all)
 }
@@ -35,7 +44,7 @@ fn mapped_factors<C, D: Drop, M: Leaves<C, D>>(
 {
     let mut all = Items::new(alloc);
     for factor in factors {
-        all.push(mapped_expr(alloc, columns, factor)?)?;
+        all = with_made(all, mapped_expr(alloc, columns, factor))?;
     }
     Ok(all)
 }

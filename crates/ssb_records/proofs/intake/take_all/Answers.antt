@@ -1,4 +1,4 @@
-use Rattle.std.proofs.Common.{◌++◌, ◌∙◌, ◌+◌, ◌<◌, List, [], Bool, refl, sym, ap, subst, inl, inr}
+use Rattle.std.proofs.Common.{arith, ◌++◌, ◌∙◌, ◌+◌, ◌<◌, List, [], Bool, refl, sym, ap, subst, inl, inr}
 use Rattle.std.proofs.lemmas.Result.{err_from_is_err_and}
 use Rattle.ssb_records.specs.Giving.{given_since}
 use Rattle.ssb_records.specs.Intake.{AreGood}
@@ -6,7 +6,7 @@ use Rattle.ssb_records.specs.Pieces.{handed, piece_of, IsPiece}
 use Rattle.ssb_records.specs.Records.{Fields, records_of}
 use Rattle.ssb_records.proofs.Blocks.{no-records}
 use Rattle.ssb_records.proofs.LineRecords.{records-lead}
-use Rattle.ssb_records.proofs.TakingAll.{all-handed, always, ended-since, follows-start, good-before, grows-of, holds-of, memory-stops, never-over, over-settled, piece-behind, refused-all, refused-fails, refused-given, refused-in, refused-unread, stops-at, told-of}
+use Rattle.ssb_records.proofs.TakingAll.{all-handed, always, broken-since, ended-since, follows-start, good-before, grows-of, holds-of, memory-stops, never-over, over-settled, piece-behind, refused-all, refused-fails, refused-given, refused-in, refused-unread, stops-at, told-of}
 use Rattle.ssb_records.proofs.intake.take_all.Goals as goal
 
 pub loop-init : goal.loop-init
@@ -74,6 +74,11 @@ loop-preserved g c =
 
 pub returns-in-Ok-false-clause-grows : goal.returns-in-Ok-false-clause-grows
 returns-in-Ok-false-clause-grows g c = grows-of g.S.Source.given g.S.Source.failures g.S.Source.ends c.fill.new.self c.fill.new.source c.args.source.now c.fill.ensures.follows (c.fill.ensures.begun ∙ c.loop.invariant.begun)
+
+pub returns-in-Ok-false-clause-broken : goal.returns-in-Ok-false-clause-broken
+returns-in-Ok-false-clause-broken g c =
+    let broke = broken-since g.S.Source.given g.S.Source.failures g.S.Source.ends c.fill.new.self c.fill.new.source c.args.source.now c.fill.ensures.follows (c.fill.ensures.begun ∙ c.loop.invariant.begun) in
+    grind (arith, broke)
 
 pub returns-in-Ok-false-2-clause-grows : goal.returns-in-Ok-false-2-clause-grows
 returns-in-Ok-false-2-clause-grows g c = grows-of g.S.Source.given g.S.Source.failures g.S.Source.ends c.fill.new.self c.fill.new.source c.args.source.now c.fill.ensures.follows (c.fill.ensures.begun ∙ c.loop.invariant.begun)

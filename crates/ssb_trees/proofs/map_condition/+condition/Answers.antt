@@ -1,9 +1,9 @@
 use Rattle.std.proofs.Common.{◌≡◌, ◌∙◌, ap, arith, subst, sym}
-use Rattle.ssb_trees.proofs.Forms.{both_made, in_order_of}
+use Rattle.ssb_trees.proofs.Forms.{is_due}
 use Rattle.ssb_trees.specs.declared.condition.Condition.TheOpen.{Condition-F}
 use Rattle.ssb_trees.specs.declared.condition.Condition.TheVariants as condition
 use Rattle.ssb_trees.proofs.InOrder.{all_is, any_is, all_made, next_part}
-use Rattle.ssb_trees.proofs.Mapping.{made_of}
+use Rattle.ssb_trees.proofs.Mapping.{if_made, made_of}
 use Rattle.ssb_trees.proofs.Sizes.{all_size, any_size, item_size, not_size}
 use Rattle.ssb_trees.specs.declared.condition.Condition.TheViews.{size-Condition}
 use Rattle.ssb_trees.proofs.map_condition.+condition.Goals as goal
@@ -11,39 +11,25 @@ use Rattle.ssb_trees.proofs.map_condition.+condition.Goals as goal
 pub mapped_parts-loop-part-preserved : goal.mapped_parts-loop-part-preserved
 mapped_parts-loop-part-preserved g t c =
     let M = g.M.LeavesInOrder in
-    next_part _ _ _ M.given M.next c.args.parts.now c.loop-part.part-index c.part-item.result c.loop-part.operands c.mapped_condition.new.operands c.loop-part.all _ c.in_ok-mapped_condition.field-0
+    if_made c.mapped_condition.result _ c.in_ok-all.ensures c.mapped_condition.ensures
+    (λ y pushed h. next_part _ _ _ M.given M.next c.args.parts.now c.loop-part.part-index c.part-item.result c.loop-part.operands c.mapped_condition.new.operands c.loop-part.all _ y
     (all_made _ _ _ M.given M.next c.args.parts.now c.args.operands.now)
-    c.loop-part-test.true c.part-item.is c.in_ok-mapped_condition.ensures c.in_ok-push.ensures.ok c.loop-part.invariant
+    c.loop-part-test.true c.part-item.is h pushed c.loop-part.invariant)
 
-pub mapped_condition-returns-in_ok-a-in-Compare : goal.mapped_condition-returns-in_ok-a-in-Compare
-mapped_condition-returns-in_ok-a-in-Compare g t c =
-    let M = g.M.LeavesInOrder in
-    both_made _ _ _ _ (in_order_of _ _ _ M.given M.next c.args.condition.now (Condition-F.Compare c.in-Compare.op c.in-Compare.a c.in-Compare.b) c.args.operands.now c.in-Compare.is)
-    (ap (λ two. condition.Compare c.in-Compare.op two.0 two.1) c.in_ok-a-in-Compare.ensures.0) c.in_ok-a-in-Compare.ensures.1
+pub mapped_condition-returns-in-Compare : goal.mapped_condition-returns-in-Compare
+mapped_condition-returns-in-Compare g t c = is_due _ _ _ g.M.LeavesInOrder.given g.M.LeavesInOrder.next c.args.condition.now (Condition-F.Compare c.in-Compare.op c.in-Compare.a c.in-Compare.b) c.args.operands.now c.mapped_compare.result _ c.in-Compare.is c.mapped_compare.ensures
 
-pub mapped_condition-returns-in_ok-x-in-Between : goal.mapped_condition-returns-in_ok-x-in-Between
-mapped_condition-returns-in_ok-x-in-Between g t c =
-    let M = g.M.LeavesInOrder in
-    both_made _ _ _ _ (in_order_of _ _ _ M.given M.next c.args.condition.now (Condition-F.Between c.in-Between.x c.in-Between.a c.in-Between.b) c.args.operands.now c.in-Between.is)
-    (ap (λ three. condition.Between three.0 three.1 three.2) c.in_ok-x-in-Between.ensures.0) c.in_ok-x-in-Between.ensures.1
+pub mapped_condition-returns-in-Between : goal.mapped_condition-returns-in-Between
+mapped_condition-returns-in-Between g t c = is_due _ _ _ g.M.LeavesInOrder.given g.M.LeavesInOrder.next c.args.condition.now (Condition-F.Between c.in-Between.x c.in-Between.a c.in-Between.b) c.args.operands.now c.mapped_range.result _ c.in-Between.is c.mapped_range.ensures
 
-pub mapped_condition-returns-in_ok-x-in-NotBetween : goal.mapped_condition-returns-in_ok-x-in-NotBetween
-mapped_condition-returns-in_ok-x-in-NotBetween g t c =
-    let M = g.M.LeavesInOrder in
-    both_made _ _ _ _ (in_order_of _ _ _ M.given M.next c.args.condition.now (Condition-F.NotBetween c.in-NotBetween.x c.in-NotBetween.a c.in-NotBetween.b) c.args.operands.now c.in-NotBetween.is)
-    (ap (λ three. condition.NotBetween three.0 three.1 three.2) c.in_ok-x-in-NotBetween.ensures.0) c.in_ok-x-in-NotBetween.ensures.1
+pub mapped_condition-returns-in-NotBetween : goal.mapped_condition-returns-in-NotBetween
+mapped_condition-returns-in-NotBetween g t c = is_due _ _ _ g.M.LeavesInOrder.given g.M.LeavesInOrder.next c.args.condition.now (Condition-F.NotBetween c.in-NotBetween.x c.in-NotBetween.a c.in-NotBetween.b) c.args.operands.now c.mapped_range-in-NotBetween.result _ c.in-NotBetween.is c.mapped_range-in-NotBetween.ensures
 
-pub mapped_condition-returns-in_ok-x-in-In : goal.mapped_condition-returns-in_ok-x-in-In
-mapped_condition-returns-in_ok-x-in-In g t c =
-    let M = g.M.LeavesInOrder in
-    both_made _ _ _ _ (in_order_of _ _ _ M.given M.next c.args.condition.now (Condition-F.In c.in-In.x c.in-In.literals) c.args.operands.now c.in-In.is)
-    (ap (λ test. condition.In test.0 test.1) (rw c.as_slice-in-In.ensures at c.in_ok-x-in-In.ensures.0)) c.in_ok-x-in-In.ensures.1
+pub mapped_condition-returns-in-In : goal.mapped_condition-returns-in-In
+mapped_condition-returns-in-In g t c = is_due _ _ _ g.M.LeavesInOrder.given g.M.LeavesInOrder.next c.args.condition.now (Condition-F.In c.in-In.x c.in-In.literals) c.args.operands.now c.mapped_set.result _ c.in-In.is (rw c.as_slice-in-In.ensures at c.mapped_set.ensures)
 
-pub mapped_condition-returns-in_ok-x-in-NotIn : goal.mapped_condition-returns-in_ok-x-in-NotIn
-mapped_condition-returns-in_ok-x-in-NotIn g t c =
-    let M = g.M.LeavesInOrder in
-    both_made _ _ _ _ (in_order_of _ _ _ M.given M.next c.args.condition.now (Condition-F.NotIn c.in-NotIn.x c.in-NotIn.literals) c.args.operands.now c.in-NotIn.is)
-    (ap (λ test. condition.NotIn test.0 test.1) (rw c.as_slice-in-NotIn.ensures at c.in_ok-x-in-NotIn.ensures.0)) c.in_ok-x-in-NotIn.ensures.1
+pub mapped_condition-returns-in-NotIn : goal.mapped_condition-returns-in-NotIn
+mapped_condition-returns-in-NotIn g t c = is_due _ _ _ g.M.LeavesInOrder.given g.M.LeavesInOrder.next c.args.condition.now (Condition-F.NotIn c.in-NotIn.x c.in-NotIn.literals) c.args.operands.now c.mapped_set-in-NotIn.result _ c.in-NotIn.is (rw c.as_slice-in-NotIn.ensures at c.mapped_set-in-NotIn.ensures)
 
 pub mapped_condition-returns-in-Any : goal.mapped_condition-returns-in-Any
 mapped_condition-returns-in-Any g t c =
@@ -63,23 +49,19 @@ mapped_condition-returns-in-All g t c =
 
 pub mapped_condition-returns-in_ok-part-in-Not : goal.mapped_condition-returns-in_ok-part-in-Not
 mapped_condition-returns-in_ok-part-in-Not g t c =
-    let M = g.M.LeavesInOrder in
-    let made = c.in_ok-part-in-Not.ensures in
-    made_of c.new.result c.map-in-Not.result condition.Not _ _ c.map-in-Not.ensures.cases c.new.ensures
-    (λ part h. both_made _ _ _ _ (in_order_of _ _ _ M.given M.next c.args.condition.now (Condition-F.Not c.in-Not.part) c.args.operands.now c.in-Not.is)
-    (ap condition.Not (h ∙ (rw c.get.ensures at made.0))) (rw c.get.ensures at made.1))
+    let made = rw c.get.ensures at c.in_ok-part-in-Not.ensures in
+    is_due _ _ _ g.M.LeavesInOrder.given g.M.LeavesInOrder.next c.args.condition.now (Condition-F.Not c.in-Not.part) c.args.operands.now c.map-in-Not.result _ c.in-Not.is
+    (made_of c.new.result c.map-in-Not.result condition.Not _ _ c.map-in-Not.ensures.cases c.new.ensures (λ part h. (ap condition.Not (h ∙ made.0), made.1)))
 
 pub mapped_condition-returns-in-IsNull : goal.mapped_condition-returns-in-IsNull
 mapped_condition-returns-in-IsNull g t c =
-    let M = g.M.LeavesInOrder in
-    made_of c.leaf.result c.map-in-IsNull.result condition.IsNull _ _ c.map-in-IsNull.ensures.cases c.leaf.ensures
-    (λ x h. both_made _ _ _ _ (in_order_of _ _ _ M.given M.next c.args.condition.now (Condition-F.IsNull c.in-IsNull.x) c.args.operands.now c.in-IsNull.is) (ap condition.IsNull h.0) h.1)
+    is_due _ _ _ g.M.LeavesInOrder.given g.M.LeavesInOrder.next c.args.condition.now (Condition-F.IsNull c.in-IsNull.x) c.args.operands.now c.map-in-IsNull.result _ c.in-IsNull.is
+    (made_of c.leaf.result c.map-in-IsNull.result condition.IsNull _ _ c.map-in-IsNull.ensures.cases c.leaf.ensures (λ x h. (ap condition.IsNull h.0, h.1)))
 
 pub mapped_condition-returns-in-IsNotNull : goal.mapped_condition-returns-in-IsNotNull
 mapped_condition-returns-in-IsNotNull g t c =
-    let M = g.M.LeavesInOrder in
-    made_of c.leaf-in-IsNotNull.result c.map-in-IsNotNull.result condition.IsNotNull _ _ c.map-in-IsNotNull.ensures.cases c.leaf-in-IsNotNull.ensures
-    (λ x h. both_made _ _ _ _ (in_order_of _ _ _ M.given M.next c.args.condition.now (Condition-F.IsNotNull c.in-IsNotNull.x) c.args.operands.now c.in-IsNotNull.is) (ap condition.IsNotNull h.0) h.1)
+    is_due _ _ _ g.M.LeavesInOrder.given g.M.LeavesInOrder.next c.args.condition.now (Condition-F.IsNotNull c.in-IsNotNull.x) c.args.operands.now c.map-in-IsNotNull.result _ c.in-IsNotNull.is
+    (made_of c.leaf-in-IsNotNull.result c.map-in-IsNotNull.result condition.IsNotNull _ _ c.map-in-IsNotNull.ensures.cases c.leaf-in-IsNotNull.ensures (λ x h. (ap condition.IsNotNull h.0, h.1)))
 
 pub mapped_condition-mapped_parts-requires-in-All : goal.mapped_condition-mapped_parts-requires-in-All
 mapped_condition-mapped_parts-requires-in-All g t c = let e = all_size _ c.args.condition.now c.as_slice-in-All.result.now (c.in-All.is ∙ ap condition.All (sym c.as_slice-in-All.ensures)) in λ κs h. (omega arith, h)

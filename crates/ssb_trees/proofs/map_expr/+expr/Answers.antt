@@ -1,10 +1,9 @@
 use Rattle.std.proofs.Common.{◌≡◌, map, take, ◌∷◌, ◌++◌, [], sym, ap, ap₂, ◌∙◌, arith}
 use Rattle.ssb_trees.specs.Expressions.{mapped, mapped_step}
-use Rattle.ssb_trees.specs.declared.expr.Step.{Step}
 use Rattle.ssb_trees.specs.declared.expr.Expr.TheOpen.{Expr-F}
 use Rattle.ssb_trees.specs.declared.expr.Expr.TheVariants as expr
 use Rattle.ssb_trees.proofs.ExprForms.{mapped_of}
-use Rattle.ssb_trees.proofs.Mapping.{made_of, map_more, mapped_of_step, with_term}
+use Rattle.ssb_trees.proofs.Mapping.{if_made, made_of, ok_of_ok, map_more, mapped_of_step, with_term}
 use Rattle.ssb_trees.proofs.Sizes.{chain_size, item_size, negative_size, positive_size, step_size, times_size}
 use Rattle.ssb_trees.specs.declared.expr.Expr.TheViews.{size-Expr, size-Step}
 use Rattle.ssb_trees.proofs.map_expr.+expr.Goals as goal
@@ -15,15 +14,17 @@ mapped_steps-loop-step-preserved g t c =
     let D = g.row.D.Denot in
     let f = g.M.Leaves.given c.args.columns.now in
     let F = mapped_step C D f in
-    let pushed : Step D = with_term c.step-item.result c.in_ok-term.term in
-    let one : pushed ≡ F c.step-item.result = ap (with_term c.step-item.result) c.in_ok-term.ensures ∙ sym (mapped_of_step C D f c.step-item.result) in
-    c.in_ok-push.ensures.ok ∙ ap (λ xs. xs ++ pushed ∷ []) c.loop-step.invariant ∙ ap (λ y. map F (take c.loop-step.step-index c.args.steps.now) ++ y ∷ []) one ∙ sym (map_more F c.args.steps.now c.loop-step.step-index c.step-item.result c.loop-step-test.true c.step-item.is)
+    if_made c.mapped_expr.result _ (ok_of_ok c.made_step.result c.mapped_expr.result (with_term c.step-item.result) _ c.in_ok-all.ensures c.made_step.ensures) c.mapped_expr.ensures
+    (λ term pushed h. pushed ∙ ap (λ xs. xs ++ with_term c.step-item.result term ∷ []) c.loop-step.invariant
+    ∙ ap (λ y. map F (take c.loop-step.step-index c.args.steps.now) ++ y ∷ []) (ap (with_term c.step-item.result) h ∙ sym (mapped_of_step C D f c.step-item.result))
+    ∙ sym (map_more F c.args.steps.now c.loop-step.step-index c.step-item.result c.loop-step-test.true c.step-item.is))
 
 pub mapped_factors-loop-factor-preserved : goal.mapped_factors-loop-factor-preserved
 mapped_factors-loop-factor-preserved g t c =
     let F = mapped g.row.C.Denot g.row.D.Denot (g.M.Leaves.given c.args.columns.now) in
-    let pushed = c.in_ok-mapped_expr.field-0 in
-    c.in_ok-push.ensures.ok ∙ ap (λ xs. xs ++ pushed ∷ []) c.loop-factor.invariant ∙ ap (λ y. map F (take c.loop-factor.factor-index c.args.factors.now) ++ y ∷ []) c.in_ok-mapped_expr.ensures ∙ sym (map_more F c.args.factors.now c.loop-factor.factor-index c.factor-item.result c.loop-factor-test.true c.factor-item.is)
+    if_made c.mapped_expr.result _ c.in_ok-all.ensures c.mapped_expr.ensures
+    (λ y pushed h. pushed ∙ ap (λ xs. xs ++ y ∷ []) c.loop-factor.invariant ∙ ap (λ z. map F (take c.loop-factor.factor-index c.args.factors.now) ++ z ∷ []) h
+    ∙ sym (map_more F c.args.factors.now c.loop-factor.factor-index c.factor-item.result c.loop-factor-test.true c.factor-item.is))
 
 pub mapped_expr-returns-in-Number : goal.mapped_expr-returns-in-Number
 mapped_expr-returns-in-Number g t c = sym (mapped_of _ _ (g.M.Leaves.given c.args.columns.now) c.args.expr.now (Expr-F.Number c.in-Number.number) c.in-Number.is)

@@ -2,6 +2,15 @@
 //!
 //! [`run_from`] loads the tables, reads and binds the query, runs it over threads and writes its rows;
 //! `specs/Reply.antt` of `ssb_reply` says what it owes.
+//!
+//! # Files
+//!
+//! - `src/whole.rt`, `proofs/Asking.antt`, `Running.antt`: `run_from`: the whole path, by workers, and
+//!   its theorem; `write_answered`, by which every run ends: rows are written, a fault is passed on;
+//!   what a text asks of loaded tables; what a run promises, by where it ends
+//! - `src/grouping.rt`, `proofs/WrittenBack.antt`: the groups over all that a job keeps: by workers, a
+//!   part for each section; the first of the passes that the workers wrote back
+//! - `specs/Asking.antt`, `Writing.antt`: the answer of a text over loaded tables; what is written of it
 #![tactic(auto)]
 
 mod grouping;

@@ -98,7 +98,7 @@ fn shared_job(
     }
 }
 
-/// The job of a text's query over the tables of a catalog, as [`load_all`] gives them.
+/// The job of a text's query over the tables of a catalog, as [`load_all_with`] gives them.
 ///
 /// # Errors
 ///

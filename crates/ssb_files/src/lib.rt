@@ -1,5 +1,12 @@
 //! What the program has of the system: the files that it opens, some of them in sections, and the line
 //! and the status that it tells a fault by.
+//!
+//! # Files
+//!
+//! - `src/files.rt`, `specs/Files.antt`, `Opening.antt`: files opened and read; those of the tables in
+//!   sections
+//! - `src/fault.rt`, `report.rt`, `specs/Faults.antt`: the faults of the program; the line and status of
+//!   each
 #![tactic(auto)]
 
 pub mod fault;

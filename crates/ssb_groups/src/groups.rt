@@ -184,8 +184,8 @@ impl Groups {
         self.store.group_count()
     }
 
-    /// The values of a group's key and of its aggregates, by the group's number from 0. Groups stand in
-    /// the order of their first rows.
+    /// The values of a group's key and of its aggregates, by the group's number from 0. In which order
+    /// groups stand, no clause says.
     ///
     /// # Errors
     ///

@@ -1,5 +1,5 @@
 -- How a fault of binding is told: by its number and its name, and what it tells of.
--- Source: own; docs/FAULTS.md lists them.
+-- Source: own; docs/FAULTS.md lists them, but for that of Memory, which no line has.
 use Rattle.std.specs.Prelude.{ℕ, List, Option, Some, None, codes}
 use Rattle.ssb_judge.specs.declared.fault.BindFault.{BindFault}
 use Rattle.ssb_judge.specs.declared.fault.BindFault.TheVariants as fault

@@ -73,7 +73,8 @@ pub enum BindFault {
 }
 
 impl BindFault {
-    /// Its number and its name, as `docs/FAULTS.md` lists them.
+    /// Its number and its name, as `docs/FAULTS.md` lists them. Of `Memory` they are never printed: its line
+    /// is `ssb: Memory`.
     pub fn title(&self) -> &str
         ensures { result.now ≡ bind_title self.now }
     {

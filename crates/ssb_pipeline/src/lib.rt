@@ -1,4 +1,48 @@
 //! Morsels: the work on a job, cut into pieces that are done one by one.
+//!
+//! # Files
+//!
+//! - `specs/Morsels.antt`, `Joined.antt`: where the rows of the fact table are cut into morsels, and
+//!   these into sections; the kept combinations of some morsels
+//! - `specs/State.antt`, `Part.antt`: what contracts see of tickets and partials; of parts: which are
+//!   lawful, the events that change one, what a core run is, what each call answers
+//! - `specs/Marks.antt`: for the contracts inside: what a part's fields keep
+//! - `src/ticket.rt`, `partial.rt`, `grouping.rt`: `Ticket`: a morsel that was handed out; `Partial`:
+//!   the groups over its rows; the loop over them, 1,024 at a time: narrowed first, then probed
+//! - `src/part.rt`, `fault.rt`: `Part`: one section of the work, with `hand_out`, `give_back`,
+//!   `give_up`, `work_off` and `sweep`; why a partial is not taken
+//! - `specs/Rule.antt`, `src/line.rt`, `proofs/Moves.antt`: the rule of a part's queue: what holds
+//!   between any two steps of the passes that use it; the queue, and each step, which keeps the rule
+//! - `specs/Pass.antt`, `Lending.antt`, `src/parts.rt`, `proofs/Passes.antt`: `Parts`, a queue for each
+//!   section; `PartsPass`, what a worker knows of each; `Held`, a part that was taken
+//! - `specs/Work.antt`, `src/worker.rt`, `gate.rt`, `proofs/Holds.antt`, `Bringing.antt`, `Rounds.antt`:
+//!   `work`: one worker, which takes, probes and brings back; `run_workers`: one in a thread for each
+//!   pass; what a hold leaves its pass with; `Gate`, where a test can hold a worker up
+//! - `specs/Finish.antt`, `src/finishing.rt`, `proofs/FinishFacts.antt`: `finish`: every part is taken,
+//!   what is left of it is done, and the groups of the sections are merged
+//! - `proofs/Crossing.antt`, `CrossingQueries.antt`, `CrossingJobs.antt`, `CrossingParts.antt`: that
+//!   what holds others may go to another thread, or be shared with it, where they may; that a job, a
+//!   part and a pass may
+//! - `src/law.rt`: laws: each row lies in one morsel, each morsel in one section; core runs keep a part
+//!   lawful, and from an opening part lead to the whole
+//! - `proofs/Cuts.antt`, `MorselFacts.antt`: cut points that rise; where morsels and sections are cut
+//! - `proofs/MarkFacts.antt`, `PartFacts.antt`, `GivingBack.antt`, `OpeningFacts.antt`,
+//!   `WorkFacts.antt`, `SweepFacts.antt`: marks and what they stand for; what a part keeps, at its
+//!   opening, at each call, worked off and in a sweep
+//! - `proofs/Later.antt`: a later state of a part, after each event
+//! - `proofs/SetFacts.antt`, `RunFacts.antt`, `EveryRun.antt`: lists of different numbers as sets; core
+//!   runs, and those from an opening part
+//! - `specs/Probed.antt`: for the contracts inside: what probing rows of the fact table adds to groups
+//!
+//! A morsel goes this way: `Part::hand_out` gives the ticket of the least one that was not handed out,
+//! `Partial::of` probes its rows into groups of its own, and `Part::give_back` merges these into the
+//! part's and marks the morsel. A worker (`work`) takes the part of its own section from its queue, gets
+//! a ticket, puts the part back, probes while it holds no part, takes the part again and gives the
+//! partial back; once the section has no ticket left it goes on to the next, in a circle. Where memory
+//! is refused it gives its ticket up, and the part hands out no other. `Part::work_off` goes this way
+//! with morsel after morsel in the caller's thread, until no ticket comes. `Part::sweep` does what is
+//! left of a section, also what was handed out and did not come back; `finish` calls it of each part
+//! that no ticket was given up of.
 #![tactic(auto)]
 
 mod fault;

@@ -1,5 +1,5 @@
 -- How a fault of an answer is told: by its number and its name.
--- Source: own; docs/FAULTS.md lists them.
+-- Source: own; docs/FAULTS.md lists them, but for that of Memory, which no line has.
 use Rattle.std.specs.Prelude.{ℕ, List, codes}
 use Rattle.ssb_rows.specs.declared.fault.AnswerFault.{AnswerFault}
 use Rattle.ssb_rows.specs.declared.fault.AnswerFault.TheVariants as fault

@@ -20,7 +20,8 @@ pub enum AnswerFault {
 }
 
 impl AnswerFault {
-    /// Its number and its name, as `docs/FAULTS.md` lists them.
+    /// Its number and its name, as `docs/FAULTS.md` lists them. Of `Memory` they are never printed: its line
+    /// is `ssb: Memory`.
     pub fn title(&self) -> &str
         ensures { result.now ≡ answer_title self.now }
     {

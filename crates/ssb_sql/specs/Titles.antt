@@ -1,5 +1,5 @@
 -- How a fault of a text is told: by its number and its name.
--- Source: own; docs/FAULTS.md lists them.
+-- Source: own; docs/FAULTS.md lists them, but for that of Memory, which no line has.
 use Rattle.std.specs.Prelude.{ℕ, List, codes}
 use Rattle.ssb_sql.specs.declared.fault.SqlFault.{SqlFault}
 use Rattle.ssb_sql.specs.declared.fault.SqlFault.TheVariants as fault

@@ -22,7 +22,8 @@ pub enum SqlFault {
 }
 
 impl SqlFault {
-    /// Its number and its name, as `docs/FAULTS.md` lists them.
+    /// Its number and its name, as `docs/FAULTS.md` lists them. Of `Memory` they are never printed: its line
+    /// is `ssb: Memory`.
     pub fn title(&self) -> &str
         ensures { result.now ≡ sql_title self.now }
     {

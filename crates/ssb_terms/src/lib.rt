@@ -4,6 +4,16 @@
 //! catalog and the query language; the latter says again how each reserved word is written. So do the
 //! literals and operators that a query's text and its meaning share, and the rule of a column: its type
 //! and its role.
+//!
+//! # Files
+//!
+//! - `src/keyword.rt`, `specs/Keywords.antt`: `Keyword`: the reserved words, each with its letters
+//! - `src/name.rt`, `specs/Names.antt`: `Name`, what a name looks like
+//! - `src/text.rt`: `Text`: a text that is kept, of a literal or a name
+//! - `src/literal.rt`, `operator.rt`: `Literal`, and copies of literals; `Op`, a comparison; `Adding`,
+//!   `+` or `-` between terms
+//! - `src/rule.rt`, `specs/Roles.antt`: `ColType`, `Role` and `Rule`: what a column takes; which role is
+//!   a key's and which needs a value
 #![tactic(auto)]
 
 pub mod keyword;

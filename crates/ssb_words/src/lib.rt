@@ -2,6 +2,10 @@
 //!
 //! Words that ask for help have its text as their answer, so the program prints it and knows nothing
 //! of how words are read.
+//!
+//! # Files
+//!
+//! - `src/words.rt`, `specs/Words.antt`: the words of the command line: `task_of`, and the text of help
 #![tactic(auto)]
 
 pub mod words;

@@ -3,7 +3,7 @@
 ghost use Rattle.std.specs.Prelude.{◌≡◌, length};
 
 use crate::folder::{catalog_in, sources_of};
-use crate::probe::micros_since;
+use crate::job::micros_since;
 use ssb_catalog::Catalog;
 use ssb_lanes::{Joined, load_all_with};
 use ssb_records::{In, PIECE_SIZE};

@@ -1,16 +1,35 @@
-//! What the bench measures beside `ssb`: reading the records of a file and nothing more, what a
-//! query's joins cost by themselves, what its answer costs over loaded tables, and loading from
-//! sections of a file.
+//! What the bench measures beside `ssb`: reading the records of a file and nothing more, loading the
+//! tables of a folder from sections of the fact file, and a query's answer over loaded tables.
+//!
+//! - `read FILE`: how many records a file has, read with the loader's settings and none of them kept
+//! - `load FOLDER SECTIONS`: the milliseconds of loading the tables of a folder: the fact table's file,
+//!   where it has more than 16 MB, in so many sections, each by a thread of its own
+//! - `run FOLDER FILE MORSEL TIMES`: the least milliseconds of so many answers to a file's query, by the
+//!   caller's thread, in morsels of so many rows; tables are loaded and indexes built once
+//! - `run FOLDER FILE MORSEL TIMES WORKERS PARTS`: the same by so many workers, in threads of their own,
+//!   who take the morsels from so many parts
+//!
+//! The catalog of a folder lies in it as `catalog`. The status is 1 where a file or a growth failed, or
+//! a file is not what it should be, and 2 where the words are others.
+//!
+//! # Files
+//!
+//! - `src/folder.rt`: the files of a folder: the catalog, and a source for each table, the fact table's
+//!   joined of several sections
+//! - `src/read.rt`: the records of a file, counted
+//! - `src/load.rt`: loading alone, timed
+//! - `src/job.rt`: the job of a query over the tables of a folder; how long ago a moment was
+//! - `src/run.rt`: the answers of a job, timed, by the caller's thread or by workers
+//! - `src/main.rt`: the words of the command line, and what is printed
 #![tactic(auto)]
 
 mod folder;
+mod job;
 mod load;
-mod probe;
 mod read;
 mod run;
 
 use load::loading_time;
-use probe::{Report, measure};
 use read::count_records;
 use run::{By, own_time};
 use ssb_reply::Settings;
@@ -59,24 +78,6 @@ fn print_micros<R: Print>(rt: &R, what: &str, micros: u128) -> io::Result<()> {
     let whole = micros / 1000;
     let rest = micros % 1000;
     println!(rt; "{what} {whole}.{rest:03} ms")
-}
-
-fn print_report<R: Print>(rt: &R, report: &Report) -> io::Result<()> {
-    print_micros(rt, "loading", report.loading)?;
-    print_micros(rt, "building", report.building)?;
-    print_micros(rt, "probing", report.probing)?;
-    println!(rt; "kept {} of {} rows", report.kept, report.rows)
-}
-
-// Prints how long loading all tables, building a job and probing each fact row took.
-fn print_measures<R: Files + Clock + Print + AllocGlobal>(rt: &R, given: &[String]) -> u8 {
-    let [folder, path] = given else {
-        return BAD_WORDS;
-    };
-    let Some(report) = measure(rt, folder.as_str(), path.as_str()) else {
-        return FAILED;
-    };
-    status_of(print_report(rt, &report))
 }
 
 // Prints the milliseconds of loading from so many sections.
@@ -155,8 +156,6 @@ fn act<R: Files<File = File> + Clock + Print + Threads + Wait + Sync + AllocGlob
         print_count(rt, given)
     } else if command == "load" {
         print_loading_time(rt, given)
-    } else if command == "probe" {
-        print_measures(rt, given)
     } else if command == "run" {
         print_own_time(rt, given)
     } else {

@@ -1,6 +1,6 @@
 // A query's own time: the answer of its job, whose tables are loaded and whose indexes are built once.
 
-use crate::probe::{job_in, micros_since};
+use crate::job::{job_in, micros_since};
 use ssb_answer::{NoGate, answer_shared};
 use ssb_embed::answer_job;
 use ssb_job::Job;
@@ -68,7 +68,7 @@ pub(crate) fn own_time<R: Files + Clock + Threads + Wait + Sync + AllocGlobal>(
     by: By,
     times: u32,
 ) -> Option<u128> {
-    let job = job_in(rt, folder, path)?.job;
+    let job = job_in(rt, folder, path)?;
     let least = least_of(rt, &job, by, times);
     drop(job);
     least

@@ -1,18 +1,16 @@
 #!/usr/bin/env python3
 """Makes tables with all columns of the Star Schema Benchmark, and their catalog.
 
-Usage: make_tables.py FOLDER [--scale S] [--fact-rows N] [--dimension-rows N] [--seed N]
+Usage: make_tables.py FOLDER [--scale S] [--seed N]
 
 The tables have the benchmark's sizes, and values of which each of its queries keeps about its usual
 share. At scale 1 the fact table has 6,000,000 rows; at another scale all tables but that of the days
-shrink or grow with it, the parts above scale 1 by its logarithm. `--fact-rows` sets the size of the
-fact table by itself, and `--dimension-rows` cuts each dimension off. The same arguments always give
-the same files.
+shrink or grow with it, the parts above scale 1 by its logarithm. The same arguments always give the
+same files.
 """
 
 import argparse
 import datetime
-import itertools
 import math
 import random
 import sys
@@ -112,7 +110,8 @@ def brands(draw):
 
 def phone(draw):
     """A phone number."""
-    return f"{draw.randrange(10, 35)}-{draw.randrange(100, 1000)}-{draw.randrange(100, 1000)}-{draw.randrange(1000, 10000)}"
+    country, area, exchange = draw.randrange(10, 35), draw.randrange(100, 1000), draw.randrange(100, 1000)
+    return f"{country}-{area}-{exchange}-{draw.randrange(1000, 10000)}"
 
 
 def lineorder_rows(draw, sizes):
@@ -198,33 +197,26 @@ ROWS = {
 }
 
 
-def make(folder, sizes, dimension_rows=None, seed=1):
-    """Writes the catalog and the tables into a folder. Of each dimension no more rows are written
-    than `dimension_rows` says; the fact table's numbers stay those of the whole sizes."""
+def make(folder, sizes, seed):
+    """Writes the catalog and the tables into a folder."""
     folder.mkdir(parents=True, exist_ok=True)
     with open(folder / "catalog", "w", encoding="utf-8", newline="\n") as out:
         out.writelines(catalog_lines())
     for table, rows in ROWS.items():
-        most = None if table == "lineorder" else dimension_rows
         draw = random.Random(f"{table} {seed}")
         lines = ("|".join(map(str, row)) + "|\n" for row in rows(draw, sizes))
         with open(folder / f"{table}.tbl", "w", encoding="utf-8", newline="\n") as out:
-            out.writelines(itertools.islice(lines, most))
+            out.writelines(lines)
 
 
 def main(words):
     """Makes the tables that the words ask for."""
     parser = argparse.ArgumentParser(description=__doc__.split("\n", 1)[0])
-    parser.add_argument("folder", type=Path)
-    parser.add_argument("--scale", type=float, default=0.01)
-    parser.add_argument("--fact-rows", type=int)
-    parser.add_argument("--dimension-rows", type=int, help="the most rows of a dimension")
-    parser.add_argument("--seed", type=int, default=1)
+    parser.add_argument("folder", type=Path, metavar="FOLDER")
+    parser.add_argument("--scale", type=float, default=0.01, metavar="S", help="1 for 6,000,000 fact rows")
+    parser.add_argument("--seed", type=int, default=1, metavar="N", help="another one gives other values")
     given = parser.parse_args(words)
-    sizes = sizes_at(given.scale)
-    if given.fact_rows is not None:
-        sizes["lineorder"] = given.fact_rows
-    make(given.folder, sizes, given.dimension_rows, given.seed)
+    make(given.folder, sizes_at(given.scale), given.seed)
 
 
 if __name__ == "__main__":

@@ -1,17 +1,70 @@
-"""What the measuring scripts share: where the programs stand, runs of them, and tables of figures."""
+"""What the commands of `bench.py` share: their words, runs of programs, figures, and tables of these."""
 
 import argparse
-import contextlib
 import os
+import re
 import subprocess
-import tempfile
 import time
 from pathlib import Path
 from typing import NamedTuple
 
-CRATES = Path(__file__).resolve().parent.parent / "crates"
-SSB = CRATES / "ssb_cli" / "out" / "ssb_cli"
-BENCH = CRATES / "ssb_bench" / "out" / "ssb_bench"
+ROOT = Path(__file__).resolve().parent.parent
+
+# What `ssb_bench` prints of a time.
+TOLD = re.compile(r"\w+ (\d+\.\d{3}) ms\n")
+
+
+def number(word):
+    """A number from 1."""
+    if int(word) < 1:
+        raise ValueError(word)
+    return int(word)
+
+
+def program(word):
+    """The whole path of a program."""
+    return Path(word).resolve()
+
+
+PROGRAM = {"type": program, "metavar": "PROGRAM"}
+NUMBER = {"type": number, "metavar": "N"}
+NUMBERS = {**NUMBER, "nargs": "+"}
+
+# The words of all commands. Each has the same meaning in each command that takes it.
+OPTIONS = {
+    "folder": {"type": Path, "metavar": "FOLDER", "help": "tables that make_tables.py made"},
+    "--old": {**PROGRAM, "help": "an earlier build, which runs in turns with the new one"},
+    "--queries": {"nargs": "+", "metavar": "NAME", "help": "all where left out"},
+    "--workers": {**NUMBERS, "default": [1, 2, 4], "help": "threads that answer"},
+    "--parts": {**NUMBERS, "default": [1, 4], "help": "parts from which workers take morsels"},
+    "--morsels": {**NUMBERS, "default": [10_000, 100_000], "help": "rows of a morsel"},
+    "--times": {**NUMBER, "default": 5, "help": "answers in a run, which tells the least"},
+    "--runs": {**NUMBER, "default": 5, "help": "runs of each program"},
+    "--ssb": {**PROGRAM, "default": ROOT / "crates" / "ssb_cli" / "out" / "ssb_cli"},
+    "--ssb-bench": {**PROGRAM, "default": ROOT / "crates" / "ssb_bench" / "out" / "ssb_bench"},
+}
+EVERYWHERE = ["--runs", "--ssb", "--ssb-bench"]
+
+
+def parsed(doc, commands, words):
+    """What the words say; `act` is the command. Ends the script where a program or tables are missing.
+
+    Of each command there are given the programs that it runs and the words that it alone takes.
+    """
+    parser = argparse.ArgumentParser(description=doc.split("\n", 1)[0])
+    choices = parser.add_subparsers(required=True, metavar="COMMAND")
+    for act, (programs, own) in commands.items():
+        choice = choices.add_parser(act.__name__, help=act.__doc__, description=act.__doc__)
+        choice.set_defaults(act=act, programs=programs, folder=None, old=None)
+        for word in [*own, *EVERYWHERE]:
+            choice.add_argument(word, **OPTIONS[word])
+    given = parser.parse_args(words)
+    for path in [*(getattr(given, name) for name in given.programs), given.old]:
+        if path is not None and not path.is_file():
+            raise SystemExit(f"no program at {path}: `rt run` in its crate builds it")
+    if given.folder is not None and not (given.folder / "catalog").is_file():
+        raise SystemExit(f"no tables at {given.folder}: make_tables.py makes them")
+    return given
 
 
 class Run(NamedTuple):
@@ -24,14 +77,15 @@ class Run(NamedTuple):
 
 
 def run(command):
-    """Runs a program once.
+    """Runs a program once. Ends the script where the program fails.
 
     The peak is never below this process's own, which a started program inherits: so the scripts
     keep nothing large.
     """
+    words = [str(word) for word in command]
     read, write = os.pipe()
     start = time.perf_counter()
-    child = subprocess.Popen(command, stdin=subprocess.DEVNULL, stdout=write)
+    child = subprocess.Popen(words, stdin=subprocess.DEVNULL, stdout=write)
     os.close(write)
     with open(read, encoding="utf-8") as pipe:
         output = pipe.read()
@@ -39,27 +93,28 @@ def run(command):
     seconds = time.perf_counter() - start
     child.returncode = os.waitstatus_to_exitcode(status)
     if child.returncode != 0:
-        raise SystemExit(f"{' '.join(map(str, command))}: ended with status {child.returncode}")
+        raise SystemExit(f"{' '.join(words)}: ended with status {child.returncode}")
     return Run(seconds, usage.ru_utime + usage.ru_stime, usage.ru_maxrss * 1024, output)
 
 
 def run_all(commands, times):
-    """Runs each of some named commands, one after the other, so many times over: the runs of each.
+    """Runs each of some named commands so many times: the runs of each.
 
-    They take turns, so that whatever else the machine does meets all of them alike.
+    They take turns, so that whatever else the machine does meets all of them alike, and each second
+    turn goes backwards, so that none always follows the same one.
     """
     runs = {name: [] for name in commands}
-    for _ in range(times):
-        for name, command in commands.items():
-            runs[name].append(run(command))
+    for turn in range(times):
+        for name in list(commands)[:: 1 if turn % 2 == 0 else -1]:
+            runs[name].append(run(commands[name]))
     return runs
 
 
-def check_outputs(name, outputs, wanted):
-    """Ends the script where some output is not what is wanted."""
-    for output in outputs:
-        if output != wanted:
-            raise SystemExit(f"{name} printed {output!r}, wanted {wanted!r}")
+def check_outputs(name, runs, wanted):
+    """Ends the script where some run did not print what is wanted."""
+    for some in runs:
+        if some.output != wanted:
+            raise SystemExit(f"{name}: printed {some.output!r}, wanted {wanted!r}")
 
 
 def least_seconds(runs):
@@ -72,11 +127,30 @@ def least_peak(runs):
     return min(run.peak for run in runs)
 
 
-def verdict(measured, most, aim=None):
-    """What a figure is beside the one that is wanted."""
-    if measured > most:
-        return "MISSED"
-    return "met" if aim is None or measured > aim else "aim met"
+def told(output):
+    """The milliseconds that a run of `ssb_bench` tells. Ends the script where it tells none."""
+    found = TOLD.fullmatch(output)
+    if found is None:
+        raise SystemExit(f"ssb_bench printed {output!r}, wanted milliseconds")
+    return float(found[1])
+
+
+def least_told(runs):
+    """The least milliseconds that some runs of `ssb_bench` tell."""
+    return min(told(run.output) for run in runs)
+
+
+def write_texts(folder, texts):
+    """Writes named texts to files of a folder: the path of each."""
+    paths = {name: folder / f"{at}.sql" for at, name in enumerate(texts)}
+    for name, path in paths.items():
+        path.write_text(texts[name], encoding="utf-8")
+    return paths
+
+
+def print_setting(given, what):
+    """Prints what is measured, and how, before it begins."""
+    print(f"{what}; {os.cpu_count()} cores; the least of {given.runs} runs in turns", flush=True)
 
 
 def print_table(head, rows):
@@ -86,48 +160,3 @@ def print_table(head, rows):
     print("|" + "---|" * len(head))
     for row in rows:
         print("| " + " | ".join(row) + " |")
-
-
-def print_ratios(ratios):
-    """Prints ratios, each with its name, the most that is wanted, and the aim if there is one."""
-    print_table(
-        ["Ratio", "Measured", "Wanted", "Aim", ""],
-        [
-            [
-                name, f"{measured:.3f}", f"at most {most:.3g}", "" if aim is None else f"{aim:.3g}",
-                verdict(measured, most, aim),
-            ]
-            for name, measured, most, aim in ratios
-        ],
-    )
-
-
-def parser_of(doc):
-    """A parser with what each script takes; its description is the first line of the script's own."""
-    parser = argparse.ArgumentParser(description=doc.split("\n", 1)[0])
-    parser.add_argument("--runs", type=int, default=5, help="how often each program runs")
-    return parser
-
-
-def add_folder(parser):
-    """Lets the words name the folder of the tables."""
-    parser.add_argument("--folder", type=Path, help="where the tables are made and stay")
-
-
-def parsed(parser, words, *programs):
-    """What the words say. Ends the script where a program is not built."""
-    given = parser.parse_args(words)
-    for program in programs:
-        if not program.is_file():
-            raise SystemExit(f"no program at {program}: `rt run` in its crate builds it")
-    return given
-
-
-@contextlib.contextmanager
-def folder_of(given=None):
-    """The folder that was given, or one that is gone afterwards."""
-    if given is not None:
-        yield given
-        return
-    with tempfile.TemporaryDirectory() as name:
-        yield Path(name)

@@ -1,0 +1,275 @@
+#!/usr/bin/env python3
+"""Measures the time and the memory of loading tables, answering queries and reading their texts.
+
+Usage: bench.py load FOLDER [--old PROGRAM]
+       bench.py query FOLDER [--old PROGRAM] [--queries NAME..] [--morsels N..] [--times N]
+       bench.py threads FOLDER [--queries NAME..] [--workers N..] [--parts N..] [--morsels N..] [--times N]
+       bench.py check
+
+Each takes [--runs N] [--ssb PROGRAM] [--ssb-bench PROGRAM] too. FOLDER has tables and their catalog, as
+`make_tables.py FOLDER --scale S` makes them. Programs run in turns; a figure is the least of N runs.
+"""
+
+import itertools
+import statistics
+import sys
+import tempfile
+from pathlib import Path
+
+import measure
+
+sys.path.append(str(measure.ROOT / "tests"))
+from benchmark_queries import thirteen  # noqa: E402
+
+NEW = "new"
+OLD = "old"
+ALONE = "alone"
+
+# What `load` runs: `ssb_bench read`, `ssb run` of two queries, and `ssb_bench load` by its sections.
+BARE = "bare reading of the fact file"
+COUNT = "select count(*) from lineorder\n"
+NAME = "Q2.1"
+WORKERS = 4
+COUNTING = f"counting all rows, {WORKERS} workers"
+ANSWERING = f"{NAME}, {WORKERS} workers"
+SECTIONS = [1, 2, 4, 16]
+
+# What `query` and `threads` answer beside the benchmark's queries.
+JOINS = "from lineorder, date, part where lo_orderdate = d_datekey and lo_partkey = p_partkey"
+CUSTOMERS = "from lineorder, customer where lo_custkey = c_custkey"
+TEXTS = {
+    "count": COUNT,
+    "joins-counted": f"select count(*) {JOINS}\n",
+    "joins-grouped": f"select sum(lo_revenue), d_year, p_brand1 {JOINS} group by d_year, p_brand1\n",
+    "sum-number": "select sum(lo_revenue) from lineorder\n",
+    "min-number": "select min(lo_revenue) from lineorder\n",
+    "max-number": "select max(lo_revenue) from lineorder\n",
+    "min-text": "select min(lo_shipmode) from lineorder\n",
+    "max-text": "select max(lo_shipmode) from lineorder\n",
+    "sum-joined": f"select sum(c_custkey) {CUSTOMERS}\n",
+    "max-joined-text": f"select max(c_name) {CUSTOMERS}\n",
+}
+
+# Beside which sum the time of a least or a greatest value stands.
+SUMS = {
+    "min-number": "sum-number",
+    "max-number": "sum-number",
+    "min-text": "sum-number",
+    "max-text": "sum-number",
+    "max-joined-text": "sum-joined",
+}
+
+# What `check` reads.
+CATALOG = "t|a|int|null\n"
+SHORT = "a short text"
+SHORT_TEXT = "select count(*) from t"
+MAX_BYTES = 65536
+
+
+def line_count(path):
+    """How many lines a file has."""
+    with open(path, "rb") as lines:
+        return sum(1 for _ in lines)
+
+
+def load_commands(given, programs, query):
+    """Each command of `load`: those of `ssb` by the program and what it does."""
+    commands = {BARE: [given.ssb_bench, "read", given.folder / "lineorder.tbl"]}
+    for program, path in programs.items():
+        run = [path, "run", "--data", given.folder, "--workers", WORKERS]
+        commands[program, COUNTING] = [*run, "--query", query]
+        commands[program, ANSWERING] = [*run, "--name", NAME]
+    for count in SECTIONS:
+        commands[count] = [given.ssb_bench, "load", given.folder, count]
+    return commands
+
+
+def check_load(runs, programs, rows):
+    """Ends the script where a count is not that of the rows, or an answer is not that of the first run."""
+    answer = runs[NEW, ANSWERING][0].output
+    measure.check_outputs(BARE, runs[BARE], f"{rows}\n")
+    for program in programs:
+        measure.check_outputs(f"{program}, {COUNTING}", runs[program, COUNTING], f"{rows}\n")
+        measure.check_outputs(f"{program}, {ANSWERING}", runs[program, ANSWERING], answer)
+
+
+def memory(runs, size):
+    """Two columns: the least peak memory in MB, and as a part of the size of all files."""
+    peak = measure.least_peak(runs)
+    return [f"{peak / 1e6:.1f}", f"{peak / size:.2f}"]
+
+
+def print_runs(runs, size):
+    """Prints what the new `ssb` takes against the bare reading."""
+    bare = measure.least_seconds(runs[BARE])
+    rows = []
+    for name, some in ((BARE, runs[BARE]), *((name, runs[NEW, name]) for name in (COUNTING, ANSWERING))):
+        took = measure.least_seconds(some)
+        rows.append([name, f"{took:.3f}", f"{took / bare:.2f}", *memory(some, size)])
+    measure.print_table(["Run", "Seconds", "Against bare reading", "Peak memory, MB", "Of all files"], rows)
+
+
+def print_sections(runs, size):
+    """Prints what loading alone takes from several sections against one."""
+    one = measure.least_told(runs[SECTIONS[0]])
+    rows = []
+    for count in SECTIONS:
+        took = measure.least_told(runs[count])
+        rows.append([str(count), f"{took:.1f}", f"{took / one:.2f}", *memory(runs[count], size)])
+    head = ["Sections", "Milliseconds of loading", f"Against {SECTIONS[0]}", "Peak memory, MB", "Of all files"]
+    measure.print_table(head, rows)
+
+
+def figures(runs):
+    """The least and the middle seconds of some runs, the same of processors, and the least peak in MB."""
+    seconds = [run.seconds for run in runs]
+    processor = [run.processor for run in runs]
+    least_and_middle = [pick(values) for values in (seconds, processor) for pick in (min, statistics.median)]
+    return [*least_and_middle, measure.least_peak(runs) / 1e6]
+
+
+def print_old(runs):
+    """Prints what the new `ssb` takes against the old one."""
+    rows = []
+    for name in (COUNTING, ANSWERING):
+        old, new = figures(runs[OLD, name]), figures(runs[NEW, name])
+        ratios = [ours / theirs for ours, theirs in zip(new, old)]
+        for program, values in ((OLD, old), (NEW, new), ("new / old", ratios)):
+            rows.append([name, program, *(f"{value:.3f}" for value in values)])
+    head = ["Seconds, least", "Middle", "Of processors, least", "Middle", "Peak memory, MB"]
+    measure.print_table(["Run", "Program", *head], rows)
+
+
+def load(given, texts):
+    """Loading: against reading the fact file bare, in sections of it, and by an old ssb."""
+    fact = given.folder / "lineorder.tbl"
+    rows = line_count(fact)
+    size = sum(path.stat().st_size for path in given.folder.glob("*.tbl"))
+    measure.print_setting(given, f"{rows:,} fact rows, files of {size / 1e6:.1f} MB")
+    programs = {NEW: given.ssb} | ({OLD: given.old} if given.old else {})
+    query = measure.write_texts(texts, {COUNTING: COUNT})[COUNTING]
+    runs = measure.run_all(load_commands(given, programs, query), given.runs)
+    check_load(runs, programs, rows)
+    print_runs(runs, size)
+    print_sections(runs, size)
+    if given.old:
+        print_old(runs)
+
+
+def paths_of(given, texts):
+    """The files of the queries that are to be answered, by their names."""
+    known = {**thirteen(), **TEXTS}
+    names = given.queries or list(known)
+    for name in names:
+        if name not in known:
+            raise SystemExit(f"no query {name}: there are {' '.join(known)}")
+    return measure.write_texts(texts, {name: known[name] for name in names})
+
+
+def answering(program, given, path, morsel, *workers_and_parts):
+    """The command that answers a query again and again: by one thread alone, or by workers from parts."""
+    return [program, "run", given.folder, path, morsel, given.times, *workers_and_parts]
+
+
+def least_of_all(given, commands):
+    """The least milliseconds of each answering command."""
+    measure.print_setting(given, f"{given.folder}, {given.times} answers a run")
+    return {key: measure.least_told(runs) for key, runs in measure.run_all(commands, given.runs).items()}
+
+
+def query(given, texts):
+    """Answers over loaded tables by one worker: for sizes of a morsel, and by an old ssb_bench."""
+    paths = paths_of(given, texts)
+    first, *others = given.morsels
+    commands = {}
+    for name, path in paths.items():
+        commands |= {(name, morsel): answering(given.ssb_bench, given, path, morsel) for morsel in given.morsels}
+        if given.old:
+            commands[name, OLD] = answering(given.old, given, path, first)
+    found = least_of_all(given, commands)
+    rows = []
+    for name in paths:
+        base = found[name, first]
+        ratios = [found[name, morsel] / base for morsel in others]
+        ratios += [base / found[name, OLD]] if given.old else []
+        by_sum = f"{base / found[SUMS[name], first]:.2f}" if SUMS.get(name) in paths else ""
+        rows.append([name, f"{base:.2f}", *(f"{ratio:.2f}" for ratio in ratios), by_sum])
+    head = ["Query", f"Milliseconds in morsels of {first:,}", *(f"{morsel:,} / {first:,}" for morsel in others)]
+    measure.print_table([*head, *(["New / old"] if given.old else []), "Against its sum"], rows)
+
+
+def threads(given, texts):
+    """Answers over loaded tables by workers in threads, against one thread alone."""
+    paths = paths_of(given, texts)
+    choices = list(itertools.product(given.workers, given.parts, given.morsels))
+    commands = {}
+    for name, path in paths.items():
+        for morsel in given.morsels:
+            commands[name, ALONE, morsel] = answering(given.ssb_bench, given, path, morsel)
+        for workers, parts, morsel in choices:
+            command = answering(given.ssb_bench, given, path, morsel, workers, parts)
+            commands[name, workers, parts, morsel] = command
+    found = least_of_all(given, commands)
+    first = given.morsels[0]
+    rows = []
+    for name in paths:
+        ratios = [found[name, *choice] / found[name, ALONE, choice[-1]] for choice in choices]
+        rows.append([name, f"{found[name, ALONE, first]:.2f}", *(f"{ratio:.2f}" for ratio in ratios)])
+    head = [f"{workers} of {parts}, {morsel:,}" for workers, parts, morsel in choices]
+    measure.print_table(["Query", f"Milliseconds alone, in morsels of {first:,}", *head], rows)
+
+
+def filled(first, again, last):
+    """A text of at most MAX_BYTES: the first part, another as often as there is room, the last."""
+    times = (MAX_BYTES - len(first) - len(last)) // len(again)
+    return first + again * times + last
+
+
+def checked_texts():
+    """What `check` reads: the short text, and each of the longest, by names."""
+    where = SHORT_TEXT + " where "
+    nested = "(" * 63 + "a = 1" + ")" * 63
+    return {
+        SHORT: SHORT_TEXT,
+        "a chain of ANDs": filled(where + "a = 1", " and a = 1", ""),
+        "a list of literals": filled(where + "a in (1", ",1", ")"),
+        "64 parentheses again and again": filled(where + "(" + nested, " or " + nested, ")"),
+    }
+
+
+def check(given, texts):
+    """Reading a query: ssb check of the longest texts, against a short one."""
+    catalog = texts / "catalog"
+    catalog.write_text(CATALOG, encoding="utf-8")
+    checked = checked_texts()
+    paths = measure.write_texts(texts, checked)
+    measure.print_setting(given, "ssb check")
+    runs = measure.run_all(
+        {name: [given.ssb, "check", "--query", path, "--catalog", catalog] for name, path in paths.items()},
+        given.runs,
+    )
+    for name, some in runs.items():
+        measure.check_outputs(name, some, "ok\n")
+    took = {name: 1000 * measure.least_seconds(some) for name, some in runs.items()}
+    rows = [[name, str(len(checked[name])), f"{took[name]:.1f}", f"{took[name] - took[SHORT]:.1f}"] for name in took]
+    measure.print_table(["Text", "Bytes", "Milliseconds", f"More than {SHORT}"], rows)
+
+
+# The programs that each command runs, and the words that it takes beside those of all.
+COMMANDS = {
+    load: (["ssb", "ssb_bench"], ["folder", "--old"]),
+    query: (["ssb_bench"], ["folder", "--old", "--queries", "--morsels", "--times"]),
+    threads: (["ssb_bench"], ["folder", "--queries", "--workers", "--parts", "--morsels", "--times"]),
+    check: (["ssb"], []),
+}
+
+
+def main(words):
+    """Measures what the words ask for."""
+    given = measure.parsed(__doc__, COMMANDS, words)
+    with tempfile.TemporaryDirectory() as texts:
+        given.act(given, Path(texts))
+
+
+if __name__ == "__main__":
+    main(sys.argv[1:])

@@ -121,11 +121,11 @@ def print_sections(runs, size):
 
 
 def figures(runs):
-    """The least and the middle seconds of some runs, the same of processors, and the least peak in MB."""
+    """The least and the median seconds of some runs, the same of processors, and the least peak in MB."""
     seconds = [run.seconds for run in runs]
     processor = [run.processor for run in runs]
-    least_and_middle = [pick(values) for values in (seconds, processor) for pick in (min, statistics.median)]
-    return [*least_and_middle, measure.least_peak(runs) / 1e6]
+    least_and_median = [pick(values) for values in (seconds, processor) for pick in (min, statistics.median)]
+    return [*least_and_median, measure.least_peak(runs) / 1e6]
 
 
 def print_old(runs):
@@ -136,7 +136,7 @@ def print_old(runs):
         ratios = [ours / theirs for ours, theirs in zip(new, old)]
         for program, values in ((OLD, old), (NEW, new), ("new / old", ratios)):
             rows.append([name, program, *(f"{value:.3f}" for value in values)])
-    head = ["Seconds, least", "Middle", "Of processors, least", "Middle", "Peak memory, MB"]
+    head = ["Seconds, least", "Median", "Of processors, least", "Median", "Peak memory, MB"]
     measure.print_table(["Run", "Program", *head], rows)
 
 
@@ -195,7 +195,7 @@ def query(given, texts):
         by_sum = f"{base / found[SUMS[name], first]:.2f}" if SUMS.get(name) in paths else ""
         rows.append([name, f"{base:.2f}", *(f"{ratio:.2f}" for ratio in ratios), by_sum])
     head = ["Query", f"Milliseconds in morsels of {first:,}", *(f"{morsel:,} / {first:,}" for morsel in others)]
-    measure.print_table([*head, *(["New / old"] if given.old else []), "Against its sum"], rows)
+    measure.print_table([*head, *(["new / old"] if given.old else []), "Against its sum"], rows)
 
 
 def threads(given, texts):

@@ -1,14 +1,14 @@
 #!/usr/bin/env python3
-"""Checks by SQLite that every part of the thirteen queries matters to the rows of tests/rows/thirteen.
+"""Plants changes in the benchmark's queries, and holds the rows of tests/rows/benchmark against SQLite.
 
-Usage: sharp.py [PROGRAM]
+Usage: mutate_queries.py [PROGRAM]
 
-A row must want what SQLite answers to its query, whose text stands in the program's definitions. Then the
-text is changed in one place: a literal, a column, a comparison, an order key, an operator of arithmetic, a
-conjunct, a group column. SQLite answers each changed query over the tables of each row of the query,
-and in one row the answer must be another, or none. What is left out because it means the same over
-every table, `same_for_all` says. With PROGRAM, it answers each changed query too: as SQLite does, or it
-refuses to bind it.
+These are the rows over the tables of examples/thirteen. Each must want what SQLite answers to its query,
+whose text stands in the program's definitions. Then the text is changed in one place: a literal, a column,
+a comparison, an order key, an operator of arithmetic, a conjunct, a group column. SQLite answers each
+changed query over the tables of each row of the query, and in one row the answer must be another, or
+none. What is left out because it means the same over every table, `same_for_all` says. With PROGRAM, it
+answers each changed query too: as SQLite does, or it refuses to bind it.
 
 Not changed: names given by AS, the order of FROM, and words that only spell the query otherwise.
 """
@@ -23,10 +23,10 @@ from pathlib import Path
 from typing import NamedTuple
 
 import run_rows
-from thirteen import thirteen
+from benchmark_queries import thirteen
 
 TABLES = run_rows.ROOT / "examples" / "thirteen"
-ROWS = run_rows.ROWS / "thirteen"
+ROWS = run_rows.ROWS / "benchmark"
 
 TOKEN = re.compile(r"'(?:[^']|'')*'|[a-z_]\w*|\d+|<>|<=|>=|[-(),;+*=<>]")
 COMPARISONS = ["=", "<>", "<", "<=", ">", ">="]
@@ -392,10 +392,12 @@ def base_of(tables, rows):
 
 
 def read_cases(tables, folder):
-    """The rows of each of the queries, by the query's name."""
+    """The rows of each of the queries over the tables, by the query's name."""
     cases = {}
     for number, path in enumerate(sorted(ROWS.glob("*.json"))):
         row = run_rows.read_row(path)
+        if row["base"] != TABLES.name:
+            continue
         place = folder / str(number)
         place.mkdir()
         run_rows.lay_out(row, place)

@@ -87,7 +87,11 @@ class Started(NamedTuple):
     def end(self):
         """Waits for its end."""
         status = self.process.wait(SECONDS)
-        return Ended(status, self.output.read_text(), self.error.read_text())
+        return Ended(status, self.output.read_text(encoding="utf-8"), self.error.read_text(encoding="utf-8"))
+
+    def wait_for_the_lock(self):
+        """Waits until it says that it waits for another build."""
+        wait_until(lambda: "waits for another build" in self.error.read_text(encoding="utf-8"), "it waits for a build")
 
     def interrupt(self):
         """Interrupts it and what it has started, as a terminal does, and again until it has ended.
@@ -328,7 +332,7 @@ def two_starts_build_once(place):
     place.change("crates/ssb_cli/src/main.rt")
     first = place.start_and_hold("first")
     second = place.start("second")
-    wait_until(lambda: "waits for another build" in second.error.read_text(), "the second start waits")
+    second.wait_for_the_lock()
     place.let_go()
     for started, word in ((first, "first"), (second, "second")):
         ended = started.end()
@@ -390,7 +394,7 @@ def interrupt_of_a_waiting_build_leaves_the_other(place):
     place.change("crates/ssb_cli/src/main.rt")
     first = place.start_and_hold()
     second = place.start()
-    wait_until(lambda: "waits for another build" in second.error.read_text(), "the second start waits")
+    second.wait_for_the_lock()
     second.interrupt()
     place.let_go()
     want(first.end().output, f"new\n{place.caller}\n", "the first start")

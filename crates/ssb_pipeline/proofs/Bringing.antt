@@ -1,34 +1,45 @@
 -- A part that takes a partial back, or notes that a ticket is given up.
-use Rattle.std.proofs.Common.{◌≡◌, ◌++◌, ℕ, true, false, Result, Ok, Err, inl, inr, sym, ap, ◌∙◌, subst}
-use Rattle.std.specs.Prelude.{IfOk}
+use Rattle.std.proofs.Common.{◌≡◌, ◌++◌, ℕ, false, true, Result, Ok, Err, inl, inr, sym, ap, ◌∙◌, subst}
+use Rattle.std.specs.Prelude.{IfErr, IfOk, ⊤}
 use Rattle.std.proofs.lemmas.List.{append-nil}
 use Rattle.ssb_job.specs.Kept.{AreOneJob, JobShape}
-use Rattle.ssb_pipeline.specs.Part.{Follows, PartState, Returns, handed_between, has}
+use Rattle.ssb_pipeline.specs.Part.{Follows, GivesBack, GivesUp, IsHandedOut, IsTaken, PartState, give_up, handed_between, has}
 use Rattle.ssb_pipeline.specs.Rule.{Knows, knows}
 use Rattle.ssb_pipeline.specs.State.{PartialState, TicketState}
-use Rattle.ssb_pipeline.specs.Work.{Brings, IsBrought, TakesBack}
+use Rattle.ssb_pipeline.specs.Work.{Brings, IsSettled, TakesBack, morsel_of}
 use Rattle.ssb_pipeline.proofs.Holds.{same-none}
-use Rattle.ssb_pipeline.proofs.Later.{back-follows, follows_after, give-up-follows, is-back}
+use Rattle.ssb_pipeline.proofs.Later.{follows_after, is-back}
+use Rattle.ssb_pipeline.proofs.RunFacts.{back-ran, ran-follows, up-ran}
 
-pub back-brought : (i : ℕ) (x q : PartState) → Returns i x q → IsBrought i x q
-back-brought i x q r = record { handed = ap (λ (y : PartState). y.handed) r.after; follows = back-follows i x q r; back = inr (is-back i x q r) }
+-- the partial is of this job and this size
+abbrev pub IsMade : JobShape → ℕ → Result PartialState TicketState → Type 0
+IsMade j m made = IfOk made (λ p. AreOneJob p.ticket.job j × (p.ticket.size ≡ m))
 
--- the partial is of this number, of this job and this size
-abbrev pub IsMade : ℕ → JobShape → ℕ → Result PartialState TicketState → Type 0
-IsMade i j m made = IfOk made (λ p. (p.ticket.morsel ≡ i) × AreOneJob p.ticket.job j × (p.ticket.size ≡ m))
+pub one-job : (made : Result PartialState TicketState) (m : ℕ) (j k : JobShape) → IsMade j m made → k ≡ j → IfOk made (λ p. AreOneJob p.ticket.job k)
+one-job (Ok p) m j k h e = h.0 ∙ sym e
+one-job (Err t) m j k h e = tt
 
-pub one-job : (made : Result PartialState TicketState) (i m : ℕ) (j k : JobShape) → IsMade i j m made → k ≡ j → IfOk made (λ p. AreOneJob p.ticket.job k)
-one-job (Ok p) i m j k h e = h.1 ∙ sym e
-one-job (Err t) i m j k h e = tt
+-- it is of this ticket, whether it was made or not
+pub made-of : (made : Result PartialState TicketState) (t : TicketState) → IfOk made (λ p. p.ticket ≡ t) → IfErr made (λ u. u ≡ t) → morsel_of made ≡ t.morsel
+made-of (Ok p) t a b = ap (λ (u : TicketState). u.morsel) a
+made-of (Err u) t a b = ap (λ (u : TicketState). u.morsel) b
 
-pub brought : (made : Result PartialState TicketState) (i m : ℕ) (j : JobShape) (x q : PartState) → IsMade i j m made → TakesBack made x q → has x.handed i ≡ true → x.size ≡ m → IsBrought i x q
-brought (Ok p) i m j x q h t there size =
-    subst (λ n. IsBrought n x q) h.0 (t (h.2 ∙ sym size, subst (λ n. has x.handed n ≡ true) (sym h.0) there))
-brought (Err t) i m j x q h e there size = record { handed = ap (λ (y : PartState). y.handed) e; follows = give-up-follows x q e; back = inl (ap (λ (y : PartState). y.gave_up) e) }
+-- it is one that the part handed out
+pub was-handed : (made : Result PartialState TicketState) (i m : ℕ) (j : JobShape) (x : PartState) → morsel_of made ≡ i → IsMade j m made → has x.handed i ≡ true → x.size ≡ m → IfOk made (λ p. IsHandedOut x p.ticket)
+was-handed (Ok p) i m j x is h there size = record { size = h.1 ∙ sym size; handed = subst (λ n. has x.handed n ≡ true) (sym is) there }
+was-handed (Err t) i m j x is h there size = tt
 
-pub brings : (i : ℕ) (v w : Knows) (x q : PartState) → w ≡ knows false q (v.mine ++ handed_between x q) → Follows x v.seen → IsBrought i x q → Brings i v w
-brings i v w x q e f b = subst (Brings i v) (sym e) (record {
+-- a partial was taken
+pub taken-back : (p : PartialState) (x q : PartState) → IsTaken p x q → TakesBack (Ok p) x q
+taken-back p x q t = record { handed = ap (λ (y : PartState). y.handed) t.returns.after; ran = back-ran p (Ok tt) x q t; back = inr (is-back p.ticket.morsel x q t.returns) }
+
+-- a ticket was given up, of a part that is as it was
+pub given-up : (made : Result PartialState TicketState) (x y q : PartState) → y ≡ x → GivesUp y q → TakesBack made x q
+given-up made x y q e g = subst (λ z. TakesBack made z q) e (record { handed = ap (λ (z : PartState). z.handed) g; ran = up-ran y q g; back = inl (ap (λ (z : PartState). z.gave_up) g) })
+
+pub brings : (i : ℕ) (made : Result PartialState TicketState) (v w : Knows) (x q : PartState) → morsel_of made ≡ i → w ≡ knows false q (v.mine ++ handed_between x q) → Follows x v.seen → TakesBack made x q → Brings i v w
+brings i made v w x q is e f b = subst (Brings i v) (sym e) (record {
   mine = ap (λ l. v.mine ++ l) (same-none x q b.handed) ∙ append-nil v.mine;
-  follows = follows_after q x v.seen b.follows f;
-  back = b.back;
+  follows = follows_after q x v.seen (ran-follows x q b.ran) f;
+  back = subst (λ n. IsSettled n q) is b.back;
 })

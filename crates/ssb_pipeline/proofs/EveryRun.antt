@@ -10,41 +10,18 @@ use Rattle.ssb_groups.specs.Stands.{Stands}
 use Rattle.ssb_groups.proofs.Permuted.{any_order}
 use Rattle.ssb_pipeline.specs.Joined.{seen_in}
 use Rattle.ssb_pipeline.specs.Morsels.{morsel_count, morsel_cut, piece, row_cut, section}
-use Rattle.ssb_pipeline.specs.Part.{EveryRunIsLawful, EveryRunStands, Event, Happens, OneSectionIsAll, PartState, Runs, back, give_up, hand, ours}
+use Rattle.ssb_pipeline.specs.Part.{EveryRunIsLawful, EveryRunStands, OneSectionIsAll, ours}
 use Rattle.ssb_pipeline.proofs.Cuts.{all-pieces}
 use Rattle.ssb_pipeline.proofs.MorselFacts.{morsel-begins, morsel-end, morsel-rises, row-begins, row-end, row-rises}
-use Rattle.ssb_pipeline.proofs.RunFacts.{runs, whole}
+use Rattle.ssb_pipeline.proofs.RunFacts.{opening-lawful, ran-follows, runs, whole}
 
 pub is-lawful : EveryRunIsLawful
-is-lawful es j m s k o p begins lawful r = runs es o p lawful r
-
--- ---- events change neither the job nor the section
-
-record IsSame (p q : PartState) : Type 0 where
-  job : q.job ≡ p.job
-  size : q.size ≡ p.size
-  section : q.section ≡ p.section
-  sections : q.sections ≡ p.sections
-
-itself : (p q : PartState) → q ≡ p → IsSame p q
-itself p q e = record { job = ap (λ (x : PartState). x.job) e; size = ap (λ (x : PartState). x.size) e; section = ap (λ (x : PartState). x.section) e; sections = ap (λ (x : PartState). x.sections) e }
-
-one : (e : Event) (p q : PartState) → Happens e p q → IsSame p q
-one (hand i) p q h = let e = h.after in record { job = ap (λ (x : PartState). x.job) e; size = ap (λ (x : PartState). x.size) e; section = ap (λ (x : PartState). x.section) e; sections = ap (λ (x : PartState). x.sections) e }
-one (back i) p q h = let e = h.after in record { job = ap (λ (x : PartState). x.job) e; size = ap (λ (x : PartState). x.size) e; section = ap (λ (x : PartState). x.section) e; sections = ap (λ (x : PartState). x.sections) e }
-one give_up p q e = record { job = ap (λ (x : PartState). x.job) e; size = ap (λ (x : PartState). x.size) e; section = ap (λ (x : PartState). x.section) e; sections = ap (λ (x : PartState). x.sections) e }
-
-same : (es : List Event) (p q : PartState) → Runs es p q → IsSame p q
-same [] p q r = itself p q r
-same (e ∷ es) p q r =
-    let first = one e p r.0 r.1 in
-    let rest = same es r.0 q r.2 in
-    record { job = rest.job ∙ first.job; size = rest.size ∙ first.size; section = rest.section ∙ first.section; sections = rest.sections ∙ first.sections }
+is-lawful j m s k o p begins r = runs o p (opening-lawful j m s k o begins) r
 
 pub stands : EveryRunStands
-stands es j m s k o p begins lawful r all =
-    let x = same es o p r in
-    rw (x.job ∙ begins.job, x.size ∙ begins.size, x.section ∙ begins.section, x.sections ∙ begins.sections) at (whole p (runs es o p lawful r) all)
+stands j m s k o p begins r all =
+    let f = ran-follows o p r in
+    rw (f.job ∙ begins.job, f.size ∙ begins.size, f.section ∙ begins.section, f.sections ∙ begins.sections) at (whole p (is-lawful j m s k o p begins r) all)
 
 -- ---- one section
 

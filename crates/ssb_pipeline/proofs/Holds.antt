@@ -8,10 +8,11 @@ use Rattle.ssb_pipeline.specs.Pass.{HoldsNone, PassState, known, knowing}
 use Rattle.ssb_pipeline.specs.Rule.{Knows, fresh, knows, putter, taker}
 use Rattle.ssb_pipeline.specs.State.{TicketState}
 use Rattle.ssb_pipeline.specs.Work.{GetsTicket, OnlyIn}
-use Rattle.ssb_pipeline.proofs.Later.{follows_after, follows_self, hand-follows}
+use Rattle.ssb_pipeline.proofs.Later.{follows_after}
 use Rattle.ssb_pipeline.proofs.Passes.{all_knowing}
 use Rattle.ssb_pipeline.proofs.RangeFacts.{range-has}
 use Rattle.ssb_pipeline.proofs.Rounds.{only_again}
+use Rattle.ssb_pipeline.proofs.RunFacts.{out-ran, ran-follows}
 use Rattle.ssb_pipeline.proofs.SetFacts.{has-left, has-right}
 use Rattle.ssb_pipeline.proofs.WorkFacts.{is-out}
 
@@ -59,27 +60,27 @@ one-new xs i [] h new = rw new refl
 one-new xs i (y ∷ ys) h new =
     rw (h y (has-left (y ∷ []) ys y (range-has y 1 y (omega arith) (omega arith)))) (one-new xs i ys (λ k there. h k (has-right (y ∷ []) ys k there)) new)
 
-pub out-follows : (r : Option TicketState) (x q : PartState) → HandsOut x r q → Follows q x
-out-follows None x q h = subst (λ y. Follows y x) (sym h.0) (follows_self x)
-out-follows (Some t) x q h = hand-follows t.morsel x q h.0
-
 -- what getting a ticket leaves
 pub gets : (r : Option TicketState) (v w : Knows) (x q : PartState) → w ≡ knows false q (v.mine ++ handed_between x q) → Follows x v.seen → HandsOut x r q → GetsTicket r v w
 gets r v w x q e f h = subst (GetsTicket r v) (sym e) (by r h)
   where
     by : (r : Option TicketState) → HandsOut x r q → GetsTicket r v (knows false q (v.mine ++ handed_between x q))
     by None h =
-        let follows = follows_after q x v.seen (out-follows None x q h) f in
-        let mine = ap (λ l. v.mine ++ l) (same-none x q (ap (λ (y : PartState). y.handed) h.0)) ∙ append-nil v.mine in (
-          mine,
-          follows,
-          elim h.1 [
-            | inl gave ↦ inl (ap (λ (y : PartState). y.gave_up) h.0 ∙ gave)
-            | inr all ↦ inr (λ i there. ap (λ (y : PartState). has y.handed i) h.0 ∙ all i (subst (λ (y : PartState). has (ours y) i ≡ true) h.0 there))
-          ],
-        )
+        record {
+          mine = ap (λ l. v.mine ++ l) (same-none x q (ap (λ (y : PartState). y.handed) h.same)) ∙ append-nil v.mine;
+          follows = follows_after q x v.seen (ran-follows x q (out-ran None x q h)) f;
+          ended = elim h.ended [
+            | inl gave ↦ inl (ap (λ (y : PartState). y.gave_up) h.same ∙ gave)
+            | inr all ↦ inr (λ i there. ap (λ (y : PartState). has y.handed i) h.same ∙ all i (subst (λ (y : PartState). has (ours y) i ≡ true) h.same there))
+          ];
+        }
     by (Some t) h =
-        let e = h.0.after in
-        let follows = follows_after q x v.seen (out-follows (Some t) x q h) f in
-        let new : handed_between x q ≡ t.morsel ∷ [] = ap (λ (y : PartState). filter (λ i. not (has x.handed i)) y.handed) e ∙ one-new x.handed t.morsel x.handed (λ k there. there) h.0.fresh in
-        (ap (λ l. v.mine ++ l) new, follows, is-out t.morsel x q h.0, h.1 ∙ sym (ap (λ (y : PartState). y.job) e), h.2 ∙ sym (ap (λ (y : PartState). y.size) e))
+        let e = h.hands.after in
+        let new : handed_between x q ≡ t.morsel ∷ [] = ap (λ (y : PartState). filter (λ i. not (has x.handed i)) y.handed) e ∙ one-new x.handed t.morsel x.handed (λ k there. there) h.hands.fresh in
+        record {
+          mine = ap (λ l. v.mine ++ l) new;
+          follows = follows_after q x v.seen (ran-follows x q (out-ran (Some t) x q h)) f;
+          handed = is-out t.morsel x q h.hands;
+          job = h.job ∙ sym (ap (λ (y : PartState). y.job) e);
+          size = h.size ∙ sym (ap (λ (y : PartState). y.size) e);
+        }

@@ -2,7 +2,7 @@
 use Rattle.std.proofs.Common.{◌≡◌, ◌∙◌, ◌++◌, ◌∷◌, [], ℕ, Bool, true, List, nat_eq, refl, sym, subst, arith}
 use Rattle.std.proofs.lemmas.List.Sorted.{list_any-IsPermutation}
 use Rattle.ssb_groups.specs.Stands.{GroupMap}
-use Rattle.ssb_pipeline.specs.Part.{Follows, GivesUp, Grows, Hands, IsLawfulPart, PartState, Returns, has, ours}
+use Rattle.ssb_pipeline.specs.Part.{Follows, GivesUp, Grows, Hands, HandsAll, PartState, Returns, has, ours}
 use Rattle.ssb_pipeline.proofs.RangeFacts.{range-has}
 use Rattle.ssb_pipeline.proofs.SetFacts.{has-left, has-right}
 
@@ -44,8 +44,8 @@ pub give-up-follows : (x q : PartState) → GivesUp x q → Follows q x
 give-up-follows x q e = changed x q x.handed x.returned true x.groups e (λ k there. there) (λ k there. there) (λ g. refl)
 
 -- all of the section is handed out at once
-pub all-follows : (x q : PartState) → IsLawfulPart x → q ≡ record x { handed = ours x } → Follows q x
-all-follows x q l e = changed x q (ours x) x.returned x.gave_up x.groups e l.within (λ k there. there) (λ g. g)
+pub sweep-follows : (x q : PartState) → HandsAll x q → Follows q x
+sweep-follows x q h = changed x q (ours x) x.returned x.gave_up x.groups h.after h.kept (λ k there. there) (λ g. g)
 
 -- ---- where no ticket is given up meanwhile
 

@@ -4,9 +4,9 @@ use mathlib.Core.Option.{some, some-injective, some-ne-none}
 use lib.ListN.{get_elem?}
 use Rattle.crossbeam_queue.specs.Fifo.{Pushes, Pops, Forks, Learns}
 use Rattle.crossbeam_queue.proofs.Lists.{at_set, at_snoc, at_longer, set_here, set_again}
-use Rattle.ssb_pipeline.specs.Part.{Follows, IsLawfulPart, PartState}
-use Rattle.ssb_pipeline.specs.Rule.{Knows, knows, fresh, newcomer, putter, taker, AllPasses, Ruled}
-use Rattle.ssb_pipeline.proofs.Later.{follows_after, follows_self}
+use Rattle.ssb_pipeline.specs.Part.{IsLawfulPart, IsOpening, IsReached, PartState, Ran}
+use Rattle.ssb_pipeline.specs.Rule.{AllPasses, IsBeside, IsWaiting, Knows, Ruled, fresh, knows, newcomer, putter, taker}
+use Rattle.ssb_pipeline.proofs.RunFacts.{opening-lawful, ran_after, ran_self, reached-more, reached-opening, runs}
 
 not_true : (b : Bool) → (b ≡ true → ⊥) → b ≡ false
 not_true true n = absurd (n refl)
@@ -49,14 +49,19 @@ all_more F views r all new j u e = ⊎_elim (λ x. all j u x) (λ (is : r ≡ u)
 pub begins : Ruled [] (fresh ∷ [])
 begins = inl (refl, refl)
 
+-- a part as it was opened, by its own job and section
+abbrev pub IsOpened : PartState → Type 0
+IsOpened x = IsOpening x.job x.size x.section x.sections x
+
 -- the opening part is put by the first pass
-opens-free : (pass : ℕ) (x : PartState) (views : List Knows) → views ≡ fresh ∷ [] → get_elem? views pass ≡ some fresh → IsLawfulPart x → Ruled (x ∷ []) (set views pass (knows false x []))
-opens-free pass x views is at law =
+opens-free : (pass : ℕ) (x : PartState) (views : List Knows) → views ≡ fresh ∷ [] → get_elem? views pass ≡ some fresh → IsOpened x → Ruled (x ∷ []) (set views pass (knows false x []))
+opens-free pass x views is at opened =
     inr (inl (record {
       part = x;
       only = refl;
-      lawful = law;
-      passes = all_set (λ _ u. (u.holds ≡ false) × Follows x u.seen) views pass (knows false x []) (refl, follows_self x) (λ j u other e. absurd (other (only-one j u e)));
+      lawful = opening-lawful x.job x.size x.section x.sections x opened;
+      reached = reached-opening x opened;
+      passes = all_set (λ _ u. IsWaiting x u) views pass (knows false x []) (record { none = refl; ran = ran_self x }) (λ j u other e. absurd (other (only-one j u e)));
     }))
   where
     first : (l : List Knows) (i : ℕ) (u : Knows) → l ≡ fresh ∷ [] → get_elem? l i ≡ some u → i ≡ 0
@@ -69,54 +74,56 @@ opens-free pass x views is at law =
     only-one : (j : ℕ) (u : Knows) → get_elem? views j ≡ some u → j ≡ pass
     only-one j u e = first views j u is e ∙ sym (first views pass fresh is at)
 
-opens-at : (pass : ℕ) (x : PartState) (items : List PartState) (views : List Knows) → IsLawfulPart x → get_elem? views pass ≡ some fresh → Ruled items views → Ruled (items ++ x ∷ []) (set views pass (knows false x []))
-opens-at pass x items views law at (inl n) = subst (λ l. Ruled (l ++ x ∷ []) (set views pass (knows false x []))) (sym n.0) (opens-free pass x views n.1 at law)
-opens-at pass x items views law at (inr (inl f)) = absurd (true≢false (f.passes pass fresh at).0)
-opens-at pass x items views law at (inr (inr o)) =
-    let is : fresh ≡ o.known = same_at views pass o.holder fresh o.known ((o.passes pass fresh at).0 refl) at o.there in
+opens-at : (pass : ℕ) (x : PartState) (items : List PartState) (views : List Knows) → IsOpened x → get_elem? views pass ≡ some fresh → Ruled items views → Ruled (items ++ x ∷ []) (set views pass (knows false x []))
+opens-at pass x items views opened at (inl n) = subst (λ l. Ruled (l ++ x ∷ []) (set views pass (knows false x []))) (sym n.0) (opens-free pass x views n.1 at opened)
+opens-at pass x items views opened at (inr (inl f)) = absurd (true≢false (f.passes pass fresh at).none)
+opens-at pass x items views opened at (inr (inr o)) =
+    let is : fresh ≡ o.known = same_at views pass o.holder fresh o.known ((o.passes pass fresh at).only refl) at o.there in
     absurd (true≢false (sym (ap (λ (k : Knows). k.opened) is ∙ o.opened)))
 
-pub opens : (n pass : ℕ) (v : Knows) (x : PartState) → v ≡ fresh → IsLawfulPart x → Pushes Ruled n pass v x (λ w. w ≡ knows false x [])
-opens n pass v x is law items views room rule at = (knows false x [], opens-at pass x items views law (at ∙ ap some is) rule, refl)
+pub opens : (n pass : ℕ) (v : Knows) (x : PartState) → v ≡ fresh → IsOpened x → Pushes Ruled n pass v x (λ w. w ≡ knows false x [])
+opens n pass v x is opened items views room rule at = (knows false x [], opens-at pass x items views opened (at ∙ ap some is) rule, refl)
 
 empty-at : (pass : ℕ) (items : List PartState) (views : List Knows) → get_elem? views pass ≡ some fresh → Ruled items views → items ≡ []
 empty-at pass items views at (inl n) = n.0
-empty-at pass items views at (inr (inl f)) = absurd (true≢false (f.passes pass fresh at).0)
+empty-at pass items views at (inr (inl f)) = absurd (true≢false (f.passes pass fresh at).none)
 empty-at pass items views at (inr (inr o)) = o.empty
 
 pub new-empty : (pass : ℕ) (v : Knows) → v ≡ fresh → Learns Ruled pass v (λ items. items ≡ [])
 new-empty pass v is items views rule at = empty-at pass items views (at ∙ ap some is) rule
 
-put_keeps : (pass : ℕ) (v : Knows) (x : PartState) (items : List PartState) (views : List Knows) → v.holds ≡ true → v.opened ≡ true → IsLawfulPart x → Follows x v.seen → get_elem? views pass ≡ some v → Ruled items views
+put_keeps : (pass : ℕ) (v : Knows) (x : PartState) (items : List PartState) (views : List Knows) → v.holds ≡ true → v.opened ≡ true → Ran v.seen x → get_elem? views pass ≡ some v → Ruled items views
     → Ruled (items ++ x ∷ []) (set views pass (putter v x))
-put_keeps pass v x items views holds opened law follows at (inl n) = absurd (true≢false (sym opened ∙ alone views pass v n.1 at))
-put_keeps pass v x items views holds opened law follows at (inr (inl f)) = absurd (true≢false (sym holds ∙ (f.passes pass v at).0))
-put_keeps pass v x items views holds opened law follows at (inr (inr o)) =
-    let here : pass ≡ o.holder = (o.passes pass v at).0 holds in
+put_keeps pass v x items views holds opened ran at (inl n) = absurd (true≢false (sym opened ∙ alone views pass v n.1 at))
+put_keeps pass v x items views holds opened ran at (inr (inl f)) = absurd (true≢false (sym holds ∙ (f.passes pass v at).none))
+put_keeps pass v x items views holds opened ran at (inr (inr o)) =
+    let here : pass ≡ o.holder = (o.passes pass v at).only holds in
     let is : v ≡ o.known = same_at views pass o.holder v o.known here at o.there in
-    let after : Follows x o.known.seen = subst (λ (k : Knows). Follows x k.seen) is follows in
+    let after : Ran o.known.seen x = subst (λ (k : Knows). Ran k.seen x) is ran in
     inr (inl (record {
       part = x;
       only = ap (λ l. l ++ x ∷ []) o.empty;
-      lawful = law;
-      passes = all_set (λ _ u. (u.holds ≡ false) × Follows x u.seen) views pass (putter v x) (refl, follows_self x)
-          (λ j u other e. (not_true u.holds (λ h. other ((o.passes j u e).0 h ∙ sym here)), follows_after x o.known.seen u.seen after (o.passes j u e).1));
+      lawful = runs o.known.seen x o.lawful after;
+      reached = reached-more o.known.seen x o.reached after;
+      passes = all_set (λ _ u. IsWaiting x u) views pass (putter v x) (record { none = refl; ran = ran_self x })
+          (λ j u other e. record { none = not_true u.holds (λ h. other ((o.passes j u e).only h ∙ sym here)); ran = ran_after u.seen o.known.seen x (o.passes j u e).ran after });
     }))
 
-pub puts : (n pass : ℕ) (v : Knows) (x : PartState) → v.holds ≡ true → v.opened ≡ true → IsLawfulPart x → Follows x v.seen → Pushes Ruled n pass v x (λ w. w ≡ putter v x)
-puts n pass v x holds opened law follows items views room rule at = (putter v x, put_keeps pass v x items views holds opened law follows at rule, refl)
+pub puts : (n pass : ℕ) (v : Knows) (x : PartState) → v.holds ≡ true → v.opened ≡ true → Ran v.seen x → Pushes Ruled n pass v x (λ w. w ≡ putter v x)
+puts n pass v x holds opened ran items views room rule at = (putter v x, put_keeps pass v x items views holds opened ran at rule, refl)
 
 pub full : (pass : ℕ) (v : Knows) → v.holds ≡ true → Learns Ruled pass v (λ items. items ≡ [])
 full pass v holds items views (inl n) at = n.0
-full pass v holds items views (inr (inl f)) at = absurd (true≢false (sym holds ∙ (f.passes pass v at).0))
+full pass v holds items views (inr (inl f)) at = absurd (true≢false (sym holds ∙ (f.passes pass v at).none))
 full pass v holds items views (inr (inr o)) at = o.empty
 
-pub takes : (pass : ℕ) (v : Knows) → Pops Ruled pass v (λ x w. (w ≡ taker v x) × IsLawfulPart x × Follows x v.seen)
+pub takes : (pass : ℕ) (v : Knows) → Pops Ruled pass v (λ x w. (w ≡ taker v x) × IsLawfulPart x × IsReached x × Ran v.seen x)
 takes pass v x items views (inl n) at = absurd (no_item x items n.0)
 takes pass v x items views (inr (inl f)) at =
     let is = first_is x f.part items f.only in
     let law : IsLawfulPart x = subst IsLawfulPart (sym is.0) f.lawful in
-    let after : (j : ℕ) (u : Knows) → get_elem? views j ≡ some u → Follows x u.seen = λ j u e. subst (λ y. Follows y u.seen) (sym is.0) (f.passes j u e).1 in (
+    let reached : IsReached x = subst IsReached (sym is.0) f.reached in
+    let after : (j : ℕ) (u : Knows) → get_elem? views j ≡ some u → Ran u.seen x = λ j u e. subst (Ran u.seen) (sym is.0) (f.passes j u e).ran in (
       taker v x,
       inr (inr (record {
         empty = is.1;
@@ -126,10 +133,11 @@ takes pass v x items views (inr (inl f)) at =
         holds = refl;
         opened = refl;
         lawful = law;
-        passes = all_set (λ j u. (u.holds ≡ true → j ≡ pass) × Follows x u.seen) views pass (taker v x) ((λ _. refl), follows_self x)
-            (λ j u other e. ((λ h. absurd (true≢false (sym h ∙ (f.passes j u e).0))), after j u e));
+        reached = reached;
+        passes = all_set (IsBeside pass x) views pass (taker v x) (record { only = λ _. refl; ran = ran_self x })
+            (λ j u other e. record { only = λ h. absurd (true≢false (sym h ∙ (f.passes j u e).none)); ran = after j u e });
       })),
-      (refl, law, after pass v at),
+      (refl, law, reached, after pass v at),
     )
 takes pass v x items views (inr (inr o)) at = absurd (no_item x items o.empty)
 
@@ -141,7 +149,8 @@ more_keeps pass v items views opened at (inr (inl f)) =
       part = f.part;
       only = f.only;
       lawful = f.lawful;
-      passes = all_more (λ _ u. (u.holds ≡ false) × Follows f.part u.seen) views (newcomer v) f.passes (λ j. (refl, (f.passes pass v at).1));
+      reached = f.reached;
+      passes = all_more (λ _ u. IsWaiting f.part u) views (newcomer v) f.passes (λ j. record { none = refl; ran = (f.passes pass v at).ran });
     }))
 more_keeps pass v items views opened at (inr (inr o)) =
     inr (inr (record {
@@ -152,7 +161,8 @@ more_keeps pass v items views opened at (inr (inr o)) =
       holds = o.holds;
       opened = o.opened;
       lawful = o.lawful;
-      passes = all_more (λ j u. (u.holds ≡ true → j ≡ o.holder) × Follows o.known.seen u.seen) views (newcomer v) o.passes (λ j. ((λ h. absurd (true≢false (sym h))), (o.passes pass v at).1));
+      reached = o.reached;
+      passes = all_more (IsBeside o.holder o.known.seen) views (newcomer v) o.passes (λ j. record { only = λ h. absurd (true≢false (sym h)); ran = (o.passes pass v at).ran });
     }))
 
 pub forks : (pass : ℕ) (v : Knows) → v.opened ≡ true → v.holds ≡ false → Forks Ruled pass v v (newcomer v)

@@ -11,7 +11,7 @@ use Rattle.crossbeam_queue.specs.Passes.{Pass, view}
 use Rattle.ssb_job.specs.Kept.{JobShape}
 use Rattle.ssb_pipeline.specs.Part.{Follows, IsOpening, PartState}
 use Rattle.ssb_pipeline.specs.Rule.{Knows, knows, fresh, newcomer}
-use Rattle.ssb_pipeline.specs.Pass.{PassState, PartsState, IsPassOfParts, IsViewOf, AllSections, HoldsNone, KnowsNothing, newcomers, known, knowing, pass_name, pass_view, IsAtRest}
+use Rattle.ssb_pipeline.specs.Pass.{AllSections, HoldsNone, IsAtRest, IsPartOf, IsPassOfParts, IsUnused, IsViewOf, KnowsNothing, PartsState, PassState, known, knowing, newcomers, pass_name, pass_view}
 
 -- where two lists have one image, so have their elements
 pub image_at : {A B N : Type 0} (f : A → N) (h : B → N) (xs : List A) (ys : List B) (i : ℕ) (x : A) (y : B) → map f xs ≡ map h ys → i < length xs → i < length ys → x ≡ get_or xs i x → y ≡ get_or ys i y → f x ≡ h y
@@ -60,6 +60,10 @@ all_knowing F p i w all new in_views s in_s = at_knowing F p i w s (λ _. all s 
 pub all_but_one : (F : ℕ → Knows → Type 0) (p : PassState) (i : ℕ) (w : Knows) → ((s : ℕ) → s < length p.views → s ≢ i → F s (known p s)) → F i w → i < length p.views → AllSections F (knowing p i w)
 all_but_one F p i w all new in_views s in_s = at_knowing F p i w s (λ n. all s (subst (λ k. s < k) (length-set p.views i w) in_s) n) new in_views (cases_eq s i)
 
+-- a later state of a part is one of the same section
+pub later-part : (parts : PartsState) (s : ℕ) (x y : PartState) → IsPartOf parts s x → Follows y x → IsPartOf parts s y
+later-part parts s x y is after = record { job = after.job ∙ is.job; size = after.size ∙ is.size; section = after.section ∙ is.section; sections = after.sections ∙ is.sections }
+
 -- a pass that knows more of one section
 pub still_pass : (parts : PartsState) (p : PassState) (i : ℕ) (w : Knows) → IsPassOfParts parts p → i < length parts.queues → w.opened ≡ true → Follows w.seen (known p i).seen → IsPassOfParts parts (knowing p i w)
 still_pass parts p i w is in_parts opened after =
@@ -67,7 +71,7 @@ still_pass parts p i w is in_parts opened after =
     let v = is.each i in_views in record {
       queues = is.queues;
       count = length-set p.views i w ∙ is.count;
-      each = all_knowing (IsViewOf parts) p i w is.each (record { opened = opened; job = after.job ∙ v.job; size = after.size ∙ v.size; section = after.section ∙ v.section; sections = after.sections ∙ v.sections }) in_views;
+      each = all_knowing (IsViewOf parts) p i w is.each (record { opened = opened; part = later-part parts i (known p i).seen w.seen v.part after }) in_views;
     }
 
 -- what the first pass knows of a section that was opened just now
@@ -83,10 +87,10 @@ begins_pass parts p k queues count count' each =
       record {
         queues = queues;
         count = count' ∙ sym count;
-        each = λ s h. record { opened = (at s h).opened; job = (at s h).opening.job; size = (at s h).opening.size; section = (at s h).opening.section; sections = (at s h).opening.sections ∙ sym count };
+        each = λ s h. record { opened = (at s h).opened; part = let o = (at s h).opening in record { job = o.job; size = o.size; section = o.section; sections = o.sections ∙ sym count } };
       },
       (λ s h. (at s h).free),
-      (λ s h. ((at s h).mine, (at s h).opening.handed, (at s h).opening.gave_up)),
+      (λ s h. let o = (at s h).opening in record { mine = (at s h).mine; handed = o.handed; returned = o.returned; gave_up = o.gave_up }),
     )
 
 -- of a newcomer all that is asked of a pass holds
@@ -98,10 +102,10 @@ new_pass parts p h =
       record {
         queues = h.0.queues;
         count = len ∙ h.0.count;
-        each = all (IsViewOf parts) (λ s i. let v = h.0.each s i in record { opened = refl; job = v.job; size = v.size; section = v.section; sections = v.sections });
+        each = all (IsViewOf parts) (λ s i. record { opened = refl; part = (h.0.each s i).part });
       },
       all (λ _ v. v.holds ≡ false) (λ s i. refl),
-      all (λ _ v. (v.mine ≡ []) × (v.seen.handed ≡ []) × (v.seen.gave_up ≡ false)) (λ s i. (refl, (h.2 s i).1, (h.2 s i).2)),
+      all (λ _ v. IsUnused v) (λ s i. let u = h.2 s i in record { mine = refl; handed = u.handed; returned = u.returned; gave_up = u.gave_up }),
     )
 
 -- the pass of one section was replaced by one that knows as much

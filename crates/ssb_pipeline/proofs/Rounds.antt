@@ -67,11 +67,11 @@ ended_step D q r s in_views all only new =
 pub round-of : (t : TicketState) (v m w : Knows) → GetsTicket (Some t) v m → Brings t.morsel m w → IsRound v w
 round-of t v m w g b = record {
   more = t.morsel ∷ [];
-  mine = b.mine ∙ g.0;
-  follows = follows_after w.seen m.seen v.seen b.follows g.1;
+  mine = b.mine ∙ g.mine;
+  follows = follows_after w.seen m.seen v.seen b.follows g.follows;
   back = elim b.back [ inl gave ↦ inl gave | inr here ↦ inr (All-push (λ i. has w.seen.returned i ≡ true) [] t.morsel (All-nil (λ i. has w.seen.returned i ≡ true)) here) ];
 }
 
 -- no ticket came
 pub round-none : (v w : Knows) → GetsTicket None v w → IsRound v w
-round-none v w g = record { more = []; mine = g.0 ∙ sym (append-nil v.mine); follows = g.1; back = inr (All-nil (λ i. has w.seen.returned i ≡ true)) }
+round-none v w g = record { more = []; mine = g.mine ∙ sym (append-nil v.mine); follows = g.follows; back = inr (All-nil (λ i. has w.seen.returned i ≡ true)) }

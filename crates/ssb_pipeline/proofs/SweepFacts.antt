@@ -2,12 +2,14 @@
 use Rattle.std.proofs.Common.{◌≡◌, ◌∙◌, ◌≤◌, ◌<◌, ◌+◌, ◌-◌, ℕ, true, inl, inr, refl, sym, ap, subst, arith}
 use Rattle.std.specs.List.{range_with_len}
 use Rattle.std.proofs.lemmas.Bool.{cases_lt}
-use Rattle.ssb_pipeline.specs.Part.{Grows, IsLawfulPart, PartState, Returns, has, ours}
-use Rattle.ssb_pipeline.proofs.Later.{all-follows, back-follows, grows-more, is-back}
+use Rattle.ssb_pipeline.specs.Part.{Grows, IsLawfulPart, PartState, Ran, Returns, back, has, ours}
+use Rattle.ssb_pipeline.proofs.Later.{back-follows, grows-more, is-back}
 use Rattle.ssb_pipeline.proofs.RangeFacts.{range-has, within-range}
+use Rattle.ssb_pipeline.proofs.RunFacts.{ran-follows, ran_after, ran_one, sweep-ran}
 
 -- all is handed out, and what stands before this number came back
 pub record IsSwept (old now : PartState) (first end morsel : ℕ) : Type 0 where
+  pub ran : Ran old now
   pub grows : Grows old now
   pub ours : ours now ≡ range_with_len first (end - first)
   pub handed : now.handed ≡ range_with_len first (end - first)
@@ -17,7 +19,8 @@ pub record IsSwept (old now : PartState) (first end morsel : ℕ) : Type 0 where
 -- all of the section is handed out at once
 pub begins : (p q : PartState) (first end : ℕ) → IsLawfulPart p → q ≡ record p { handed = ours p } → IsLawfulPart q → ours q ≡ range_with_len first (end - first) → IsSwept p q first end first
 begins p q first end l e m is = record {
-  grows = record { follows = all-follows p q l e; gave_up = ap (λ (x : PartState). x.gave_up) e };
+  ran = sweep-ran p q l e;
+  grows = record { follows = ran-follows p q (sweep-ran p q l e); gave_up = ap (λ (x : PartState). x.gave_up) e };
   ours = is;
   handed = subst (λ (x : PartState). x.handed ≡ ours x) (sym e) refl ∙ is;
   done = λ i h k. absurd (omega (arith, h, k));
@@ -26,7 +29,7 @@ begins p q first end l e m is = record {
 
 -- a morsel that came back already
 pub passes : (old now : PartState) (first end morsel : ℕ) → IsSwept old now first end morsel → has now.returned morsel ≡ true → IsSwept old now first end (morsel + 1)
-passes old now first end morsel s h = record { grows = s.grows; ours = s.ours; handed = s.handed; lawful = s.lawful; done = λ i from to. elim (cases_lt i morsel) [ inl l ↦ s.done i from l | inr g ↦ let same : morsel ≡ i = omega (arith, to, g) in subst (λ n. has now.returned n ≡ true) same h ] }
+passes old now first end morsel s h = record { ran = s.ran; grows = s.grows; ours = s.ours; handed = s.handed; lawful = s.lawful; done = λ i from to. elim (cases_lt i morsel) [ inl l ↦ s.done i from l | inr g ↦ let same : morsel ≡ i = omega (arith, to, g) in subst (λ n. has now.returned n ≡ true) same h ] }
 
 -- a morsel that is done now
 pub goes-on : (old now next : PartState) (first end morsel : ℕ) → IsSwept old now first end morsel → Returns morsel now next → IsLawfulPart next → IsSwept old next first end (morsel + 1)
@@ -34,6 +37,7 @@ goes-on old now next first end morsel s r l =
     let e = r.after in
     let later = back-follows morsel now next r in
     record {
+      ran = ran_after old now next s.ran (ran_one (back morsel) now next r);
       grows = grows-more old now next s.grows later (ap (λ (x : PartState). x.gave_up) e);
       ours = ap ours e ∙ s.ours;
       handed = ap (λ (x : PartState). x.handed) e ∙ s.handed;

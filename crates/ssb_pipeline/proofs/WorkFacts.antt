@@ -1,19 +1,21 @@
 -- A part that is worked off: what it hands out comes back before the next.
 use Rattle.std.proofs.Common.{◌≡◌, ◌∙◌, ◌∷◌, [], ◌<◌, ◌-◌, ℕ, true, false, true≢false, None, inl, inr, length, sym, ap, subst, arith, length-append}
 use Rattle.std.proofs.lemmas.Bool.{false_from_ne_true}
-use Rattle.ssb_pipeline.specs.Part.{Grows, Hands, HandsOut, IsBack, IsLawfulPart, IsWhole, PartState, Returns, has, ours}
+use Rattle.ssb_pipeline.specs.Part.{Grows, Hands, HandsOut, IsBack, IsLawfulPart, IsWhole, PartState, Ran, Returns, back, hand, has, ours}
 use Rattle.ssb_pipeline.proofs.Later.{back-follows, follows_after, grows-more, grows_self, hand-follows, is-back}
 use Rattle.ssb_pipeline.proofs.RangeFacts.{range-has}
+use Rattle.ssb_pipeline.proofs.RunFacts.{ran_after, ran_one, ran_self}
 use Rattle.ssb_pipeline.proofs.SetFacts.{has-last, has-right, no-longer}
 
 -- nothing is lost, and nothing is out that was not out before
 pub record IsWorked (old now : PartState) : Type 0 where
+  pub ran : Ran old now
   pub grows : Grows old now
   pub back : IsBack old → IsBack now
   pub lawful : IsLawfulPart now
 
 pub nothing-yet : (p : PartState) → IsLawfulPart p → IsWorked p p
-nothing-yet p l = record { grows = grows_self p; back = λ b. b; lawful = l }
+nothing-yet p l = record { ran = ran_self p; grows = grows_self p; back = λ b. b; lawful = l }
 
 -- what is handed out is handed out then, and did not come back
 pub is-out : (i : ℕ) (p q : PartState) → Hands i p q → has q.handed i ≡ true
@@ -39,6 +41,7 @@ one-more i old now mid next w h b l =
     let f = b.after in
     let later = follows_after next mid now (back-follows i mid next b) (hand-follows i now mid h) in
     record {
+      ran = ran_after old now next w.ran (ran_after now mid next (ran_one (hand i) now mid h) (ran_one (back i) mid next b));
       grows = grows-more old now next w.grows later (ap (λ (x : PartState). x.gave_up) f ∙ ap (λ (x : PartState). x.gave_up) e);
       back = λ all k there. elim (has-last now.handed i k (sym (ap (λ (x : PartState). has x.handed k) e) ∙ sym (ap (λ (x : PartState). has x.handed k) f) ∙ there)) [
         | inl before ↦ later.returned k (w.back all k before)
@@ -51,8 +54,8 @@ one-more i old now mid next w h b l =
 pub all-back : (old now end : PartState) → IsWorked old now → HandsOut now None end → IsBack old → old.gave_up ≡ false → IsWhole end
 all-back old now end w h none going i there =
     let g = w.grows in
-    subst (λ (x : PartState). has x.returned i ≡ true) (sym h.0)
-    (elim h.1 [
+    subst (λ (x : PartState). has x.returned i ≡ true) (sym h.same)
+    (elim h.ended [
       | inl gave ↦ absurd (true≢false (sym gave ∙ g.gave_up ∙ going))
-      | inr all ↦ w.back none i (all i (subst (λ (x : PartState). has (ours x) i ≡ true) h.0 there))
+      | inr all ↦ w.back none i (all i (subst (λ (x : PartState). has (ours x) i ≡ true) h.same there))
     ])

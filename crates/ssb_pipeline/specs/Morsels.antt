@@ -29,7 +29,7 @@ pub record IsOneOf (count : ℕ) (P : ℕ → Type 0) : Type 0 where
 abbrev pub row_cut : ℕ → ℕ → ℕ → ℕ
 row_cut rows size i = min rows (i * size)
 
--- how many morsels there are: the least count whose morsels have room for all rows
+-- how many morsels there are: the fewest that have room for all rows, as `MorselsAreFewest` says
 abbrev pub morsel_count : ℕ → ℕ → ℕ
 morsel_count rows size = rows / size + min 1 (rows % size)
 
@@ -54,6 +54,14 @@ RowsLieInOneMorsel rows size = 0 < size → (r : ℕ) → r < rows → IsOneOf (
 
 abbrev pub MorselsAreTheRows : ℕ → ℕ → Type 0
 MorselsAreTheRows rows size = 0 < size → pieces (row_cut rows size) (morsel_count rows size) ≡ range_with_len 0 rows
+
+-- a count of pieces of this size has room for all rows, and no smaller count has
+pub record IsFewest (rows size count : ℕ) : Type 0 where
+  pub enough : rows ≤ count * size
+  pub least : (c : ℕ) → rows ≤ c * size → count ≤ c
+
+abbrev pub MorselsAreFewest : ℕ → ℕ → Type 0
+MorselsAreFewest rows size = 0 < size → IsFewest rows size (morsel_count rows size)
 
 abbrev pub MorselsLieInOneSection : ℕ → ℕ → Type 0
 MorselsLieInOneSection morsels sections = 0 < sections → (i : ℕ) → i < morsels → IsOneOf sections (LiesIn (morsel_cut morsels sections) i)

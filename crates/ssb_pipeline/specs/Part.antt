@@ -50,7 +50,11 @@ IsBack p = (i : ℕ) → has p.handed i ≡ true → has p.returned i ≡ true
 abbrev pub IsWhole : PartState → Type 0
 IsWhole p = (i : ℕ) → has (ours p) i ≡ true → has p.returned i ≡ true
 
--- nothing was handed out, and nothing came back
+-- all of its section was handed out
+abbrev pub IsAllHanded : PartState → Type 0
+IsAllHanded p = (i : ℕ) → has (ours p) i ≡ true → has p.handed i ≡ true
+
+-- nothing was handed out, nothing came back, no ticket was given up, and the groups stand for no row
 pub record IsOpening (j : JobShape) (m s k : ℕ) (p : PartState) : Type 0 where
   pub job : AreOneJob p.job j
   pub size : p.size ≡ m
@@ -59,6 +63,8 @@ pub record IsOpening (j : JobShape) (m s k : ℕ) (p : PartState) : Type 0 where
   pub handed : p.handed ≡ []
   pub returned : p.returned ≡ []
   pub gave_up : p.gave_up ≡ false
+  pub one_job : AreOneJob p.groups.job p.job
+  pub stands : Stands p.groups []
 
 -- ---- events
 
@@ -69,6 +75,11 @@ pub record Hands (i : ℕ) (p q : PartState) : Type 0 where
   pub fresh : has p.handed i ≡ false
   pub least : (j : ℕ) → has (ours p) j ≡ true → has p.handed j ≡ false → i ≤ j
   pub after : q ≡ record p { handed = p.handed ++ i ∷ [] }
+
+-- a sweep hands out to its caller all of the section that was not, also where a ticket was given up
+pub record HandsAll (p q : PartState) : Type 0 where
+  pub kept : (i : ℕ) → has p.handed i ≡ true → has (ours p) i ≡ true
+  pub after : q ≡ record p { handed = ours p }
 
 -- a number that was handed out and had not come back comes back, with the groups over its morsel
 pub record Returns (i : ℕ) (p q : PartState) : Type 0 where
@@ -105,30 +116,60 @@ handed_between old new = filter (λ i. not (has old.handed i)) new.handed
 -- ---- calls
 
 -- a ticket is for a morsel that the part handed out
-abbrev pub IsHandedOut : PartState → TicketState → Type 0
-IsHandedOut p t = (t.size ≡ p.size) × (has p.handed t.morsel ≡ true)
+pub record IsHandedOut (p : PartState) (t : TicketState) : Type 0 where
+  pub size : t.size ≡ p.size
+  pub handed : has p.handed t.morsel ≡ true
 
--- what handing out answers: a ticket of the next morsel; or none, where all are handed out or a ticket was given up
+-- of such a ticket, whether its morsel came back
+pub record HasComeBack (b : Bool) (p : PartState) (t : TicketState) : Type 0 where
+  pub handed : IsHandedOut p t
+  pub back : has p.returned t.morsel ≡ b
+
+-- a ticket of the next morsel
+pub record HandsNext (t : TicketState) (p q : PartState) : Type 0 where
+  pub hands : Hands t.morsel p q
+  pub job : AreOneJob t.job p.job
+  pub size : t.size ≡ p.size
+
+-- no ticket: all is handed out, or a ticket was given up
+pub record HandsNone (p q : PartState) : Type 0 where
+  pub same : q ≡ p
+  pub ended : (p.gave_up ≡ true) ⊎ IsAllHanded p
+
+-- what handing out answers
 abbrev pub HandsOut : PartState → Option TicketState → PartState → Type 0
-HandsOut p None q = (q ≡ p) × ((p.gave_up ≡ true) ⊎ ((i : ℕ) → has (ours p) i ≡ true → has p.handed i ≡ true))
-HandsOut p (Some t) q = Hands t.morsel p q × AreOneJob t.job p.job × (t.size ≡ p.size)
+HandsOut p None q = HandsNone p q
+HandsOut p (Some t) q = HandsNext t p q
 
--- what giving back answers, exactly where: the partial is refused where the part handed out no such ticket, else where its morsel came back before; else it is taken, or memory is refused. Refused, the part is as before, and the partial comes back.
+-- a partial is taken
+pub record IsTaken (x : PartialState) (p q : PartState) : Type 0 where
+  pub handed : IsHandedOut p x.ticket
+  pub returns : Returns x.ticket.morsel p q
+
+-- a partial is refused, for a reason: the part is as before, and the partial comes back
+pub record IsRefused (Reason : Type 0) (x y : PartialState) (p q : PartState) : Type 0 where
+  pub reason : Reason
+  pub partial : y ≡ x
+  pub same : q ≡ p
+
+-- what giving back answers, exactly where: the partial is refused where the part handed out no such ticket, else where its morsel came back before; else it is taken, or memory is refused
 abbrev pub GivesBack : PartState → PartialState → Result ⊤ ReturnFault → PartState → Type 0
-GivesBack p x (Ok u) q = IsHandedOut p x.ticket × Returns x.ticket.morsel p q
-GivesBack p x (Err (fault.NotHandedOut y)) q = (IsHandedOut p x.ticket → ⊥) × (y ≡ x) × (q ≡ p)
-GivesBack p x (Err (fault.Doubled y)) q = IsHandedOut p x.ticket × (has p.returned x.ticket.morsel ≡ true) × (y ≡ x) × (q ≡ p)
-GivesBack p x (Err (fault.Memory y)) q = IsHandedOut p x.ticket × (has p.returned x.ticket.morsel ≡ false) × (y ≡ x) × (q ≡ p)
+GivesBack p x (Ok u) q = IsTaken x p q
+GivesBack p x (Err (fault.NotHandedOut y)) q = IsRefused (IsHandedOut p x.ticket → ⊥) x y p q
+GivesBack p x (Err (fault.Doubled y)) q = IsRefused (HasComeBack true p x.ticket) x y p q
+GivesBack p x (Err (fault.Memory y)) q = IsRefused (HasComeBack false p x.ticket) x y p q
 
 -- ---- core runs
 
 pub data Event : Type 0 where
   hand : ℕ → Event
+  hand_all : Event
   back : ℕ → Event
   give_up : Event
 
 abbrev pub Happens : Event → PartState → PartState → Type 0
 Happens (hand i) p q = Hands i p q
+Happens hand_all p q = HandsAll p q
 Happens (back i) p q = Returns i p q
 Happens give_up p q = GivesUp p q
 
@@ -137,26 +178,43 @@ abbrev pub Runs : List Event → PartState → PartState → Type 0
 Runs [] p q = q ≡ p
 Runs (e ∷ es) p q = (m : PartState) × Happens e p m × Runs es m q
 
--- a law: a core run keeps a part lawful
-abbrev pub RunsStayLawful : Type 0
-RunsStayLawful = (es : List Event) (p q : PartState) → IsLawfulPart p → Runs es p q → IsLawfulPart q
+-- a core run leads from p to q
+pub record Ran (p q : PartState) : Type 0 where
+  pub events : List Event
+  pub runs : Runs events p q
 
--- a law: where all of its section came back, a lawful part's groups stand for the kept combinations of the whole section
+-- a core run leads to p from an opening part
+pub record IsReached (p : PartState) : Type 0 where
+  pub opening : PartState
+  pub empty : IsOpening p.job p.size p.section p.sections opening
+  pub ran : Ran opening p
+
+-- ---- laws
+
+-- a core run keeps a part lawful
+abbrev pub RunsStayLawful : Type 0
+RunsStayLawful = (p q : PartState) → IsLawfulPart p → Ran p q → IsLawfulPart q
+
+-- it loses nothing
+abbrev pub RunsLoseNothing : Type 0
+RunsLoseNothing = (p q : PartState) → Ran p q → Follows q p
+
+-- where all of its section came back, a lawful part's groups stand for the kept combinations of the whole section
 abbrev pub WholeSectionsStand : Type 0
 WholeSectionsStand = (p : PartState) → IsLawfulPart p → IsWhole p → Stands p.groups (seen_in p.job p.size (ours p))
 
--- a law: a part that comes of an opening one by a core run, any number that is out coming back at any turn, is lawful
+-- a part that comes of an opening one by a core run, any number that is out coming back at any turn, is lawful
 abbrev pub EveryRunIsLawful : Type 0
-EveryRunIsLawful = (es : List Event) (j : JobShape) (m s k : ℕ) (opening p : PartState) → IsOpening j m s k opening → IsLawfulPart opening → Runs es opening p → IsLawfulPart p
+EveryRunIsLawful = (j : JobShape) (m s k : ℕ) (opening p : PartState) → IsOpening j m s k opening → Ran opening p → IsLawfulPart p
 
 -- a part's groups stand for the kept combinations of a whole section
 abbrev pub StandsForSection : JobShape → ℕ → ℕ → ℕ → PartState → Type 0
 StandsForSection j m s k p = Stands p.groups (seen_in j m (section (morsel_count (fact_rows j) m) k s))
 
--- a law: where all of its section came back, its groups stand for the kept combinations of the whole section
+-- where all of its section came back, its groups stand for the kept combinations of the whole section
 abbrev pub EveryRunStands : Type 0
-EveryRunStands = (es : List Event) (j : JobShape) (m s k : ℕ) (opening p : PartState) → IsOpening j m s k opening → IsLawfulPart opening → Runs es opening p → IsWhole p → StandsForSection j m s k p
+EveryRunStands = (j : JobShape) (m s k : ℕ) (opening p : PartState) → IsOpening j m s k opening → Ran opening p → IsWhole p → StandsForSection j m s k p
 
--- a law: where the one section of a lawful part came back, its groups stand for all that WHERE keeps
+-- where the one section of a lawful part came back, its groups stand for all that WHERE keeps
 abbrev pub OneSectionIsAll : Type 0
 OneSectionIsAll = (p : PartState) → IsLawfulPart p → IsWhole p → p.section ≡ 0 → p.sections ≡ 1 → 0 < p.size → p.job.query.fact < length p.job.query.from → Stands p.groups (map (seen p.job) (kept p.job))

@@ -6,6 +6,7 @@ use Rattle.crossbeam_queue.specs.declared.array_queue.Doing.{Doing}
 use Rattle.crossbeam_queue.specs.declared.array_queue.Slotted.{Slotted}
 use Rattle.crossbeam_queue.specs.Passes.{Pass, view, ruled_capacity}
 use Rattle.ssb_job.specs.Kept.{AreOneJob, JobShape}
+use Rattle.ssb_pipeline.specs.Part.{PartState}
 use Rattle.ssb_pipeline.specs.Rule.{Knows, fresh, newcomer}
 
 module _ {T V Q A : Type 0} where
@@ -46,13 +47,17 @@ pub record PartsState : Type 0 where
   pub job : JobShape
   pub size : ℕ
 
--- what a pass knows of this section of this job, cut into so many
+-- a state of the part of this section
+pub record IsPartOf (parts : PartsState) (s : ℕ) (p : PartState) : Type 0 where
+  pub job : AreOneJob p.job parts.job
+  pub size : p.size ≡ parts.size
+  pub section : p.section ≡ s
+  pub sections : p.sections ≡ length parts.queues
+
+-- what a pass knows of this section
 pub record IsViewOf (parts : PartsState) (s : ℕ) (v : Knows) : Type 0 where
   pub opened : v.opened ≡ true
-  pub job : AreOneJob v.seen.job parts.job
-  pub size : v.seen.size ≡ parts.size
-  pub section : v.seen.section ≡ s
-  pub sections : v.seen.sections ≡ length parts.queues
+  pub part : IsPartOf parts s v.seen
 
 -- F holds of each section and what the pass knows of it
 abbrev pub AllSections : (ℕ → Knows → Type 0) → PassState → Type 0
@@ -68,9 +73,16 @@ pub record IsPassOfParts (parts : PartsState) (p : PassState) : Type 0 where
 abbrev pub HoldsNone : PassState → Type 0
 HoldsNone p = AllSections (λ _ v. v.holds ≡ false) p
 
--- it knows of each section that nothing was handed out, and has handed out nothing
+-- nothing was handed out to it, and it has seen that nothing was handed out, came back or was given up
+pub record IsUnused (v : Knows) : Type 0 where
+  pub mine : v.mine ≡ []
+  pub handed : v.seen.handed ≡ []
+  pub returned : v.seen.returned ≡ []
+  pub gave_up : v.seen.gave_up ≡ false
+
+-- it knows so of each section
 abbrev pub KnowsNothing : PassState → Type 0
-KnowsNothing p = AllSections (λ _ v. (v.mine ≡ []) × (v.seen.handed ≡ []) × (v.seen.gave_up ≡ false)) p
+KnowsNothing p = AllSections (λ _ v. IsUnused v) p
 
 -- passes that have seen as much, of the same queues
 abbrev pub newcomers : PassState → PassState

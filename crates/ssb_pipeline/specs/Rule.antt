@@ -4,7 +4,7 @@ use Rattle.std.specs.Prelude.{◌≡◌, ℕ, Bool, true, false, List, [], ◌�
 use mathlib.Core.Option.{some}
 use lib.ListN.{get_elem?}
 use Rattle.ssb_job.specs.Kept.{JobShape}
-use Rattle.ssb_pipeline.specs.Part.{Follows, IsLawfulPart, PartState, handed_between}
+use Rattle.ssb_pipeline.specs.Part.{IsLawfulPart, IsReached, PartState, Ran, handed_between}
 
 -- what a pass knows of a part: whether the queue is in use, whether the pass holds the part, the part at its last take or put, and the numbers that were handed out in its holds
 pub record Knows : Type 0 where
@@ -51,15 +51,26 @@ taker v x = knows true x v.mine
 abbrev pub AllPasses : (ℕ → Knows → Type 0) → List Knows → Type 0
 AllPasses F views = (pass : ℕ) (v : Knows) → get_elem? views pass ≡ some v → F pass v
 
--- the queue holds one lawful part, with at least what every pass has seen, and no pass holds it
+-- while the part is free: the pass does not hold it, and a core run leads to it from what the pass saw
+pub record IsWaiting (part : PartState) (v : Knows) : Type 0 where
+  pub none : v.holds ≡ false
+  pub ran : Ran v.seen part
+
+-- the queue holds one part, which is lawful and was reached from an opening one, and no pass holds it
 pub record IsFree (items : List PartState) (views : List Knows) : Type 0 where
   pub part : PartState
   pub only : items ≡ part ∷ []
   pub lawful : IsLawfulPart part
-  pub passes : AllPasses (λ pass v. (v.holds ≡ false) × Follows part v.seen) views
+  pub reached : IsReached part
+  pub passes : AllPasses (λ pass v. IsWaiting part v) views
 
--- the queue is empty and one pass holds the part, which was lawful and had at least what every pass has seen
-pub record IsOut (items : List PartState) (views : List Knows) : Type 0 where
+-- while one pass holds what it took: a pass that holds the part is that one, and a core run leads to what was taken from what the pass saw
+pub record IsBeside (holder : ℕ) (taken : PartState) (pass : ℕ) (v : Knows) : Type 0 where
+  pub only : v.holds ≡ true → pass ≡ holder
+  pub ran : Ran v.seen taken
+
+-- the queue is empty and one pass holds the part; what it took was lawful and reached from an opening one
+pub record IsHeld (items : List PartState) (views : List Knows) : Type 0 where
   pub empty : items ≡ []
   pub holder : ℕ
   pub known : Knows
@@ -67,11 +78,12 @@ pub record IsOut (items : List PartState) (views : List Knows) : Type 0 where
   pub holds : known.holds ≡ true
   pub opened : known.opened ≡ true
   pub lawful : IsLawfulPart known.seen
-  pub passes : AllPasses (λ pass v. (v.holds ≡ true → pass ≡ holder) × Follows known.seen v.seen) views
+  pub reached : IsReached known.seen
+  pub passes : AllPasses (IsBeside holder known.seen) views
 
 -- or the queue is new
 abbrev pub IsNew : List PartState → List Knows → Type 0
 IsNew items views = (items ≡ []) × (views ≡ fresh ∷ [])
 
 abbrev pub Ruled : List PartState → List Knows → Type 0
-Ruled items views = IsNew items views ⊎ (IsFree items views ⊎ IsOut items views)
+Ruled items views = IsNew items views ⊎ (IsFree items views ⊎ IsHeld items views)

@@ -2,7 +2,7 @@
 -- Source: own.
 use Rattle.std.specs.Prelude.{◌≡◌, ℕ, ◌<◌, true, List, [], ◌∷◌, ◌++◌, ◌⊎◌, length, All, None, Some, Option, Result, Ok, Err}
 use Rattle.ssb_job.specs.Kept.{AreOneJob}
-use Rattle.ssb_pipeline.specs.Part.{Follows, GivesUp, IsHandedOut, PartState, has, ours}
+use Rattle.ssb_pipeline.specs.Part.{Follows, IsAllHanded, PartState, Ran, has}
 use Rattle.ssb_pipeline.specs.Pass.{AllSections, HoldsNone, IsPassOfParts, PartsState, PassState, known, knowing}
 use Rattle.ssb_pipeline.specs.Rule.{Knows}
 use Rattle.ssb_pipeline.specs.State.{PartialState, TicketState}
@@ -20,7 +20,7 @@ pub record IsRound (v w : Knows) : Type 0 where
 
 -- a ticket was seen to be given up, or that all of the section is handed out
 abbrev pub IsExhausted : Knows → Type 0
-IsExhausted w = (w.seen.gave_up ≡ true) ⊎ ((i : ℕ) → has (ours w.seen) i ≡ true → has w.seen.handed i ≡ true)
+IsExhausted w = (w.seen.gave_up ≡ true) ⊎ IsAllHanded w.seen
 
 -- one number more was handed out to it
 abbrev pub IsOneMore : Knows → Knows → Type 0
@@ -42,25 +42,39 @@ pub record StaysReady (parts : PartsState) (section : ℕ) (p q : PassState) : T
   pub pass : IsPassOfParts parts q
   pub none : HoldsNone q
 
--- what getting a ticket in a hold of its own leaves: a number more that is handed out and not back, or that there is none left
+-- a ticket came in a hold of its own: a number more was handed out to the pass
+pub record GetsOne (t : TicketState) (v w : Knows) : Type 0 where
+  pub mine : w.mine ≡ v.mine ++ t.morsel ∷ []
+  pub follows : Follows w.seen v.seen
+  pub handed : has w.seen.handed t.morsel ≡ true
+  pub job : AreOneJob t.job w.seen.job
+  pub size : t.size ≡ w.seen.size
+
+-- no ticket came: there is none left
+pub record GetsNone (v w : Knows) : Type 0 where
+  pub mine : w.mine ≡ v.mine
+  pub follows : Follows w.seen v.seen
+  pub ended : IsExhausted w
+
+-- what getting a ticket leaves
 abbrev pub GetsTicket : Option TicketState → Knows → Knows → Type 0
-GetsTicket None v w = (w.mine ≡ v.mine) × Follows w.seen v.seen × IsExhausted w
-GetsTicket (Some t) v w = (w.mine ≡ v.mine ++ t.morsel ∷ []) × Follows w.seen v.seen × (has w.seen.handed t.morsel ≡ true) × AreOneJob t.job w.seen.job × (t.size ≡ w.seen.size)
+GetsTicket None v w = GetsNone v w
+GetsTicket (Some t) v w = GetsOne t v w
 
 -- the morsel came back, perhaps before, or a ticket was given up
 abbrev pub IsSettled : ℕ → PartState → Type 0
 IsSettled i p = (p.gave_up ≡ true) ⊎ (has p.returned i ≡ true)
 
--- what a part is after a partial was brought: its morsel is settled, and nothing else was handed out
-pub record IsBrought (i : ℕ) (p q : PartState) : Type 0 where
-  pub handed : q.handed ≡ p.handed
-  pub follows : Follows q p
-  pub back : IsSettled i q
+-- the morsel of what comes back: groups over it, or its ticket
+abbrev pub morsel_of : Result PartialState TicketState → ℕ
+morsel_of (Ok x) = x.ticket.morsel
+morsel_of (Err t) = t.morsel
 
--- what a part is after it took a partial of a number that it handed out, or noted that a ticket is given up
-abbrev pub TakesBack : Result PartialState TicketState → PartState → PartState → Type 0
-TakesBack (Ok x) p q = IsHandedOut p x.ticket → IsBrought x.ticket.morsel p q
-TakesBack (Err t) p q = GivesUp p q
+-- what a part is after a partial or a ticket came back: its morsel is settled, and nothing was handed out
+pub record TakesBack (made : Result PartialState TicketState) (p q : PartState) : Type 0 where
+  pub handed : q.handed ≡ p.handed
+  pub ran : Ran p q
+  pub back : IsSettled (morsel_of made) q
 
 -- what bringing a number back in a hold of its own leaves
 pub record Brings (i : ℕ) (v w : Knows) : Type 0 where

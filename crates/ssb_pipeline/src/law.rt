@@ -1,14 +1,15 @@
 // Laws of how the work is cut, and of what parts come to.
 
 ghost use Rattle.std.specs.Prelude.{ℕ};
-ghost use Rattle.ssb_pipeline.specs.Part.{EveryRunIsLawful, EveryRunStands, OneSectionIsAll, RunsStayLawful, WholeSectionsStand};
-ghost use Rattle.ssb_pipeline.specs.Morsels.{RowsLieInOneMorsel, MorselsAreTheRows, MorselsLieInOneSection, SectionsAreTheMorsels};
+ghost use Rattle.ssb_pipeline.specs.Part.{EveryRunIsLawful, EveryRunStands, OneSectionIsAll, RunsLoseNothing, RunsStayLawful, WholeSectionsStand};
+ghost use Rattle.ssb_pipeline.specs.Morsels.{MorselsAreFewest, MorselsAreTheRows, MorselsLieInOneSection, RowsLieInOneMorsel, SectionsAreTheMorsels};
 
-/// A law: each row of the fact table lies in just one morsel, and the morsels one after the other are
-/// all rows.
+/// A law: each row of the fact table lies in just one morsel, the morsels one after the other are all
+/// rows, and there are no more of them than it takes.
 pub fn rows_in_morsels()
     ensures one { (rows size : ℕ) → RowsLieInOneMorsel rows size }
     ensures all { (rows size : ℕ) → MorselsAreTheRows rows size }
+    ensures fewest { (rows size : ℕ) → MorselsAreFewest rows size }
 {}
 
 /// A law: each morsel lies in just one section, and the sections one after the other are all morsels.
@@ -17,10 +18,12 @@ pub fn morsels_in_sections()
     ensures all { (morsels sections : ℕ) → SectionsAreTheMorsels morsels sections }
 {}
 
-/// A law: whatever a part hands out, takes back and records, in whatever order, it stays lawful; and
-/// where all of its section came back, its groups stand for the kept combinations of the section.
+/// A law: whatever a part hands out, takes back, sweeps and records, in whatever order, it stays lawful
+/// and loses nothing; and where all of its section came back, its groups stand for the kept combinations
+/// of the section.
 pub fn core_runs()
     ensures lawful { RunsStayLawful }
+    ensures kept { RunsLoseNothing }
     ensures whole { WholeSectionsStand }
 {}
 

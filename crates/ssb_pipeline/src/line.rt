@@ -2,7 +2,7 @@
 
 ghost use Rattle.std.specs.Prelude.{◌≡◌, ◌≤◌, ◌++◌, true, false, [], IfOk};
 ghost use Rattle.crossbeam_queue.specs.Passes.{view, IsPassOf, IsSamePass, ruled_capacity};
-ghost use Rattle.ssb_pipeline.specs.Part.{Follows, IsLawfulPart};
+ghost use Rattle.ssb_pipeline.specs.Part.{Follows, IsLawfulPart, IsOpening, IsReached, Ran};
 ghost use Rattle.ssb_pipeline.specs.Rule.{fresh, knows, newcomer, putter, taker};
 
 use crate::part::Part;
@@ -79,10 +79,10 @@ pub(crate) struct Takes;
 
 impl Outcome<Part, Knowledge> for Takes {
     ghost use Rattle.std.specs.Prelude.{◌≡◌};
-    ghost use Rattle.ssb_pipeline.specs.Part.{Follows, IsLawfulPart};
+    ghost use Rattle.ssb_pipeline.specs.Part.{IsLawfulPart, IsReached, Ran};
     ghost use Rattle.ssb_pipeline.specs.Rule.{taker};
 
-    ghost then = { λ v x w. (w ≡ taker v x) × IsLawfulPart x × Follows x v.seen };
+    ghost then = { λ v x w. (w ≡ taker v x) × IsLawfulPart x × IsReached x × Ran v.seen x };
 }
 
 impl Lesson<Part, Knowledge> for Takes {
@@ -110,6 +110,8 @@ pub(crate) fn take_one<R: Wait>(rt: &R, line: &Line, pass: &mut LinePass) -> Par
     requires { IsPassOf line.now pass.old }
     ensures queue { IsSamePass pass.old pass.new }
     ensures lawful { IsLawfulPart result }
+    ensures reached { IsReached result }
+    ensures ran { Ran (view pass.old).seen result }
     ensures follows { Follows result (view pass.old).seen }
     ensures view { view pass.new ≡ taker (view pass.old) result }
 {
@@ -127,8 +129,7 @@ pub(crate) fn put_one<R: Wait>(rt: &R, line: &Line, pass: &mut LinePass, part: P
     requires queue { IsPassOf line.now pass.old × (ruled_capacity line.now ≡ 1) }
     requires holds { (view pass.old).holds ≡ true }
     requires opened { (view pass.old).opened ≡ true }
-    requires lawful { IsLawfulPart part }
-    requires follows { Follows part (view pass.old).seen }
+    requires ran { Ran (view pass.old).seen part }
     ensures queue { IsSamePass pass.old pass.new }
     ensures view { view pass.new ≡ putter (view pass.old) part }
 {
@@ -143,7 +144,7 @@ pub(crate) fn open_one<R: Wait>(
     alloc: Global,
     part: Part,
 ) -> Result<(Line, LinePass), AllocError>
-    requires { IsLawfulPart part }
+    requires { IsOpening part.job part.size part.section part.sections part }
     ensures { IfOk result (λ r. IsPassOf r.0 r.1 × (ruled_capacity r.0 ≡ 1) × (view r.1 ≡ knows false part [])) }
 {
     let (line, mut pass) = Line::ruled(alloc, 1)?;

@@ -5,7 +5,7 @@ ghost use Rattle.std.specs.List.{range_with_len};
 ghost use Rattle.std.specs.Arc.{arc_value};
 ghost use Rattle.ssb_pipeline.specs.Joined.{morsel_rows};
 ghost use Rattle.ssb_pipeline.specs.Morsels.{morsel_cut};
-ghost use Rattle.ssb_pipeline.specs.Part.{GivesBack, GivesUp, Grows, HandsOut, IsBack, IsHandedOut, IsLawfulPart, IsOpening, IsWhole, Returns, has, ours};
+ghost use Rattle.ssb_pipeline.specs.Part.{GivesBack, GivesUp, Grows, HandsOut, IsBack, IsHandedOut, IsLawfulPart, IsOpening, IsWhole, Ran, Returns, has, ours};
 ghost use Rattle.ssb_job.specs.Kept.{AreOneJob};
 
 use crate::fault::ReturnFault;
@@ -120,7 +120,8 @@ impl Part {
     /// A ticket of the section's least morsel that was not handed out; none where all were, or a ticket
     /// was given up.
     pub fn hand_out(&mut self) -> Option<Ticket>
-        ensures { HandsOut self.old result self.new }
+        ensures hands { HandsOut self.old result self.new }
+        ensures ran { Ran self.old self.new }
     {
         if self.gave_up || self.next as usize == self.marks.len() {
             return None;
@@ -145,7 +146,8 @@ impl Part {
     /// before, `Memory` where a growth was refused. The part is as before, and the partial comes back.
     pub fn give_back(&mut self, partial: Partial) -> Result<(), ReturnFault>
         requires one_job { AreOneJob partial.ticket.job self.old.job }
-        ensures { GivesBack self.old partial result self.new }
+        ensures gives { GivesBack self.old partial result self.new }
+        ensures ran { Ran self.old self.new }
     {
         let morsel = partial.morsel();
         if partial.size() != self.size || !self.was_handed(morsel) {
@@ -220,6 +222,7 @@ impl Part {
     ///
     /// Only where a growth was refused. The part stands with what came back so far.
     pub fn work_off(&mut self) -> Result<(), AllocError>
+        ensures ran { Ran self.old self.new }
         ensures grows { Grows self.old self.new }
         ensures whole { OnOk result (IsBack self.old → self.old.gave_up ≡ false → IsWhole self.new) }
         ensures lawful { IsLawfulPart self.new }
@@ -241,6 +244,7 @@ impl Part {
     /// Only where a growth was refused. The part stands with what came back so far, and all of its
     /// section may be handed out.
     pub fn sweep(&mut self) -> Result<(), AllocError>
+        ensures ran { Ran self.old self.new }
         ensures grows { Grows self.old self.new }
         ensures whole { OnOk result (IsWhole self.new) }
         ensures lawful { IsLawfulPart self.new }
@@ -261,7 +265,8 @@ impl Part {
 
     /// Gives a ticket up: no morsel is handed out any more.
     pub fn give_up(&mut self, _ticket: Ticket)
-        ensures { GivesUp self.old self.new }
+        ensures gives_up { GivesUp self.old self.new }
+        ensures ran { Ran self.old self.new }
     {
         self.gave_up = true;
     }

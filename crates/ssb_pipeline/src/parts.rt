@@ -1,12 +1,12 @@
 // All parts of a job, each in a queue of its own.
 
-ghost use Rattle.std.specs.Prelude.{◌≡◌, ◌<◌, ◌≤◌, ◌^◌, true, false, [], length, All, IfOk};
+ghost use Rattle.std.specs.Prelude.{◌≡◌, ◌<◌, ◌≤◌, ◌^◌, true, false, [], length, All, IfErr, IfOk};
 ghost use Rattle.std.specs.Arc.{arc_value};
 ghost use Rattle.crossbeam_queue.specs.Passes.{view, IsPassOf, ruled_capacity};
 ghost use Rattle.ssb_job.specs.Kept.{AreOneJob, fact_rows};
-ghost use Rattle.ssb_pipeline.specs.Part.{Follows, IsLawfulPart, IsOpening};
+ghost use Rattle.ssb_pipeline.specs.Part.{Follows, IsLawfulPart, IsOpening, IsReached, Ran};
 ghost use Rattle.ssb_pipeline.specs.Rule.{knows, taker, putter};
-ghost use Rattle.ssb_pipeline.specs.Pass.{IsPassOfParts, HoldsNone, KnowsNothing, known, knowing, newcomers};
+ghost use Rattle.ssb_pipeline.specs.Pass.{IsPartOf, IsPassOfParts, HoldsNone, KnowsNothing, known, knowing, newcomers};
 ghost use Rattle.std.specs.Borrow.{sem};
 ghost use Rattle.ssb_pipeline.specs.Lending.{LendsPart};
 
@@ -109,13 +109,17 @@ impl Held {
 
 impl Parts {
     /// Takes the part of a section, numbered from 0, as soon as it is free; it may wait for other
-    /// passes. The part has at least what this pass saw of it. It takes no memory.
+    /// passes. A core run leads to the part from what this pass saw of it, and from an opening part. It
+    /// takes no memory.
     pub fn take<R: Wait>(&self, rt: &R, section: u32, pass: &mut PartsPass) -> Held
         requires section { section < length self.now.queues }
         requires pass { IsPassOfParts self.now pass.old }
         requires holds_none { HoldsNone pass.old }
         ensures section { result.section ≡ section }
+        ensures part { IsPartOf self.now section result.part }
         ensures lawful { IsLawfulPart result.part }
+        ensures reached { IsReached result.part }
+        ensures ran { Ran (known pass.old section).seen result.part }
         ensures follows { Follows result.part (known pass.old section).seen }
         ensures view { pass.new ≡ knowing pass.old section (taker (known pass.old section) result.part) }
         ensures pass { IsPassOfParts self.now pass.new }
@@ -128,7 +132,10 @@ impl Parts {
         requires section { section < length self.now.queues }
         requires pass { IsPassOfParts self.now pass.old }
         ensures section { result.section ≡ section }
+        ensures part { IsPartOf self.now section result.part }
         ensures lawful { IsLawfulPart result.part }
+        ensures reached { IsReached result.part }
+        ensures ran { Ran (known pass.old section).seen result.part }
         ensures follows { Follows result.part (known pass.old section).seen }
         ensures view { pass.new ≡ knowing pass.old section (taker (known pass.old section) result.part) }
         ensures pass { IsPassOfParts self.now pass.new }
@@ -141,18 +148,18 @@ impl Parts {
         Held { section, part }
     }
 
-    /// Puts a part back that this pass took; it may wait. The next take of the section, by whichever
-    /// pass, finds it. It takes no memory.
+    /// Puts a part back that this pass took; it may wait. The part was changed by its own calls alone: a
+    /// core run leads to it from what was taken. The next take of the section, by whichever pass, finds
+    /// it. It takes no memory.
     pub fn put<R: Wait>(&self, rt: &R, held: Held, pass: &mut PartsPass)
         requires section { held.section < length self.now.queues }
         requires pass { IsPassOfParts self.now pass.old }
         requires holds { (known pass.old held.section).holds ≡ true }
-        requires follows { Follows held.part (known pass.old held.section).seen }
+        requires ran { Ran (known pass.old held.section).seen held.part }
         ensures view { pass.new ≡ knowing pass.old held.section (putter (known pass.old held.section) held.part) }
         ensures pass { IsPassOfParts self.now pass.new }
     {
         let Held { section, part } = held;
-        part.lawful();
         put_one(
             rt,
             &self.queues[section as usize],
@@ -182,7 +189,8 @@ impl Parts {
     // The partial of a ticket of these parts' job; where a growth is refused, the ticket.
     pub(crate) fn partial_of(&self, ticket: Ticket) -> Result<Partial, Ticket>
         requires { AreOneJob ticket.job self.now.job }
-        ensures { IfOk result (λ p. p.ticket ≡ ticket) }
+        ensures ticket { IfOk result (λ p. p.ticket ≡ ticket) }
+        ensures err { IfErr result (λ t. t ≡ ticket) }
     {
         match Partial::of(self.alloc, &self.job, ticket) {
             Ok(partial) => Ok(partial),

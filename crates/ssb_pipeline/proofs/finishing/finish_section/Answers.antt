@@ -19,9 +19,8 @@ returns-clause-pass g c = c.take_from-part.ensures.pass
 
 pub returns-clause-over : goal.returns-clause-over
 returns-clause-over g c =
-    let f = c.take_from-part.ensures.follows in
-    let v = c.requires.pass.each c.args.section (subst (λ n. c.args.section < n) (sym c.requires.pass.count) c.requires.section) in
-    rw (f.job ∙ v.job, f.size ∙ v.size, f.section ∙ v.section, f.sections ∙ v.sections) at c.swept.ensures.over
+    let is = c.take_from-part.ensures.part in
+    rw (is.job, is.size, is.section, is.sections) at c.swept.ensures.over
 
 pub returns-clause-refused : goal.returns-clause-refused
 returns-clause-refused g c = λ gave. c.swept.ensures.refused (c.take_from-part.ensures.follows.gave_up gave)

@@ -1,7 +1,8 @@
 use Rattle.std.proofs.Common.{◌∙◌, ap, subst, arith}
-use Rattle.ssb_pipeline.specs.Part.{Follows}
+use Rattle.ssb_pipeline.specs.Part.{Ran}
 use Rattle.ssb_pipeline.specs.Rule.{Knows, taker}
 use Rattle.ssb_pipeline.proofs.Moves.{takes}
+use Rattle.ssb_pipeline.proofs.RunFacts.{ran-follows}
 use Rattle.std.proofs.lemmas.Grind.{common_steps}
 use Rattle.ssb_pipeline.proofs.line.take_one.Goals as goal
 
@@ -11,8 +12,14 @@ pop_as-requires-clause-rule g c = (takes _ _, λ items views rule at. tt)
 pub returns-in-Some-pop_as-clause-view : goal.returns-in-Some-pop_as-clause-view
 returns-in-Some-pop_as-clause-view g c = c.in-Some-pop_as.ensures.rule.0 ∙ ap (λ v. taker v c.in-Some-pop_as.part) c.loop.invariant.view
 
+pub returns-in-Some-pop_as-clause-reached : goal.returns-in-Some-pop_as-clause-reached
+returns-in-Some-pop_as-clause-reached g c = c.in-Some-pop_as.ensures.rule.2
+
+pub returns-in-Some-pop_as-clause-ran : goal.returns-in-Some-pop_as-clause-ran
+returns-in-Some-pop_as-clause-ran g c = subst (λ (v : Knows). Ran v.seen c.in-Some-pop_as.part) c.loop.invariant.view c.in-Some-pop_as.ensures.rule.3
+
 pub returns-in-Some-pop_as-clause-follows : goal.returns-in-Some-pop_as-clause-follows
-returns-in-Some-pop_as-clause-follows g c = subst (λ (v : Knows). Follows c.in-Some-pop_as.part v.seen) c.loop.invariant.view c.in-Some-pop_as.ensures.rule.2
+returns-in-Some-pop_as-clause-follows g c = ran-follows _ _ (returns-in-Some-pop_as-clause-ran g c)
 
 pub returns-in-Some-pop_as-clause-queue : goal.returns-in-Some-pop_as-clause-queue
 returns-in-Some-pop_as-clause-queue g c =

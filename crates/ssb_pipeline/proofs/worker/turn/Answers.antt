@@ -1,12 +1,16 @@
 use Rattle.std.proofs.Common.{◌∙◌, subst, sym, true≢false, arith}
 use Rattle.ssb_pipeline.specs.Pass.{known}
 use Rattle.ssb_pipeline.specs.Work.{Brings}
+use Rattle.ssb_pipeline.proofs.Bringing.{made-of}
 use Rattle.ssb_pipeline.proofs.Rounds.{ready-again, ready_more, round-of}
 use Rattle.std.proofs.lemmas.Grind.{common_steps}
 use Rattle.ssb_pipeline.proofs.worker.turn.Goals as goal
 
 pub bring_back-requires-clause-ready : goal.bring_back-requires-clause-ready
 bring_back-requires-clause-ready g c = ready-again _ _ _ _ c.requires c.in-Some.ensures.ready
+
+pub bring_back-requires-clause-morsel : goal.bring_back-requires-clause-morsel
+bring_back-requires-clause-morsel g c = made-of c.partial_of-made.result c.in-Some.ticket c.partial_of-made.ensures.ticket c.partial_of-made.ensures.err ∙ sym c.morsel-morsel.ensures
 
 pub returns-clause-ready : goal.returns-clause-ready
 returns-clause-ready g c = ready_more _ _ _ _ c.requires _ c.in-Some.ensures.ready c.bring_back.ensures.ready
@@ -18,7 +22,7 @@ returns-clause-round g c =
     round-of c.in-Some.ticket (known c.args.pass.now c.args.section) m w c.in-Some.ensures.gets (subst (λ n. Brings n m w) c.morsel-morsel.ensures c.bring_back.ensures.brings)
 
 pub returns-clause-more : goal.returns-clause-more
-returns-clause-more g c = λ _. (c.in-Some.ticket.morsel, c.bring_back.ensures.brings.mine ∙ c.in-Some.ensures.gets.0)
+returns-clause-more g c = λ _. (c.in-Some.ticket.morsel, c.bring_back.ensures.brings.mine ∙ c.in-Some.ensures.gets.mine)
 
 pub returns-clause-ended : goal.returns-clause-ended
 returns-clause-ended g c = λ no. absurd (true≢false no)

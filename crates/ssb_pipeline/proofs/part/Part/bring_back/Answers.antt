@@ -12,12 +12,12 @@ give_back-requires c = record { one_job = ap (λ (t : TicketState). t.job) c.in-
 
 pub returns-clause-back : goal.returns-clause-back
 returns-clause-back c = elim c.match-give_back.branch [
-  | in-Ok-give_back w ↦ rw w.result-is (subst (λ (t : TicketState). Returns t.morsel c.args.self.now c.give_back.new.self) c.in-Ok.ensures.ticket w.in-Ok-give_back.ensures.1)
+  | in-Ok-give_back w ↦ rw w.result-is (subst (λ (t : TicketState). Returns t.morsel c.args.self.now c.give_back.new.self) c.in-Ok.ensures.ticket w.in-Ok-give_back.ensures.gives.returns)
   | in-Err-Memory w ↦ rw w.result-is tt
 ]
 
 pub returns-clause-err : goal.returns-clause-err
 returns-clause-err c = elim c.match-give_back.branch [
   | in-Ok-give_back w ↦ rw w.result-is tt
-  | in-Err-Memory w ↦ rw w.result-is (rw w.in-Err-Memory.field-0-is at w.in-Err-Memory.ensures).3
+  | in-Err-Memory w ↦ rw w.result-is (rw w.in-Err-Memory.field-0-is at w.in-Err-Memory.ensures.gives).same
 ]

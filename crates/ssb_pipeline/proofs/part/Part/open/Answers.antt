@@ -24,7 +24,8 @@ invariant_of-result c =
 pub returns-clause-opening : goal.returns-clause-opening
 returns-clause-opening c =
     let free : (i : ℕ) → slice_get c.in_ok-marks.marks.items i ≡ Some true → ⊥ = free-all _ c.in_ok-marks.marks.items (c.in_ok-marks.ensures.items_if_clones_equal (λ b e. e)) in
-    record { job = refl; size = refl; section = refl; sections = refl; handed = refl; returned = none-marked c.morsel_cut-first.result c.in_ok-marks.marks.items free; gave_up = refl }
+    let g = c.in_ok-groups.ensures in
+    record { job = refl; size = refl; section = refl; sections = refl; handed = refl; returned = none-marked c.morsel_cut-first.result c.in_ok-marks.marks.items free; gave_up = refl; one_job = g.job ∙ c.deref-2.ensures; stands = g.stands }
 
 pub returns-clause-lawful : goal.returns-clause-lawful
 returns-clause-lawful c =

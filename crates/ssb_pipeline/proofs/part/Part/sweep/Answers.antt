@@ -1,5 +1,5 @@
 use Rattle.std.proofs.Common.{◌≡◌, ◌+◌, ◌∙◌, true, sym, ap, subst}
-use Rattle.ssb_pipeline.specs.Part.{PartState, Returns, has}
+use Rattle.ssb_pipeline.specs.Part.{PartState, Ran, Returns, has}
 use Rattle.ssb_pipeline.specs.State.{TicketState}
 use Rattle.ssb_pipeline.proofs.SweepFacts.{IsSwept, all-done, begins, goes-on, next-handed, passes}
 use Rattle.ssb_pipeline.proofs.part.Part.sweep.Goals as goal
@@ -12,7 +12,10 @@ pub bring_back-requires-clause-handed : goal.bring_back-requires-clause-handed
 bring_back-requires-clause-handed c =
     let l = c.loop-morsel in
     let ticket = c.new-ticket.ensures in
-    (ap (λ (t : TicketState). t.size) ticket ∙ ap (λ (q : PartState). q.size) c.self.view_is, subst (λ (t : TicketState). has l.self.handed t.morsel ≡ true) (sym ticket) (next-handed c.args.self.now l.self c.bounds-first.result.0 c.bounds-first.result.1 l.morsel l.invariant l.auto.morsel c.loop-morsel-test.true))
+    record {
+      size = ap (λ (t : TicketState). t.size) ticket ∙ ap (λ (q : PartState). q.size) c.self.view_is;
+      handed = subst (λ (t : TicketState). has l.self.handed t.morsel ≡ true) (sym ticket) (next-handed c.args.self.now l.self c.bounds-first.result.0 c.bounds-first.result.1 l.morsel l.invariant l.auto.morsel c.loop-morsel-test.true);
+    }
 
 pub loop-morsel-preserved : goal.loop-morsel-preserved
 loop-morsel-preserved c =
@@ -36,3 +39,9 @@ returns-clause-whole c =
 
 pub bring_back-requires-clause-one_job : goal.bring_back-requires-clause-one_job
 bring_back-requires-clause-one_job c = ap (λ (t : TicketState). t.job) c.new-ticket.ensures ∙ c.deref.ensures ∙ ap (λ (q : PartState). q.job) c.self.view_is
+
+pub returns-clause-ran : goal.returns-clause-ran
+returns-clause-ran c = c.loop-morsel.invariant.ran
+
+pub returns-in_err-bring_back-clause-ran : goal.returns-in_err-bring_back-clause-ran
+returns-in_err-bring_back-clause-ran c = subst (Ran c.args.self.now) (sym c.in_err-bring_back.ensures.err) c.loop-morsel.invariant.ran

@@ -1,6 +1,7 @@
 use Rattle.std.proofs.Common.{◌∙◌, sym, ap, subst}
-use Rattle.ssb_pipeline.specs.Part.{Grows, IsLawfulPart, PartState}
+use Rattle.ssb_pipeline.specs.Part.{Grows, IsLawfulPart, PartState, Ran}
 use Rattle.ssb_pipeline.proofs.Later.{grows-more, hand-follows}
+use Rattle.ssb_pipeline.proofs.RunFacts.{ran_after}
 use Rattle.ssb_pipeline.proofs.WorkFacts.{all-back, fewer-left, is-fresh, is-out, nothing-yet, one-more}
 use Rattle.ssb_pipeline.proofs.part.Part.work_off.Goals as goal
 
@@ -8,19 +9,19 @@ pub loop-ticket-init : goal.loop-ticket-init
 loop-ticket-init c = nothing-yet c.args.self.now c.lawful.ensures
 
 pub bring_back-requires-clause-one_job : goal.bring_back-requires-clause-one_job
-bring_back-requires-clause-one_job c = c.in-Some.ensures.1 ∙ sym (ap (λ (p : PartState). p.job) c.in-Some.ensures.0.after)
+bring_back-requires-clause-one_job c = c.in-Some.ensures.hands.job ∙ sym (ap (λ (p : PartState). p.job) c.in-Some.ensures.hands.hands.after)
 
 pub bring_back-requires-clause-handed : goal.bring_back-requires-clause-handed
 bring_back-requires-clause-handed c =
-    let h = c.in-Some.ensures.0 in
-    (c.in-Some.ensures.2 ∙ sym (ap (λ (p : PartState). p.size) h.after), is-out c.in-Some.ticket.morsel c.loop-ticket.self c.hand_out.new.self h)
+    let h = c.in-Some.ensures.hands.hands in
+    record { size = c.in-Some.ensures.hands.size ∙ sym (ap (λ (p : PartState). p.size) h.after); handed = is-out c.in-Some.ticket.morsel c.loop-ticket.self c.hand_out.new.self h }
 
 pub bring_back-requires-clause-fresh : goal.bring_back-requires-clause-fresh
-bring_back-requires-clause-fresh c = is-fresh c.in-Some.ticket.morsel c.loop-ticket.self c.hand_out.new.self c.loop-ticket.invariant.lawful c.in-Some.ensures.0
+bring_back-requires-clause-fresh c = is-fresh c.in-Some.ticket.morsel c.loop-ticket.self c.hand_out.new.self c.loop-ticket.invariant.lawful c.in-Some.ensures.hands.hands
 
 pub returns-in_err-bring_back-clause-grows : goal.returns-in_err-bring_back-clause-grows
 returns-in_err-bring_back-clause-grows c =
-    let h = c.in-Some.ensures.0 in
+    let h = c.in-Some.ensures.hands.hands in
     let later = hand-follows c.in-Some.ticket.morsel c.loop-ticket.self c.hand_out.new.self h in
     subst (Grows c.args.self.now) (sym c.in_err-bring_back.ensures.err) (grows-more c.args.self.now c.loop-ticket.self c.hand_out.new.self c.loop-ticket.invariant.grows later (ap (λ (p : PartState). p.gave_up) h.after))
 
@@ -28,16 +29,22 @@ pub returns-in_err-bring_back-clause-lawful : goal.returns-in_err-bring_back-cla
 returns-in_err-bring_back-clause-lawful c = subst IsLawfulPart (sym c.in_err-bring_back.ensures.err) c.lawful-in-Some.ensures
 
 pub loop-ticket-smaller : goal.loop-ticket-smaller
-loop-ticket-smaller c = fewer-left c.in-Some.ticket.morsel c.loop-ticket.self c.hand_out.new.self c.bring_back.new.self c.in-Some.ensures.0 c.lawful-in-Some.ensures c.in_ok-bring_back.ensures.back
+loop-ticket-smaller c = fewer-left c.in-Some.ticket.morsel c.loop-ticket.self c.hand_out.new.self c.bring_back.new.self c.in-Some.ensures.hands.hands c.lawful-in-Some.ensures c.in_ok-bring_back.ensures.back
 
 pub loop-ticket-preserved : goal.loop-ticket-preserved
-loop-ticket-preserved c = one-more c.in-Some.ticket.morsel c.args.self.now c.loop-ticket.self c.hand_out.new.self c.bring_back.new.self c.loop-ticket.invariant c.in-Some.ensures.0 c.in_ok-bring_back.ensures.back c.lawful-in-Some-2.ensures
+loop-ticket-preserved c = one-more c.in-Some.ticket.morsel c.args.self.now c.loop-ticket.self c.hand_out.new.self c.bring_back.new.self c.loop-ticket.invariant c.in-Some.ensures.hands.hands c.in_ok-bring_back.ensures.back c.lawful-in-Some-2.ensures
+
+pub returns-in_err-bring_back-clause-ran : goal.returns-in_err-bring_back-clause-ran
+returns-in_err-bring_back-clause-ran c = subst (Ran c.args.self.now) (sym c.in_err-bring_back.ensures.err) (ran_after _ c.loop-ticket.self _ c.loop-ticket.invariant.ran c.in-Some.ensures.ran)
+
+pub returns-clause-ran : goal.returns-clause-ran
+returns-clause-ran c = subst (Ran c.args.self.now) (sym c.in_default.ensures.hands.same) c.loop-ticket.invariant.ran
 
 pub returns-clause-grows : goal.returns-clause-grows
-returns-clause-grows c = subst (Grows c.args.self.now) (sym c.in_default.ensures.0) c.loop-ticket.invariant.grows
+returns-clause-grows c = subst (Grows c.args.self.now) (sym c.in_default.ensures.hands.same) c.loop-ticket.invariant.grows
 
 pub returns-clause-whole : goal.returns-clause-whole
-returns-clause-whole c = λ back going. all-back c.args.self.now c.loop-ticket.self c.hand_out.new.self c.loop-ticket.invariant c.in_default.ensures back going
+returns-clause-whole c = λ back going. all-back c.args.self.now c.loop-ticket.self c.hand_out.new.self c.loop-ticket.invariant c.in_default.ensures.hands back going
 
 pub returns-clause-lawful : goal.returns-clause-lawful
-returns-clause-lawful c = subst IsLawfulPart (sym c.in_default.ensures.0) c.loop-ticket.invariant.lawful
+returns-clause-lawful c = subst IsLawfulPart (sym c.in_default.ensures.hands.same) c.loop-ticket.invariant.lawful

@@ -3,7 +3,11 @@ use Rattle.std.proofs.lemmas.Result.{IfOk-weaker}
 use Rattle.std.specs.Arc.{arc_value}
 use Rattle.ssb_pipeline.specs.Part.{IsOpening}
 use Rattle.ssb_pipeline.specs.Rule.{Knows, knows}
+use Rattle.ssb_pipeline.proofs.RunFacts.{own-opening}
 use Rattle.ssb_pipeline.proofs.parts.Parts.open_section.Goals as goal
+
+pub open_one-requires : goal.open_one-requires
+open_one-requires g c = own-opening _ _ _ _ c.in_ok-part.part c.in_ok-part.ensures.opening
 
 pub returns-clause-queue : goal.returns-clause-queue
 returns-clause-queue g c = IfOk-weaker c.open_one.result _ _ (λ r h. (h.0, h.1)) c.open_one.ensures

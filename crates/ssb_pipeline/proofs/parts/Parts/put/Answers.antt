@@ -1,9 +1,10 @@
 use Rattle.std.proofs.Common.{◌≡◌, ◌<◌, true, sym, ◌∙◌, ap, subst, refl, arith}
 use Rattle.std.proofs.lemmas.List.Elements.{All-set}
 use Rattle.ssb_pipeline.specs.Rule.{Knows, putter}
-use Rattle.ssb_pipeline.specs.Part.{Follows}
+use Rattle.ssb_pipeline.specs.Part.{Ran}
 use Rattle.ssb_pipeline.specs.Pass.{queue_name, pass_name, IsAtRest, IsSingle}
 use Rattle.ssb_pipeline.proofs.Passes.{image_at, each_at, in_image, known_in, now_knows, still_pass}
+use Rattle.ssb_pipeline.proofs.RunFacts.{ran-follows}
 use Rattle.ssb_pipeline.proofs.parts.Parts.put.Goals as goal
 
 pub put_one-requires-clause-queue : goal.put_one-requires-clause-queue
@@ -21,7 +22,7 @@ returns-clause-view g c =
     rw (← c.pass.view_is) (now_knows c.pass.inside.passes.items c.args.held.section c.index_mut.result.now _ (λ v. putter v c.args.held.part) in_passes c.index_mut.ensures.value c.put_one.ensures.queue.0 c.put_one.ensures.view)
 
 pub returns-clause-pass : goal.returns-clause-pass
-returns-clause-pass g c = rw (returns-clause-view g c) (still_pass c.args.self.now c.args.pass.now c.args.held.section _ c.requires.pass c.requires.section refl c.requires.follows)
+returns-clause-pass g c = rw (returns-clause-view g c) (still_pass c.args.self.now c.args.pass.now c.args.held.section _ c.requires.pass c.requires.section refl (ran-follows _ _ c.requires.ran))
 
 pub invariant_of-pass : goal.invariant_of-pass
 invariant_of-pass g c =
@@ -45,10 +46,7 @@ put_one-requires-clause-opened g c =
     let in_views = subst (λ n. c.args.held.section < n) (sym c.requires.pass.count) c.requires.section in
     subst (λ (v : Knows). v.opened ≡ true) (known_in c.pass.inside.passes.items c.args.pass.now c.args.held.section c.index_mut.result.now c.pass.view_is in_passes c.index_mut.ensures.value) (c.requires.pass.each c.args.held.section in_views).opened
 
-pub put_one-requires-clause-lawful : goal.put_one-requires-clause-lawful
-put_one-requires-clause-lawful g c = c.lawful.ensures
-
-pub put_one-requires-clause-follows : goal.put_one-requires-clause-follows
-put_one-requires-clause-follows g c =
+pub put_one-requires-clause-ran : goal.put_one-requires-clause-ran
+put_one-requires-clause-ran g c =
     let in_passes = in_image pass_name c.pass.inside.passes.items _ c.args.held.section (ap (λ p. p.queues) c.pass.view_is ∙ c.requires.pass.queues) c.requires.section in
-    subst (λ (v : Knows). Follows c.args.held.part v.seen) (known_in c.pass.inside.passes.items c.args.pass.now c.args.held.section c.index_mut.result.now c.pass.view_is in_passes c.index_mut.ensures.value) c.requires.follows
+    subst (λ (v : Knows). Ran v.seen c.args.held.part) (known_in c.pass.inside.passes.items c.args.pass.now c.args.held.section c.index_mut.result.now c.pass.view_is in_passes c.index_mut.ensures.value) c.requires.ran

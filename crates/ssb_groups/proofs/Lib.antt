@@ -1,5 +1,6 @@
 pub mod AddFacts
 pub mod AggregateFacts
+pub mod AnyRows
 pub mod Bounds
 pub mod ColumnFacts
 pub mod JoiningFacts

@@ -72,3 +72,13 @@ pub record Stands (g : GroupMap) (R : List SeenRow) : Type 0 where
   pub overflow : g.overflow ≡ least (overflows R)
   pub exact : g.overflow ≡ None → (k : Key) → lookup (key_eq k) g.entries ≡ summary g.job.query.aggregates (group k R)
   pub distinct : IsDistinct key_eq (map (λ e. e.0) g.entries)
+
+-- groups of this job that stand for these rows
+pub record SomeGroups (j : JobShape) (R : List SeenRow) : Type 0 where
+  pub groups : GroupMap
+  pub job : groups.job ≡ j
+  pub stands : Stands groups R
+
+-- a law: for any rows whose numbers are those of an `int` there are such groups
+abbrev pub AnyRowsHaveGroups : Type 0
+AnyRowsHaveGroups = (j : JobShape) (R : List SeenRow) → AreRanged R → SomeGroups j R

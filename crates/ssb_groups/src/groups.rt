@@ -7,7 +7,7 @@ ghost use Rattle.ssb_job.specs.Kept.{AreOneJob, from_tables};
 ghost use Rattle.ssb_groups.specs.Aggregates.{totals};
 ghost use Rattle.ssb_groups.specs.Rows.{SeenRow};
 ghost use Rattle.ssb_groups.specs.Seen.{seen};
-ghost use Rattle.ssb_groups.specs.Stands.{GroupMap, Stands};
+ghost use Rattle.ssb_groups.specs.Stands.{AnyRowsHaveGroups, GroupMap, Stands};
 ghost use Rattle.ssb_groups.specs.Totals.{total_cell};
 ghost use Rattle.std.specs.List.Sorted.{IsPermutation};
 
@@ -207,6 +207,11 @@ impl Groups {
 /// A law: what groups stand for does not see the order of the rows.
 pub fn any_order()
     ensures { (g : GroupMap) (R Q : List SeenRow) → IsPermutation R Q → Stands g R → Stands g Q }
+{}
+
+/// A law: for any rows whose numbers are those of an `int` there are groups that stand for them.
+pub fn stands_for_any()
+    ensures { AnyRowsHaveGroups }
 {}
 
 /// The aggregates over no row, which the one group of a query without GROUP BY may be over.

@@ -41,5 +41,5 @@ mod store;
 mod table;
 pub mod totals;
 
-pub use groups::{Group, Groups, any_order, over_no_row};
+pub use groups::{Group, Groups, any_order, over_no_row, stands_for_any};
 pub use totals::Total;

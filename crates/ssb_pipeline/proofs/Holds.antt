@@ -81,6 +81,6 @@ gets r v w x q e f h = subst (GetsTicket r v) (sym e) (by r h)
           mine = ap (λ l. v.mine ++ l) new;
           follows = follows_after q x v.seen (ran-follows x q (out-ran (Some t) x q h)) f;
           handed = is-out t.morsel x q h.hands;
-          job = h.job ∙ sym (ap (λ (y : PartState). y.job) e);
-          size = h.size ∙ sym (ap (λ (y : PartState). y.size) e);
+          job = ap (λ (u : TicketState). u.job) h.ticket ∙ sym (ap (λ (y : PartState). y.job) e);
+          size = ap (λ (u : TicketState). u.size) h.ticket ∙ sym (ap (λ (y : PartState). y.size) e);
         }

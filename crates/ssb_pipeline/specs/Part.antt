@@ -125,11 +125,14 @@ pub record HasComeBack (b : Bool) (p : PartState) (t : TicketState) : Type 0 whe
   pub handed : IsHandedOut p t
   pub back : has p.returned t.morsel ≡ b
 
+-- the ticket that a part gives for a morsel
+abbrev pub ticket_of : PartState → ℕ → TicketState
+ticket_of p i = record { job = p.job; size = p.size; section = p.section; sections = p.sections; morsel = i }
+
 -- a ticket of the next morsel
 pub record HandsNext (t : TicketState) (p q : PartState) : Type 0 where
   pub hands : Hands t.morsel p q
-  pub job : AreOneJob t.job p.job
-  pub size : t.size ≡ p.size
+  pub ticket : t ≡ ticket_of p t.morsel
 
 -- no ticket: all is handed out, or a ticket was given up
 pub record HandsNone (p q : PartState) : Type 0 where

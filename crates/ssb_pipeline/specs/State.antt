@@ -5,10 +5,12 @@ use Rattle.ssb_job.specs.Kept.{AreOneJob, JobShape}
 use Rattle.ssb_groups.specs.Stands.{GroupMap, Stands}
 use Rattle.ssb_pipeline.specs.Joined.{morsel_rows, seen_in}
 
--- a morsel of a job that was handed out: its number, among morsels of this size
+-- a morsel of a job that was handed out: its number, among morsels of this size, and the section of so many that it lies in
 pub record TicketState : Type 0 where
   pub job : JobShape
   pub size : ℕ
+  pub section : ℕ
+  pub sections : ℕ
   pub morsel : ℕ
 
 -- a ticket, and groups

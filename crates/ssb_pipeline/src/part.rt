@@ -5,7 +5,7 @@ ghost use Rattle.std.specs.List.{range_with_len};
 ghost use Rattle.std.specs.Arc.{arc_value};
 ghost use Rattle.ssb_pipeline.specs.Joined.{morsel_rows};
 ghost use Rattle.ssb_pipeline.specs.Morsels.{morsel_cut};
-ghost use Rattle.ssb_pipeline.specs.Part.{GivesBack, GivesUp, Grows, HandsOut, IsBack, IsHandedOut, IsLawfulPart, IsOpening, IsWhole, Ran, Returns, has, ours};
+ghost use Rattle.ssb_pipeline.specs.Part.{GivesBack, GivesUp, Grows, HandsOut, IsBack, IsHandedOut, IsLawfulPart, IsOpening, IsWhole, Ran, Returns, has, ours, ticket_of};
 ghost use Rattle.ssb_job.specs.Kept.{AreOneJob};
 
 use crate::fault::ReturnFault;
@@ -117,6 +117,13 @@ impl Part {
         let _ = &self.next;
     }
 
+    // The ticket of a morsel of its section.
+    fn ticket_for(&self, morsel: u32) -> Ticket
+        ensures { result ≡ ticket_of self.now morsel }
+    {
+        Ticket::new(&self.job, self.size, self.section, self.sections, morsel)
+    }
+
     /// A ticket of the section's least morsel that was not handed out; none where all were, or a ticket
     /// was given up.
     pub fn hand_out(&mut self) -> Option<Ticket>
@@ -126,7 +133,7 @@ impl Part {
         if self.gave_up || self.next as usize == self.marks.len() {
             return None;
         }
-        let ticket = Ticket::new(&self.job, self.size, self.first + self.next);
+        let ticket = self.ticket_for(self.first + self.next);
         self.next += 1;
         Some(ticket)
     }
@@ -255,7 +262,7 @@ impl Part {
         let (first, end) = self.bounds();
         for morsel in first..end {
             if !self.is_back(morsel) {
-                let ticket = Ticket::new(&self.job, self.size, morsel);
+                let ticket = self.ticket_for(morsel);
                 self.bring_back(ticket)?;
                 self.lawful();
             }

@@ -6,12 +6,14 @@ use ssb_job::Job;
 use std::marker::Model;
 use std::snapshot::Snapshot;
 
-/// A morsel of a job that was handed out. It names the job in contracts alone, where it is a
-/// [`Snapshot`], which has no bytes.
+/// A morsel of a job that was handed out, and the section of so many whose part gave it. It names the job
+/// in contracts alone, where it is a [`Snapshot`], which has no bytes.
 #[derive(Drop)]
 pub struct Ticket {
     job: Snapshot<Job>,
     size: u32,
+    section: u32,
+    sections: u32,
     morsel: u32,
 }
 
@@ -25,17 +27,19 @@ impl Model for Ticket {
 
     ghost coded = { Prim.hlevel (codes, job_type.the_row.coded) };
 
-    ghost view = { λ t. record { job = t.job.value; size = t.size; morsel = t.morsel } };
+    ghost view = { λ t. record { job = t.job.value; size = t.size; section = t.section; sections = t.sections; morsel = t.morsel } };
 }
 
 impl Ticket {
-    // The ticket of this morsel, of so many rows, of a job.
-    pub(crate) fn new(job: &Job, size: u32, morsel: u32) -> Ticket
-        ensures { result ≡ record { job = job.now; size = size; morsel = morsel } }
+    // The ticket of this morsel, of so many rows, of a job, in this section of so many.
+    pub(crate) fn new(job: &Job, size: u32, section: u32, sections: u32, morsel: u32) -> Ticket
+        ensures { result ≡ record { job = job.now; size = size; section = section; sections = sections; morsel = morsel } }
     {
         Ticket {
             job: Snapshot::of(job),
             size,
+            section,
+            sections,
             morsel,
         }
     }

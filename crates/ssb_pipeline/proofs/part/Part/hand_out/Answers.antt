@@ -1,7 +1,7 @@
 use Rattle.std.proofs.Common.{◌≡◌, ◌∙◌, ◌<◌, ◌+◌, ℕ, true, inl, inr, length, refl, sym, ap, subst, arith}
 use Rattle.std.proofs.Math.Nat.{eq-or-lt_of_le}
 use Rattle.std.specs.Arc.{arc_value}
-use Rattle.ssb_pipeline.specs.Part.{Hands, PartState, hand, has, ours}
+use Rattle.ssb_pipeline.specs.Part.{Hands, PartState, hand, has, ours, ticket_of}
 use Rattle.ssb_pipeline.specs.State.{TicketState}
 use Rattle.ssb_pipeline.proofs.PartFacts.{all-handed, handed-kept, hands-next, state}
 use Rattle.ssb_pipeline.proofs.RunFacts.{ran_one, ran_self}
@@ -40,15 +40,14 @@ returns-clause-hands c =
     let lt : p.next < length p.marks.items = elim (eq-or-lt_of_le c.self.invariant.fits) [ inl e ↦ absurd (c.if-self-len.false (let n = c.len.ensures in omega (arith, e, n))) | inr l ↦ l ] in
     let hands = hands-next j p.size p.section p.sections p.first p.next p.back p.marks.items p.gave_up p.groups c.self.invariant lt c.if-self.false in
     let after = state j p.size p.section p.sections p.first (p.next + 1) p.marks.items p.gave_up p.groups in
-    let ticket = c.new-ticket.ensures in
+    let ticket = c.ticket_for-ticket.ensures in
     record {
       hands = subst (λ (t : TicketState). Hands t.morsel c.args.self.now after) (sym ticket) (subst (λ (q : PartState). Hands (p.first + p.next) q after) c.self.view_is hands);
-      job = ap (λ (t : TicketState). t.job) ticket ∙ c.deref.ensures ∙ ap (λ (q : PartState). q.job) c.self.view_is;
-      size = ap (λ (t : TicketState). t.size) ticket ∙ ap (λ (q : PartState). q.size) c.self.view_is;
+      ticket = ticket ∙ ap (λ (t : TicketState). ticket_of c.args.self.now t.morsel) (sym ticket);
     }
 
 pub returns-clause-ran : goal.returns-clause-ran
-returns-clause-ran c = ran_one (hand c.new-ticket.result.morsel) _ _ (returns-clause-hands c).hands
+returns-clause-ran c = ran_one (hand c.ticket_for-ticket.result.morsel) _ _ (returns-clause-hands c).hands
 
 pub invariant_of-self : goal.invariant_of-self
 invariant_of-self c =

@@ -11,9 +11,9 @@ loop-morsel-init c = begins c.args.self.now c.hand_out_all.new.self c.bounds-fir
 pub bring_back-requires-clause-handed : goal.bring_back-requires-clause-handed
 bring_back-requires-clause-handed c =
     let l = c.loop-morsel in
-    let ticket = c.new-ticket.ensures in
+    let ticket = c.ticket_for-ticket.ensures in
     record {
-      size = ap (λ (t : TicketState). t.size) ticket ∙ ap (λ (q : PartState). q.size) c.self.view_is;
+      size = ap (λ (t : TicketState). t.size) ticket;
       handed = subst (λ (t : TicketState). has l.self.handed t.morsel ≡ true) (sym ticket) (next-handed c.args.self.now l.self c.bounds-first.result.0 c.bounds-first.result.1 l.morsel l.invariant l.auto.morsel c.loop-morsel-test.true);
     }
 
@@ -26,7 +26,7 @@ loop-morsel-preserved c =
       | then-not-is_back+in_ok-bring_back w ↦
           subst (λ (q : PartState). IsSwept c.args.self.now q first end (l.morsel + 1)) (sym w.self-is)
           (goes-on c.args.self.now l.self w.bring_back.new.self first end l.morsel l.invariant
-          (subst (λ (t : TicketState). Returns t.morsel l.self w.bring_back.new.self) w.new-ticket.ensures w.in_ok-bring_back.ensures.back) w.lawful-then-not-is_back.ensures)
+          (subst (λ (t : TicketState). Returns t.morsel l.self w.bring_back.new.self) w.ticket_for-ticket.ensures w.in_ok-bring_back.ensures.back) w.lawful-then-not-is_back.ensures)
       | else-not-is_back w ↦
           subst (λ (q : PartState). IsSwept c.args.self.now q first end (l.morsel + 1)) (sym w.self-is)
           (passes c.args.self.now l.self first end l.morsel l.invariant (sym c.is_back.ensures ∙ w.if-not-is_back.false))
@@ -38,7 +38,7 @@ returns-clause-whole c =
     all-done c.args.self.now l.self c.bounds-first.result.0 c.bounds-first.result.1 l.morsel l.invariant c.bounds-first.ensures.order c.loop-morsel-test.false
 
 pub bring_back-requires-clause-one_job : goal.bring_back-requires-clause-one_job
-bring_back-requires-clause-one_job c = ap (λ (t : TicketState). t.job) c.new-ticket.ensures ∙ c.deref.ensures ∙ ap (λ (q : PartState). q.job) c.self.view_is
+bring_back-requires-clause-one_job c = ap (λ (t : TicketState). t.job) c.ticket_for-ticket.ensures
 
 pub returns-clause-ran : goal.returns-clause-ran
 returns-clause-ran c = c.loop-morsel.invariant.ran

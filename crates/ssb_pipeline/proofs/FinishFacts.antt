@@ -2,18 +2,17 @@
 use Rattle.std.proofs.Common.{◌≡◌, ◌≢◌, ◌∙◌, ◌++◌, ◌≤◌, ◌<◌, ◌+◌, ◌-◌, ◌^◌, inl, inr, true, ℕ, List, length, map, refl, sym, ap, subst, arith, length-append}
 use Rattle.std.specs.List.{range_with_len}
 use Rattle.std.proofs.lemmas.Bool.{cases_lt}
-use Rattle.std.proofs.lemmas.Grind.{flat_map-append}
-use Rattle.std.proofs.lemmas.List.{get_or-set_other, map-append}
+use Rattle.std.proofs.lemmas.List.{get_or-set_other}
 use Rattle.std.proofs.lemmas.List.FromFn.{length-range_with_len}
 use Rattle.std.proofs.lemmas.List.Sorted.{IsPermutation-map, IsPermutation-sym, length_permutation}
-use Rattle.ssb_job.specs.Kept.{JobShape, fact_rows, joined, kept}
+use Rattle.ssb_job.specs.Kept.{JobShape, fact_rows, kept}
 use Rattle.ssb_job.proofs.Whole as all_kept
 use Rattle.ssb_groups.specs.Seen.{seen}
 use Rattle.ssb_groups.specs.Stands.{GroupMap, Stands}
 use Rattle.ssb_groups.proofs.Permuted.{any_order}
 use Rattle.ssb_pipeline.specs.Finish.{IsMerged, section_of}
 use Rattle.ssb_pipeline.specs.Joined.{morsel_rows, seen_in}
-use Rattle.ssb_pipeline.specs.Morsels.{morsel, morsel_count, morsel_cut, row_cut, section}
+use Rattle.ssb_pipeline.specs.Morsels.{morsel_count, morsel_cut, row_cut, section}
 use Rattle.ssb_pipeline.specs.Part.{Grows, IsLawfulPart, IsWhole, PartState, ours}
 use Rattle.ssb_pipeline.specs.Pass.{IsPassOfParts, PartsState, PassState, known}
 use Rattle.ssb_pipeline.specs.Rule.{Knows, fresh}
@@ -21,7 +20,7 @@ use Rattle.ssb_pipeline.specs.State.{AreOver}
 use Rattle.ssb_pipeline.specs.Work.{OnlyIn}
 use Rattle.ssb_pipeline.proofs.Cuts.{all-pieces, range-append}
 use Rattle.ssb_pipeline.proofs.EveryRun.{all-rows}
-use Rattle.ssb_pipeline.proofs.JoinedFacts.{joined-append, rows-cons}
+use Rattle.ssb_pipeline.proofs.JoinedFacts.{rows-append, rows-cons, seen-append}
 use Rattle.ssb_pipeline.proofs.MorselFacts.{morsel-begins, morsel-end, morsel-rises, row-begins, row-rises}
 use Rattle.ssb_pipeline.proofs.RangeFacts.{distinct-range}
 use Rattle.ssb_pipeline.proofs.RunFacts.{whole}
@@ -40,14 +39,6 @@ of-grown p q g grows lawful all is few =
     let f = grows.follows in rw (f.job, f.size, f.section, f.sections) at over
 
 module _ (j : JobShape) (size : ℕ) where
-  rows-append : (is js : List ℕ) → morsel_rows j size (is ++ js) ≡ morsel_rows j size is ++ morsel_rows j size js
-  rows-append is js = flat_map-append (morsel (fact_rows j) size) is js
-
-  seen-append : (is js : List ℕ) → seen_in j size (is ++ js) ≡ seen_in j size is ++ seen_in j size js
-  seen-append is js =
-      ap (λ rs. map (seen j) (joined j rs)) (rows-append is js) ∙ ap (map (seen j)) (joined-append j (morsel_rows j size is) (morsel_rows j size js))
-      ∙ map-append (seen j) (joined j (morsel_rows j size is)) (joined j (morsel_rows j size js))
-
   -- the first so many morsels have no more rows than the fact table
   pub few-rows : (n : ℕ) → length (morsel_rows j size (range_with_len 0 n)) ≤ fact_rows j
   few-rows n =
@@ -61,7 +52,7 @@ module _ (j : JobShape) (size : ℕ) where
     both-ranges = sym (range-append 0 a (b - a) a b (omega arith) (omega (arith, order)))
 
     both-rows : length (morsel_rows j size (range_with_len 0 b)) ≡ length (morsel_rows j size (range_with_len 0 a)) + length (morsel_rows j size (range_with_len a (b - a)))
-    both-rows = ap length (ap (morsel_rows j size) both-ranges ∙ rows-append (range_with_len 0 a) (range_with_len a (b - a))) ∙ length-append (morsel_rows j size (range_with_len 0 a)) _
+    both-rows = ap length (ap (morsel_rows j size) both-ranges ∙ rows-append j size (range_with_len 0 a) (range_with_len a (b - a))) ∙ length-append (morsel_rows j size (range_with_len 0 a)) _
 
     -- groups over some first morsels and groups over the next count no more rows than the fact table has
     pub fits : (g h : GroupMap) → AreOver j size (range_with_len 0 a) g → AreOver j size (range_with_len a (b - a)) h → fact_rows j < 2 ^ 32 → g.counted + h.counted < 2 ^ 32
@@ -77,7 +68,7 @@ module _ (j : JobShape) (size : ℕ) where
         → IsMerged g h r → AreOver j size (range_with_len 0 b) r
     merged g h r over next m = record {
       job = m.job ∙ over.job;
-      stands = subst (Stands r) (sym (ap (seen_in j size) both-ranges ∙ seen-append (range_with_len 0 a) (range_with_len a (b - a)))) (m.stands _ _ over.stands next.stands);
+      stands = subst (Stands r) (sym (ap (seen_in j size) both-ranges ∙ seen-append j size (range_with_len 0 a) (range_with_len a (b - a)))) (m.stands _ _ over.stands next.stands);
       few = let e = both-rows in let f = over.few in let k = next.few in let c = m.counted in omega (arith, e, f, k, c);
     }
 

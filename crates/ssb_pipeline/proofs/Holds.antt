@@ -6,7 +6,7 @@ use Rattle.std.proofs.lemmas.Grind.{get_or-set_at}
 use Rattle.ssb_pipeline.specs.Part.{Follows, HandsOut, PartState, handed_between, has, ours}
 use Rattle.ssb_pipeline.specs.Pass.{HoldsNone, PassState, known, knowing}
 use Rattle.ssb_pipeline.specs.Rule.{Knows, fresh, knows, putter, taker}
-use Rattle.ssb_pipeline.specs.State.{TicketState}
+use Rattle.ssb_pipeline.specs.Tickets.{TicketState}
 use Rattle.ssb_pipeline.specs.Work.{GetsTicket, OnlyIn}
 use Rattle.ssb_pipeline.proofs.Later.{follows_after}
 use Rattle.ssb_pipeline.proofs.Passes.{all_knowing}

@@ -1,12 +1,13 @@
+pub mod BatchFacts
 pub mod Bringing
 pub mod Crossing
 pub mod CrossingJobs
 pub mod CrossingParts
 pub mod CrossingQueries
 pub mod Cuts
+pub mod Due
 pub mod EveryRun
 pub mod FinishFacts
-pub mod GivingBack
 pub mod Holds
 pub mod JoinedFacts
 pub mod Later

@@ -1,11 +1,12 @@
 -- The numbers of marked places.
-use Rattle.std.proofs.Common.{◌≡◌, ◌∙◌, ◌++◌, ◌∷◌, [], ◌≤◌, ◌<◌, ◌+◌, ◌||◌, ℕ, zero, suc, Bool, true, false, true≢false, nat_eq, List, length, None, Some, refl, sym, ap, subst, arith, append_assoc, length-append}
+use Rattle.std.proofs.Common.{◌≡◌, ◌∙◌, ◌++◌, ◌∷◌, [], ◌≤◌, ◌<◌, ◌+◌, ◌-◌, ◌||◌, ◌⊎◌, inl, inr, ℕ, zero, suc, Bool, true, false, true≢false, nat_eq, List, length, None, Some, refl, sym, ap, subst, arith, append_assoc, length-append}
 use Rattle.std.specs.Prelude.{slice_get, slice_set}
 use Rattle.std.specs.List.{AllByRecursion, IsDistinct, range_with_len}
 use Rattle.std.specs.List.Sorted.{IsPermutation}
 use Rattle.std.proofs.lemmas.Bool.{eqb-true, false_from_ne_true}
-use Rattle.std.proofs.lemmas.List.Sorted.{IsPermutation-append_comm, IsPermutation-append_right}
-use Rattle.ssb_pipeline.specs.Marks.{marked}
+use Rattle.std.proofs.lemmas.List.{append-nil, length-set}
+use Rattle.std.proofs.lemmas.List.Sorted.{IsPermutation-append_comm, IsPermutation-append_left, IsPermutation-append_right, IsPermutation-refl, IsPermutation-trans}
+use Rattle.ssb_pipeline.specs.Marks.{marked, with_marks}
 use Rattle.ssb_pipeline.specs.Part.{has}
 use Rattle.ssb_pipeline.proofs.RangeFacts.{itself}
 
@@ -71,6 +72,71 @@ distinct-marked a [] = tt
 distinct-marked a (true ∷ bs) = (none-same a (a + 1) bs (omega arith), distinct-marked (a + 1) bs)
 distinct-marked a (false ∷ bs) = distinct-marked (a + 1) bs
 
+-- ---- several marks
+
+-- the place of a number is not marked
+pub record IsFreePlace (a : ℕ) (bs : List Bool) (i : ℕ) : Type 0 where
+  pub from : a ≤ i
+  pub free : slice_get bs (i - a) ≡ Some false
+
+abbrev pub AreFree : ℕ → List Bool → List ℕ → Type 0
+AreFree a bs is = (i : ℕ) → has is i ≡ true → IsFreePlace a bs i
+
+set-other : (bs : List Bool) (p q : ℕ) (b : Bool) → (q ≡ p → ⊥) → slice_get (slice_set bs p b) q ≡ slice_get bs q
+set-other [] p q b n = refl
+set-other (x ∷ bs) zero zero b n = absurd (n refl)
+set-other (x ∷ bs) zero (suc q) b n = refl
+set-other (x ∷ bs) (suc p) zero b n = refl
+set-other (x ∷ bs) (suc p) (suc q) b n = set-other bs p q b (λ e. n (ap suc e))
+
+pub lacks-each : (i : ℕ) (is : List ℕ) → AllByRecursion (λ y. nat_eq i y ≡ false) is → (k : ℕ) → has is k ≡ true → k ≡ i → ⊥
+lacks-each i [] d k h e = true≢false (sym h)
+lacks-each i (x ∷ is) d k h e = by (λ r. lacks-each i is d.1 k r e) (nat_eq k x) refl h
+  where
+    by : (has is k ≡ true → ⊥) → (b : Bool) → nat_eq k x ≡ b → (b || has is k) ≡ true → ⊥
+    by rest true is_x r = true≢false (sym (itself i x (sym e ∙ eqb-true k x is_x)) ∙ d.0)
+    by rest false other r = rest r
+
+still-free : (a : ℕ) (bs : List Bool) (i : ℕ) (is : List ℕ) → AreFree a bs (i ∷ is) → AllByRecursion (λ y. nat_eq i y ≡ false) is → AreFree a (slice_set bs (i - a) true) is
+still-free a bs i is free d k h =
+    let f = free k (ap (λ b. nat_eq k i || b) h ∙ or-true (nat_eq k i)) in
+    let g = free i (ap (λ b. b || has is i) (itself i i refl)) in
+    let from = f.from in
+    let here = g.from in
+    record { from = from; free = set-other bs (i - a) (k - a) true (λ e. lacks-each i is d k h (omega (arith, e, from, here))) ∙ f.free }
+  where
+    or-true : (b : Bool) → (b || true) ≡ true
+    or-true true = refl
+    or-true false = refl
+
+pub length-with : (a : ℕ) (bs : List Bool) (is : List ℕ) → length (with_marks a bs is) ≡ length bs
+length-with a bs [] = refl
+length-with a bs (i ∷ is) = length-with a (slice_set bs (i - a) true) is ∙ length-set bs (i - a) true
+
+pub with-last : (a : ℕ) (bs : List Bool) (is : List ℕ) (i : ℕ) → with_marks a bs (is ++ i ∷ []) ≡ slice_set (with_marks a bs is) (i - a) true
+with-last a bs [] i = refl
+with-last a bs (x ∷ is) i = with-last a (slice_set bs (x - a) true) is i
+
+set-within : (bs : List Bool) (q r : ℕ) → slice_get (slice_set bs q true) r ≡ Some true → (r ≡ q) ⊎ (slice_get bs r ≡ Some true)
+set-within [] q r e = inr e
+set-within (b ∷ bs) zero zero e = inl refl
+set-within (b ∷ bs) zero (suc r) e = inr e
+set-within (b ∷ bs) (suc q) zero e = inr e
+set-within (b ∷ bs) (suc q) (suc r) e = elim (set-within bs q r e) [ inl same ↦ inl (ap (λ n. suc n) same) | inr there ↦ inr there ]
+
+-- what is marked then was marked, or is the place of one of them
+pub with-within : (a : ℕ) (bs : List Bool) (is : List ℕ) (r : ℕ) → slice_get (with_marks a bs is) r ≡ Some true → ((i : ℕ) × (has is i ≡ true) × (r ≡ i - a)) ⊎ (slice_get bs r ≡ Some true)
+with-within a bs [] r e = inr e
+with-within a bs (i ∷ is) r e =
+    elim (with-within a (slice_set bs (i - a) true) is r e) [
+      | inl some ↦ inl (some.0, ap (λ b. nat_eq some.0 i || b) some.1 ∙ or-true (nat_eq some.0 i), some.2)
+      | inr there ↦ elim (set-within bs (i - a) r there) [ inl same ↦ inl (i, ap (λ b. b || has is i) (itself i i refl), same) | inr before ↦ inr before ]
+    ]
+  where
+    or-true : (b : Bool) → (b || true) ≡ true
+    or-true true = refl
+    or-true false = refl
+
 -- ---- what is had of a list of numbers, number by number
 
 module _ {X : Type 0} (F : List ℕ → List X) (nil : F [] ≡ []) (cons : (i : ℕ) (is : List ℕ) → F (i ∷ is) ≡ F (i ∷ []) ++ F is) where
@@ -89,6 +155,20 @@ module _ {X : Type 0} (F : List ℕ → List X) (nil : F [] ≡ []) (cons : (i :
       let both = IsPermutation-append_right (F (a ∷ [])) (F (marked (a + 1) bs) ++ F (i ∷ [])) (F (marked (a + 1) (slice_set bs k true))) rest in
       subst (λ t. IsPermutation t (F (a ∷ marked (a + 1) (slice_set bs k true)))) (sym left) (subst (IsPermutation (F (a ∷ []) ++ (F (marked (a + 1) bs) ++ F (i ∷ [])))) (sym (cons a (marked (a + 1) (slice_set bs k true)))) both)
   one-more a (false ∷ bs) (suc k) i e h = one-more (a + 1) bs k i (omega (arith, e)) h
+
+  -- some places more are marked
+  pub many-more : (a : ℕ) (bs : List Bool) (is : List ℕ) → AreFree a bs is → IsDistinct nat_eq is → IsPermutation (F (marked a bs) ++ F is) (F (marked a (with_marks a bs is)))
+  unfolding IsDistinct
+  many-more a bs [] free d = subst (λ t. IsPermutation t (F (marked a bs))) (sym (ap (λ z. F (marked a bs) ++ z) nil ∙ append-nil (F (marked a bs)))) (IsPermutation-refl (F (marked a bs)))
+  many-more a bs (i ∷ is) free d =
+      let f = free i (ap (λ b. b || has is i) (itself i i refl)) in
+      let from = f.from in
+      let after = slice_set bs (i - a) true in
+      let one = one-more a bs (i - a) i (omega (arith, from)) f.free in
+      let rest = many-more a after is (still-free a bs i is free d.0) d.1 in
+      let both = IsPermutation-append_left (F is) (F (marked a bs) ++ F (i ∷ [])) (F (marked a after)) one in
+      let left : F (marked a bs) ++ F (i ∷ is) ≡ (F (marked a bs) ++ F (i ∷ [])) ++ F is = ap (λ z. F (marked a bs) ++ z) (cons i is) ∙ sym (append_assoc (F (marked a bs)) (F (i ∷ [])) (F is)) in
+      subst (λ t. IsPermutation t (F (marked a (with_marks a after is)))) (sym left) (IsPermutation-trans _ _ _ both rest)
 
   -- what is marked is no more than the whole
   pub no-more : (a : ℕ) (bs : List Bool) → length (F (marked a bs)) ≤ length (F (range_with_len a (length bs)))

@@ -1,23 +1,40 @@
 -- What a part's fields keep, and the part that contracts see.
-use Rattle.std.proofs.Common.{◌≡◌, ◌∙◌, ◌++◌, ◌∷◌, [], ◌≤◌, ◌<◌, ◌+◌, ◌-◌, ◌^◌, ◌⊎◌, inl, inr, ℕ, zero, suc, Bool, true, false, List, Some, length, refl, sym, ap, subst, arith, length-append}
-use Rattle.std.specs.Prelude.{slice_get, slice_set}
-use Rattle.std.specs.List.{range_with_len}
+use Rattle.std.proofs.Common.{◌≡◌, ◌∙◌, ◌++◌, ◌∷◌, [], ◌≤◌, ◌<◌, ◌+◌, ◌-◌, ◌^◌, inl, inr, ℕ, zero, suc, Bool, true, false, true≢false, nat_eq, List, Some, length, map, refl, sym, ap, subst, arith, length-append}
+use Rattle.std.specs.Prelude.{slice_get}
+use Rattle.std.specs.List.{All, IsDistinct, list_all, list_any, range_with_len}
 use Rattle.std.specs.List.Sorted.{IsPermutation}
 use Rattle.std.proofs.lemmas.List.FromFn.{length-range_with_len}
-use Rattle.std.proofs.lemmas.List.{length-set}
+use Rattle.std.proofs.lemmas.List.Elements.{All-head}
 use Rattle.std.proofs.lemmas.List.Sorted.{length_permutation}
 use Rattle.ssb_job.specs.Kept.{AreOneJob, JobShape, fact_rows}
 use Rattle.ssb_groups.specs.Rows.{SeenRow}
 use Rattle.ssb_groups.specs.Stands.{GroupMap, Stands}
 use Rattle.ssb_groups.proofs.Permuted.{any_order}
 use Rattle.ssb_pipeline.specs.Joined.{morsel_rows, seen_in}
-use Rattle.ssb_pipeline.specs.Marks.{IsKept, marked}
+use Rattle.ssb_pipeline.specs.Marks.{IsKept, marked, with_marks}
 use Rattle.ssb_pipeline.specs.Morsels.{morsel_count, morsel_cut, section}
-use Rattle.ssb_pipeline.specs.Part.{Hands, IsLawfulPart, PartState, Returns, has}
-use Rattle.ssb_pipeline.specs.State.{IsOfTicket, PartialState}
-use Rattle.ssb_pipeline.proofs.JoinedFacts.{rows-cons, seen-cons, seen-none}
-use Rattle.ssb_pipeline.proofs.MarkFacts.{distinct-marked, marked-lacks, no-more, one-more, place-of}
-use Rattle.ssb_pipeline.proofs.RangeFacts.{IsPlace, beyond-range, distinct-range, range-has, range-lacks, range-last, within-range}
+use Rattle.ssb_pipeline.specs.Part as event
+use Rattle.ssb_pipeline.specs.Part.{Hands, IsLawfulPart, PartState, Runs, has, is_handed_out}
+use Rattle.ssb_pipeline.specs.State.{AreOver, IsOfTickets, PartialState}
+use Rattle.ssb_pipeline.specs.Tickets.{morsels_of}
+use Rattle.ssb_pipeline.proofs.BatchFacts.{batch-apart, each-handed, none-back, of-each, sizes-are, twice-distinct}
+use Rattle.ssb_pipeline.proofs.JoinedFacts.{rows-cons, seen-append, seen-cons, seen-none}
+use Rattle.ssb_pipeline.proofs.MarkFacts.{AreFree, distinct-marked, length-with, many-more, marked-has, no-more, place-of, with-within}
+use Rattle.ssb_pipeline.proofs.RangeFacts.{beyond-range, distinct-range, range-has, range-lacks, range-last, within-range}
+use Rattle.ssb_pipeline.proofs.RunFacts.{returns-all}
+
+-- a place that is not marked
+unmarked : (a : ℕ) (bs : List Bool) (i : ℕ) → a ≤ i → i - a < length bs → has (marked a bs) i ≡ false → slice_get bs (i - a) ≡ Some false
+unmarked a bs i from below none = by (there bs (i - a) below)
+  where
+    there : (bs : List Bool) (p : ℕ) → p < length bs → (b : Bool) × (slice_get bs p ≡ Some b)
+    there [] p lt = absurd (omega (arith, lt))
+    there (b ∷ bs) zero lt = (b, refl)
+    there (b ∷ bs) (suc p) lt = there bs p (omega (arith, lt))
+
+    by : ((b : Bool) × (slice_get bs (i - a) ≡ Some b)) → slice_get bs (i - a) ≡ Some false
+    by (true, is) = absurd (true≢false (sym (marked-has a bs (i - a) i (omega (arith, from)) is) ∙ none))
+    by (false, is) = is
 
 module _ (j : JobShape) (size s k first : ℕ) where
   -- the part that contracts see
@@ -85,46 +102,68 @@ module _ (j : JobShape) (size s k first : ℕ) where
 
   -- ---- a partial that comes back
 
-  -- the part waits for it: its morsel was handed out, has the mark at this place, and is not back
-  pub record IsDue (next back : ℕ) (marks : List Bool) (g : GroupMap) (x : PartialState) (p : ℕ) : Type 0 where
+  -- the part waits for it: its morsels were handed out, and none of them is back
+  pub record IsDue (next back : ℕ) (marks : List Bool) (g : GroupMap) (x : PartialState) : Type 0 where
     pub kept : IsKept j size s k first next marks back g
-    pub place : IsPlace first next x.ticket.morsel p
-    pub free : slice_get marks p ≡ Some false
-    pub one : AreOneJob x.ticket.job j
-    pub same : x.ticket.size ≡ size
-    pub of : IsOfTicket x
+    pub handed : list_all (is_handed_out (state next marks false g)) x.tickets ≡ true
+    pub fresh : list_any (λ t. has (marked first marks) t.morsel) x.tickets ≡ false
+    pub one : All (λ t. AreOneJob t.job j) x.tickets
+    pub of : IsOfTickets x
 
-  module _ (next back : ℕ) (marks : List Bool) (g : GroupMap) (x : PartialState) (p : ℕ) (due : IsDue next back marks g x p) where
+  module _ (next back : ℕ) (marks : List Bool) (g : GroupMap) (x : PartialState) (due : IsDue next back marks g x) where
     abbrev h : IsKept j size s k first next marks back g
     h = due.kept
 
-    abbrev is : x.ticket.morsel ≡ first + p
-    is = due.place.is
-
-    abbrev lt : p < next
-    lt = due.place.below
-
-    abbrev free : slice_get marks p ≡ Some false
-    free = due.free
-
-    abbrev pub i : ℕ
-    i = x.ticket.morsel
+    abbrev pub is : List ℕ
+    is = morsels_of x.tickets
 
     abbrev pub after : List Bool
-    after = slice_set marks p true
+    after = with_marks first marks is
 
-    -- the rows of the morsel are those of the part's job
-    stands-here : Stands x.groups (seen_in j size (i ∷ []))
-    stands-here = rw (due.one, due.same) at due.of.over.stands
+    pub in-range : (i : ℕ) → has is i ≡ true → (first ≤ i) × (i < first + next)
+    in-range i m = within-range first next i (each-handed (state next marks false g) x.tickets due.handed i m)
 
-    few-here : x.groups.counted ≤ length (morsel_rows j size (i ∷ []))
-    few-here = rw (due.one, due.same) at due.of.over.few
+    -- each has its mark
+    pub marks-there : All (λ t. (first ≤ t.morsel) × (t.morsel - first < length marks)) x.tickets
+    marks-there = of-each (λ i. (first ≤ i) × (i - first < length marks)) x.tickets (λ i m.
+        let w = in-range i m in
+        let from = w.0 in
+        let below = w.1 in
+        let fits = h.fits in
+        (from, omega (arith, from, below, fits)))
 
-    rows-more : length (morsel_rows j size (marked first marks)) + length (morsel_rows j size (i ∷ [])) ≡ length (morsel_rows j size (marked first after))
-    rows-more = sym (length-append (morsel_rows j size (marked first marks)) (morsel_rows j size (i ∷ []))) ∙ sym (length_permutation _ _ (one-more (morsel_rows j size) refl (rows-cons j size) first marks p i is free))
+    pub free : AreFree first marks is
+    free i m =
+        let w = in-range i m in
+        let from = w.0 in
+        let below = w.1 in
+        let fits = h.fits in
+        record { from = from; free = unmarked first marks i from (omega (arith, from, below, fits)) (none-back (state next marks false g) x.tickets due.fresh i m) }
+
+    apart : IsDistinct nat_eq is
+    apart = twice-distinct is (batch-apart x.tickets due.of.batch)
+
+    some : 0 < length is
+    some = subst (λ ts. 0 < length (morsels_of ts)) (sym due.of.are) (omega arith)
+
+    first-job : due.of.first.job ≡ j
+    first-job = All-head (λ t. AreOneJob t.job j) due.of.first due.of.rest (subst (All (λ t. AreOneJob t.job j)) due.of.are due.one)
+
+    first-size : due.of.first.size ≡ size
+    first-size = sizes-are (state next marks false g) due.of.first due.of.rest (subst (λ ts. list_all (is_handed_out (state next marks false g)) ts ≡ true) due.of.are due.handed)
+
+    -- the groups are of the part's job
+    over : AreOver j size is x.groups
+    over = rw (first-job, first-size) at due.of.over
+
+    pub one-job : x.groups.job ≡ j
+    one-job = over.job
+
+    rows-more : length (morsel_rows j size (marked first marks)) + length (morsel_rows j size is) ≡ length (morsel_rows j size (marked first after))
+    rows-more = sym (length-append (morsel_rows j size (marked first marks)) (morsel_rows j size is)) ∙ sym (length_permutation _ _ (many-more (morsel_rows j size) refl (rows-cons j size) first marks is free apart))
 
     still : length after ≡ length marks
-    still = length-set marks p true
+    still = length-with first marks is
 
     rows-few : length (morsel_rows j size (marked first after)) < 2 ^ 32
     rows-few =
@@ -134,67 +173,59 @@ module _ (j : JobShape) (size s k first : ℕ) where
 
     -- there is room in a count of rows
     pub few-both : g.counted + x.groups.counted < 2 ^ 32
-    few-both = let a = h.few in let b = few-here in let m = rows-more in let r = rows-few in omega (arith, a, b, m, r)
+    few-both = let a = h.few in let b = over.few in let m = rows-more in let r = rows-few in omega (arith, a, b, m, r)
 
-    count-more : back + 1 ≡ length (marked first after)
+    count-more : back + length is ≡ length (marked first after)
     count-more =
-        let e = sym (length_permutation _ _ (one-more (λ is. is) refl (λ i is. refl) first marks p i is free)) in
-        let l = length-append (marked first marks) (i ∷ []) in
+        let e = sym (length_permutation _ _ (many-more (λ ns. ns) refl (λ i ns. refl) first marks is free apart)) in
+        let l = length-append (marked first marks) is in
         let c = h.came in
         omega (arith, e, l, c)
 
-    pub back-few : back + 1 < 2 ^ 32
+    pub back-few : back + length is < 2 ^ 32
     back-few =
         let c = count-more in
-        let m = no-more (λ is. is) refl (λ i is. refl) first after in
+        let m = no-more (λ ns. ns) refl (λ i ns. refl) first after in
         let l = length-range_with_len first (length after) in
         let b = h.bound in
         let e = still in
         omega (arith, c, m, l, b, e)
 
-    pub perm : IsPermutation (marked first marks ++ i ∷ []) (marked first after)
-    perm = one-more (λ is. is) refl (λ i is. refl) first marks p i is free
+    perm : IsPermutation (marked first marks ++ is) (marked first after)
+    perm = many-more (λ ns. ns) refl (λ i ns. refl) first marks is free apart
 
-    pub stands-more : (n : GroupMap) → ((A B : List SeenRow) → Stands g A → Stands x.groups B → Stands n (A ++ B)) → Stands n (seen_in j size (marked first after))
-    stands-more n merges =
-        any_order n (seen_in j size (marked first marks) ++ seen_in j size (i ∷ [])) (seen_in j size (marked first after)) (one-more (seen_in j size) (seen-none j size) (seen-cons j size) first marks p i is free)
-        (merges (seen_in j size (marked first marks)) (seen_in j size (i ∷ [])) h.stands stands-here)
+    module _ (n : GroupMap) (merges : (A B : List SeenRow) → Stands g A → Stands x.groups B → Stands n (A ++ B)) where
+      both : Stands n (seen_in j size (marked first marks) ++ seen_in j size is)
+      both = merges (seen_in j size (marked first marks)) (seen_in j size is) h.stands over.stands
 
-    within : (bs : List Bool) (q r : ℕ) → slice_get (slice_set bs q true) r ≡ Some true → (r ≡ q) ⊎ (slice_get bs r ≡ Some true)
-    within [] q r e = inr e
-    within (b ∷ bs) zero zero e = inl refl
-    within (b ∷ bs) zero (suc r) e = inr e
-    within (b ∷ bs) (suc q) zero e = inr e
-    within (b ∷ bs) (suc q) (suc r) e = elim (within bs q r e) [ inl same ↦ inl (ap (λ n. suc n) same) | inr there ↦ inr there ]
+      stands-more : Stands n (seen_in j size (marked first after))
+      stands-more = any_order n _ (seen_in j size (marked first after)) (many-more (seen_in j size) (seen-none j size) (seen-cons j size) first marks is free apart) both
 
-    -- the part's fields keep what they keep with one mark more
-    pub kept-more : (n : GroupMap) → n.job ≡ g.job → n.counted ≡ g.counted + x.groups.counted → ((A B : List SeenRow) → Stands g A → Stands x.groups B → Stands n (A ++ B))
-        → IsKept j size s k first next after (back + 1) n
-    kept-more n job counted merges =
-        let e = still in
-        let fits = h.fits in
-        let bound = h.bound in
-        record {
-          many = h.many;
-          begins = h.begins;
-          ends = ap (λ m. first + m) e ∙ h.ends;
-          fits = omega (arith, e, fits);
-          below = λ q at. elim (within marks p q at) [ inl same ↦ subst (λ m. m < next) (sym same) lt | inr there ↦ h.below q there ];
-          came = count-more;
-          job = job ∙ h.job;
-          stands = stands-more n merges;
-          few = let a = h.few in let b = few-here in let m = rows-more in omega (arith, counted, a, b, m);
-          bound = omega (arith, e, bound);
-          room = subst (λ m. length (morsel_rows j size (range_with_len first m)) < 2 ^ 32) (sym e) h.room;
-        }
+      -- the part's fields keep what they keep with these marks more
+      pub kept-more : n.job ≡ g.job → n.counted ≡ g.counted + x.groups.counted → IsKept j size s k first next after (back + length is) n
+      kept-more job counted =
+          let e = still in
+          let fits = h.fits in
+          let bound = h.bound in
+          record {
+            many = h.many;
+            begins = h.begins;
+            ends = ap (λ m. first + m) e ∙ h.ends;
+            fits = omega (arith, e, fits);
+            below = λ q at. elim (with-within first marks is q at) [
+              | inl new ↦ let w = in-range new.0 new.1 in let from = w.0 in let less = w.1 in let place = new.2 in omega (arith, from, less, place)
+              | inr there ↦ h.below q there
+            ];
+            came = count-more;
+            job = job ∙ h.job;
+            stands = stands-more;
+            few = let a = h.few in let b = over.few in let m = rows-more in omega (arith, counted, a, b, m);
+            bound = omega (arith, e, bound);
+            room = subst (λ m. length (morsel_rows j size (range_with_len first m)) < 2 ^ 32) (sym e) h.room;
+          }
 
-    -- the morsel comes back
-    pub comes-back : (gave : Bool) (n : GroupMap) → n.job ≡ g.job → ((A B : List SeenRow) → Stands g A → Stands x.groups B → Stands n (A ++ B)) → Returns i (state next marks gave g) (state next after gave n)
-    comes-back gave n job merges = record {
-      handed = range-has first next i (omega (arith, is)) (omega (arith, is, lt));
-      fresh = marked-lacks first marks p i is free;
-      returned = perm;
-      job = job ∙ h.job;
-      stands = stands-more n merges;
-      after = refl;
-    }
+      -- the morsels come back
+      pub comes-back : (gave : Bool) → n.job ≡ g.job → Runs (map event.back is) (state next marks gave g) (state next after gave n)
+      comes-back gave job =
+          returns-all is (state next marks gave g) (state next after gave n) some (λ i m. each-handed (state next marks false g) x.tickets due.handed i m) (λ i m. none-back (state next marks false g) x.tickets due.fresh i m) apart perm (job ∙ h.job) stands-more
+          (subst (Stands n) (sym (seen-append j size (marked first marks) is)) both) refl

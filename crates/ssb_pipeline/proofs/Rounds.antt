@@ -6,7 +6,7 @@ use Rattle.std.proofs.lemmas.List.Elements.{All-nil, All-append, All-push, All-w
 use Rattle.ssb_pipeline.specs.Part.{has}
 use Rattle.ssb_pipeline.specs.Rule.{Knows, fresh}
 use Rattle.ssb_pipeline.specs.Pass.{AllSections, PartsState, PassState, known, knowing}
-use Rattle.ssb_pipeline.specs.State.{TicketState}
+use Rattle.ssb_pipeline.specs.Tickets.{TicketState}
 use Rattle.ssb_pipeline.specs.Work.{AllBack, Brings, GetsTicket, IsExhausted, IsReady, IsRound, OnlyIn, StaysReady}
 use Rattle.ssb_pipeline.proofs.Later.{follows_self, follows_after}
 use Rattle.ssb_pipeline.proofs.Passes.{all_knowing, all_but_one}

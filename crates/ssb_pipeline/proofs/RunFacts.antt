@@ -1,20 +1,25 @@
 -- Core runs.
-use Rattle.std.proofs.Common.{◌≡◌, ◌∙◌, ◌++◌, ◌∷◌, [], ℕ, Bool, true, false, true≢false, List, nat_eq, Option, None, Some, Result, Ok, Err, inl, inr, refl, sym, ap, subst}
+use Rattle.std.proofs.Common.{◌≡◌, ◌∙◌, ◌++◌, ◌∷◌, [], ◌<◌, ◌||◌, ℕ, Bool, true, false, true≢false, List, length, map, nat_eq, append_assoc, arith, Option, None, Some, Result, Ok, Err, inl, inr, refl, sym, ap, subst}
 use Rattle.std.specs.Prelude.{⊤}
 use Rattle.std.specs.List.{IsDistinct}
-use Rattle.std.proofs.lemmas.Bool.{eqb-true}
-use Rattle.std.proofs.lemmas.List.Sorted.{list_any-IsPermutation}
+use Rattle.std.proofs.lemmas.Bool.{eqb-true, false_from_ne_true}
+use Rattle.std.specs.List.Sorted.{IsPermutation}
+use Rattle.std.proofs.lemmas.List.Sorted.{IsPermutation-refl, list_any-IsPermutation}
 use Rattle.std.proofs.lemmas.Map.Keys.{IsDistinct-IsPermutation}
-use Rattle.ssb_job.specs.Kept.{JobShape}
-use Rattle.ssb_groups.specs.Stands.{Stands}
+use Rattle.ssb_job.specs.Kept.{AreOneJob, JobShape}
+use Rattle.ssb_groups.specs.Rows.{SeenRow}
+use Rattle.ssb_groups.specs.Stands.{AreRanged, Stands}
+use Rattle.ssb_groups.proofs.AnyRows.{stands_for_any}
 use Rattle.ssb_groups.proofs.Permuted.{any_order}
 use Rattle.ssb_pipeline.specs.Joined.{seen_in}
 use Rattle.ssb_pipeline.specs.Part.{Event, Follows, GivesBack, GivesUp, Hands, HandsAll, HandsOut, Happens, IsLawfulPart, IsOpening, IsReached, PartState, Ran, Returns, Runs, RunsLoseNothing, RunsStayLawful, WholeSectionsStand, back, give_up, hand, hand_all, has, ours}
-use Rattle.ssb_pipeline.specs.State.{PartialState, TicketState}
+use Rattle.ssb_pipeline.specs.State.{PartialState}
+use Rattle.ssb_pipeline.specs.Tickets.{TicketState, morsels_of}
 use Rattle.ssb_pipeline.specs.declared.fault.ReturnFault.{ReturnFault}
 use Rattle.ssb_pipeline.specs.declared.fault.ReturnFault.TheVariants as fault
-use Rattle.ssb_pipeline.proofs.JoinedFacts.{seen-cons, seen-none}
+use Rattle.ssb_pipeline.proofs.JoinedFacts.{seen-append, seen-cons, seen-none}
 use Rattle.ssb_pipeline.proofs.Later.{back-follows, follows_after, follows_self, give-up-follows, hand-follows, sweep-follows}
+use Rattle.ssb_pipeline.proofs.MarkFacts.{lacks-each}
 use Rattle.ssb_pipeline.proofs.RangeFacts.{distinct-range, itself}
 use Rattle.ssb_pipeline.proofs.SetFacts.{distinct-last, has-last, has-left, same-set}
 
@@ -43,7 +48,7 @@ out-ran None p q h = same-ran p q h.same
 out-ran (Some t) p q h = ran_one (hand t.morsel) p q h.hands
 
 pub back-ran : (x : PartialState) (r : Result ⊤ ReturnFault) (p q : PartState) → GivesBack p x r q → Ran p q
-back-ran x (Ok u) p q h = ran_one (back x.ticket.morsel) p q h.returns
+back-ran x (Ok u) p q h = record { events = map back (morsels_of x.tickets); runs = h.returns }
 back-ran x (Err (fault.NotHandedOut y)) p q h = same-ran p q h.same
 back-ran x (Err (fault.Doubled y)) p q h = same-ran p q h.same
 back-ran x (Err (fault.Memory y)) p q h = same-ran p q h.same
@@ -154,3 +159,62 @@ pub whole : WholeSectionsStand
 whole p l all =
     any_order p.groups (seen_in p.job p.size p.returned) (seen_in p.job p.size (ours p))
     (same-set (seen_in p.job p.size) (seen-none p.job p.size) (seen-cons p.job p.size) p.returned (ours p) l.returned (distinct-range _ _) (λ i h. l.within i (l.among i h)) all) l.stands
+
+-- ---- several numbers that come back, one after the other
+
+ranged-left : (xs ys : List SeenRow) → AreRanged (xs ++ ys) → AreRanged xs
+ranged-left [] ys h = tt
+ranged-left (x ∷ xs) ys h = (h.0, ranged-left xs ys h.1)
+
+-- where the groups stand for those before and all of these, and none of these was back
+pub returns-all : (is : List ℕ) (p q : PartState) → 0 < length is → ((i : ℕ) → has is i ≡ true → has p.handed i ≡ true) → ((i : ℕ) → has is i ≡ true → has p.returned i ≡ false) → IsDistinct nat_eq is
+    → IsPermutation (p.returned ++ is) q.returned → AreOneJob q.groups.job q.job → Stands q.groups (seen_in q.job q.size q.returned) → Stands q.groups (seen_in p.job p.size (p.returned ++ is)) → q ≡ record p { returned = q.returned; groups = q.groups }
+    → Runs (map back is) p q
+unfolding IsDistinct
+returns-all [] p q some handed fresh d perm job stands all after = absurd (omega (arith, some))
+returns-all (i ∷ []) p q some handed fresh d perm job stands all after = (
+  q,
+  record {
+    handed = handed i (head i []);
+    fresh = fresh i (head i []);
+    returned = perm;
+    job = job;
+    stands = stands;
+    after = after;
+  },
+  refl,
+)
+  where
+    head : (x : ℕ) (xs : List ℕ) → has (x ∷ xs) x ≡ true
+    head x xs = ap (λ b. b || has xs x) (itself x x refl)
+returns-all (i ∷ k ∷ is) p q some handed fresh d perm job stands all after =
+    let on : (p.returned ++ i ∷ []) ++ k ∷ is ≡ p.returned ++ i ∷ k ∷ is = append_assoc p.returned (i ∷ []) (k ∷ is) in
+    let rows : seen_in p.job p.size (p.returned ++ i ∷ k ∷ is) ≡ seen_in p.job p.size (p.returned ++ i ∷ []) ++ seen_in p.job p.size (k ∷ is) = ap (seen_in p.job p.size) (sym on) ∙ seen-append p.job p.size (p.returned ++ i ∷ []) (k ∷ is) in
+    let some_groups = stands_for_any p.job (seen_in p.job p.size (p.returned ++ i ∷ [])) (ranged-left _ _ (subst AreRanged rows all.ranged)) in
+    let m : PartState = record p { returned = p.returned ++ i ∷ []; groups = some_groups.groups } in
+    let first : Returns i p m = record {
+      handed = handed i (head i (k ∷ is));
+      fresh = fresh i (head i (k ∷ is));
+      returned = IsPermutation-refl (p.returned ++ i ∷ []);
+      job = some_groups.job;
+      stands = some_groups.stands;
+      after = refl;
+    } in (
+      m,
+      first,
+      returns-all (k ∷ is) m q (omega arith) (λ n h. handed n (behind i (k ∷ is) n h)) (λ n h. fresh-still n (fresh n (behind i (k ∷ is) n h)) (lacks-each i (k ∷ is) d.0 n h)) d.1
+          (subst (λ xs. IsPermutation xs q.returned) (sym on) perm) job stands (subst (λ xs. Stands q.groups (seen_in p.job p.size xs)) (sym on) all) after,
+    )
+  where
+    head : (x : ℕ) (xs : List ℕ) → has (x ∷ xs) x ≡ true
+    head x xs = ap (λ b. b || has xs x) (itself x x refl)
+
+    or-true : (b : Bool) → (b || true) ≡ true
+    or-true true = refl
+    or-true false = refl
+
+    behind : (x : ℕ) (xs : List ℕ) (n : ℕ) → has xs n ≡ true → has (x ∷ xs) n ≡ true
+    behind x xs n h = ap (λ b. nat_eq n x || b) h ∙ or-true (nat_eq n x)
+
+    fresh-still : (n : ℕ) → has p.returned n ≡ false → (n ≡ i → ⊥) → has (p.returned ++ i ∷ []) n ≡ false
+    fresh-still n old other = false_from_ne_true (has (p.returned ++ i ∷ []) n) (λ h. elim (has-last p.returned i n h) [ inl there ↦ true≢false (sym there ∙ old) | inr same ↦ other same ])

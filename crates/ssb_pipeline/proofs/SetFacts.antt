@@ -138,6 +138,21 @@ module _ {X : Type 0} (F : List ℕ → List X) (nil : F [] ≡ []) (cons : (i :
   joined [] ys = sym (ap (λ t. t ++ F ys) nil)
   joined (x ∷ xs) ys = cons x (xs ++ ys) ∙ ap (λ t. F (x ∷ []) ++ t) (joined xs ys) ∙ sym (append_assoc (F (x ∷ [])) (F xs) (F ys)) ∙ ap (λ t. t ++ F ys) (sym (cons x xs))
 
+  -- what is had of different numbers is no more than what is had of others that have them all
+  pub no-more-of : (xs ys : List ℕ) → IsDistinct nat_eq xs → ((i : ℕ) → has xs i ≡ true → has ys i ≡ true) → length (F xs) ≤ length (F ys)
+  unfolding IsDistinct
+  no-more-of [] ys d to = let none = ap length nil in omega (arith, none)
+  no-more-of (x ∷ xs) ys d to =
+      let s = split ys x (to x (head-has x xs)) in
+      let gone = none-has x xs d.0 in
+      let rest = no-more-of xs (s.left ++ s.right) d.1 (λ i h. without s.left s.right x i (not-there xs x i gone h) (subst (λ zs. has zs i ≡ true) s.is (to i (tail-has x xs i h)))) in
+      let here = ap length (cons x xs) ∙ length-append (F (x ∷ [])) (F xs) in
+      let apart = ap length (joined s.left (x ∷ s.right)) ∙ length-append (F s.left) (F (x ∷ s.right)) in
+      let one = ap length (cons x s.right) ∙ length-append (F (x ∷ [])) (F s.right) in
+      let others = ap length (joined s.left s.right) ∙ length-append (F s.left) (F s.right) in
+      let all = ap (λ zs. length (F zs)) s.is in
+      omega (arith, rest, here, apart, one, others, all)
+
   moved : (A B C : List X) → IsPermutation (A ++ (B ++ C)) (B ++ (A ++ C))
   moved A B C =
       let both = IsPermutation-append_left C (A ++ B) (B ++ A) (IsPermutation-append_comm A B) in

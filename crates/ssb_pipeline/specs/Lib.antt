@@ -1,6 +1,7 @@
 pub mod Morsels
 pub mod Joined
 pub mod State
+pub mod Tickets
 pub mod Part
 pub mod Probed
 pub mod Marks

@@ -1,6 +1,6 @@
 -- How a part keeps what came back: a mark for each morsel of its section.
 -- For the contracts inside this crate.
-use Rattle.std.specs.Prelude.{◌≡◌, ◌≤◌, ◌<◌, ◌+◌, ◌^◌, ℕ, Bool, true, false, List, [], ◌∷◌, length, slice_get, Some}
+use Rattle.std.specs.Prelude.{◌≡◌, ◌≤◌, ◌<◌, ◌+◌, ◌-◌, ◌^◌, ℕ, Bool, true, false, List, [], ◌∷◌, length, slice_get, slice_set, Some}
 use Rattle.std.specs.List.{range_with_len}
 use Rattle.ssb_job.specs.Kept.{AreOneJob, JobShape, fact_rows}
 use Rattle.ssb_groups.specs.Stands.{GroupMap, Stands}
@@ -12,6 +12,11 @@ abbrev pub marked : ℕ → List Bool → List ℕ
 marked a [] = []
 marked a (true ∷ bs) = a ∷ marked (a + 1) bs
 marked a (false ∷ bs) = marked (a + 1) bs
+
+-- the marks with those of these numbers set, where the first mark is that of a
+abbrev pub with_marks : ℕ → List Bool → List ℕ → List Bool
+with_marks a bs [] = bs
+with_marks a bs (i ∷ is) = with_marks a (slice_set bs (i - a) true) is
 
 -- what a part's fields keep: the job, the size of a morsel, the section and how many there are, the section's first morsel, how many were handed out, the marks, how many are set, and the groups
 pub record IsKept (j : JobShape) (size s k first next : ℕ) (marks : List Bool) (back : ℕ) (g : GroupMap) : Type 0 where

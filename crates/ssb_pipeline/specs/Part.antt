@@ -1,14 +1,15 @@
 -- One section's part of the work: what was handed out, what came back, and the groups over what came back. And a core run: the events that change a part.
 -- Source: own. It knows no marks and no counters.
-use Rattle.std.specs.Prelude.{◌≡◌, ◌≤◌, ◌<◌, ◌++◌, ◌∷◌, [], ◌⊎◌, ℕ, Bool, true, false, not, nat_eq, List, length, map, Option, None, Some, Result, Ok, Err, ⊤}
-use Rattle.std.specs.List.{IsDistinct, filter, list_any}
+use Rattle.std.specs.Prelude.{◌≡◌, ◌≤◌, ◌<◌, ◌++◌, ◌∷◌, [], ◌⊎◌, ◌&&◌, ℕ, Bool, true, false, not, nat_eq, List, length, map, Option, None, Some, Result, Ok, Err, ⊤}
+use Rattle.std.specs.List.{IsDistinct, filter, list_all, list_any}
 use Rattle.std.specs.List.Sorted.{IsPermutation}
 use Rattle.ssb_job.specs.Kept.{AreOneJob, JobShape, fact_rows, kept}
 use Rattle.ssb_groups.specs.Seen.{seen}
 use Rattle.ssb_groups.specs.Stands.{GroupMap, Stands}
 use Rattle.ssb_pipeline.specs.Joined.{seen_in}
 use Rattle.ssb_pipeline.specs.Morsels.{morsel_count, section}
-use Rattle.ssb_pipeline.specs.State.{PartialState, TicketState}
+use Rattle.ssb_pipeline.specs.State.{PartialState}
+use Rattle.ssb_pipeline.specs.Tickets.{TicketState, morsels_of}
 use Rattle.ssb_pipeline.specs.declared.fault.ReturnFault.{ReturnFault}
 use Rattle.ssb_pipeline.specs.declared.fault.ReturnFault.TheVariants as fault
 
@@ -113,55 +114,6 @@ pub record Grows (p q : PartState) : Type 0 where
 abbrev pub handed_between : PartState → PartState → List ℕ
 handed_between old new = filter (λ i. not (has old.handed i)) new.handed
 
--- ---- calls
-
--- a ticket is for a morsel that the part handed out
-pub record IsHandedOut (p : PartState) (t : TicketState) : Type 0 where
-  pub size : t.size ≡ p.size
-  pub handed : has p.handed t.morsel ≡ true
-
--- of such a ticket, whether its morsel came back
-pub record HasComeBack (b : Bool) (p : PartState) (t : TicketState) : Type 0 where
-  pub handed : IsHandedOut p t
-  pub back : has p.returned t.morsel ≡ b
-
--- the ticket that a part gives for a morsel
-abbrev pub ticket_of : PartState → ℕ → TicketState
-ticket_of p i = record { job = p.job; size = p.size; section = p.section; sections = p.sections; morsel = i }
-
--- a ticket of the next morsel
-pub record HandsNext (t : TicketState) (p q : PartState) : Type 0 where
-  pub hands : Hands t.morsel p q
-  pub ticket : t ≡ ticket_of p t.morsel
-
--- no ticket: all is handed out, or a ticket was given up
-pub record HandsNone (p q : PartState) : Type 0 where
-  pub same : q ≡ p
-  pub ended : (p.gave_up ≡ true) ⊎ IsAllHanded p
-
--- what handing out answers
-abbrev pub HandsOut : PartState → Option TicketState → PartState → Type 0
-HandsOut p None q = HandsNone p q
-HandsOut p (Some t) q = HandsNext t p q
-
--- a partial is taken
-pub record IsTaken (x : PartialState) (p q : PartState) : Type 0 where
-  pub handed : IsHandedOut p x.ticket
-  pub returns : Returns x.ticket.morsel p q
-
--- a partial is refused, for a reason: the part is as before, and the partial comes back
-pub record IsRefused (Reason : Type 0) (x y : PartialState) (p q : PartState) : Type 0 where
-  pub reason : Reason
-  pub partial : y ≡ x
-  pub same : q ≡ p
-
--- what giving back answers, exactly where: the partial is refused where the part handed out no such ticket, else where its morsel came back before; else it is taken, or memory is refused
-abbrev pub GivesBack : PartState → PartialState → Result ⊤ ReturnFault → PartState → Type 0
-GivesBack p x (Ok u) q = IsTaken x p q
-GivesBack p x (Err (fault.NotHandedOut y)) q = IsRefused (IsHandedOut p x.ticket → ⊥) x y p q
-GivesBack p x (Err (fault.Doubled y)) q = IsRefused (HasComeBack true p x.ticket) x y p q
-GivesBack p x (Err (fault.Memory y)) q = IsRefused (HasComeBack false p x.ticket) x y p q
-
 -- ---- core runs
 
 pub data Event : Type 0 where
@@ -191,6 +143,58 @@ pub record IsReached (p : PartState) : Type 0 where
   pub opening : PartState
   pub empty : IsOpening p.job p.size p.section p.sections opening
   pub ran : Ran opening p
+
+-- ---- calls
+
+-- whether a ticket is for a morsel that the part handed out
+abbrev pub is_handed_out : PartState → TicketState → Bool
+is_handed_out p t = nat_eq t.size p.size && has p.handed t.morsel
+
+-- all of some tickets are
+abbrev pub AreHandedOut : PartState → List TicketState → Type 0
+AreHandedOut p ts = list_all (is_handed_out p) ts ≡ true
+
+-- of such tickets, whether the morsel of some came back
+pub record HaveComeBack (b : Bool) (p : PartState) (ts : List TicketState) : Type 0 where
+  pub handed : AreHandedOut p ts
+  pub back : list_any (λ t. has p.returned t.morsel) ts ≡ b
+
+-- the ticket that a part gives for a morsel
+abbrev pub ticket_of : PartState → ℕ → TicketState
+ticket_of p i = record { job = p.job; size = p.size; section = p.section; sections = p.sections; morsel = i }
+
+-- a ticket of the next morsel
+pub record HandsNext (t : TicketState) (p q : PartState) : Type 0 where
+  pub hands : Hands t.morsel p q
+  pub ticket : t ≡ ticket_of p t.morsel
+
+-- no ticket: all is handed out, or a ticket was given up
+pub record HandsNone (p q : PartState) : Type 0 where
+  pub same : q ≡ p
+  pub ended : (p.gave_up ≡ true) ⊎ IsAllHanded p
+
+-- what handing out answers
+abbrev pub HandsOut : PartState → Option TicketState → PartState → Type 0
+HandsOut p None q = HandsNone p q
+HandsOut p (Some t) q = HandsNext t p q
+
+-- a partial is taken: the morsels of its tickets come back, one after the other
+pub record IsTaken (x : PartialState) (p q : PartState) : Type 0 where
+  pub handed : AreHandedOut p x.tickets
+  pub returns : Runs (map back (morsels_of x.tickets)) p q
+
+-- a partial is refused, for a reason: the part is as before, and the partial comes back
+pub record IsRefused (Reason : Type 0) (x y : PartialState) (p q : PartState) : Type 0 where
+  pub reason : Reason
+  pub partial : y ≡ x
+  pub same : q ≡ p
+
+-- what giving back answers, exactly where: the partial is refused where the part did not hand out all of its tickets, else where the morsel of one came back before; else it is taken whole, or memory is refused
+abbrev pub GivesBack : PartState → PartialState → Result ⊤ ReturnFault → PartState → Type 0
+GivesBack p x (Ok u) q = IsTaken x p q
+GivesBack p x (Err (fault.NotHandedOut y)) q = IsRefused (list_all (is_handed_out p) x.tickets ≡ false) x y p q
+GivesBack p x (Err (fault.Doubled y)) q = IsRefused (HaveComeBack true p x.tickets) x y p q
+GivesBack p x (Err (fault.Memory y)) q = IsRefused (HaveComeBack false p x.tickets) x y p q
 
 -- ---- laws
 

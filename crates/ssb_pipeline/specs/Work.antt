@@ -2,10 +2,11 @@
 -- Source: own.
 use Rattle.std.specs.Prelude.{◌≡◌, ℕ, ◌<◌, true, List, [], ◌∷◌, ◌++◌, ◌⊎◌, length, All, None, Some, Option, Result, Ok, Err}
 use Rattle.ssb_job.specs.Kept.{AreOneJob}
-use Rattle.ssb_pipeline.specs.Part.{Follows, IsAllHanded, PartState, Ran, has}
+use Rattle.ssb_pipeline.specs.Part.{Follows, IsAllHanded, PartState, Ran, has, is_handed_out}
 use Rattle.ssb_pipeline.specs.Pass.{AllSections, HoldsNone, IsPassOfParts, PartsState, PassState, known, knowing}
 use Rattle.ssb_pipeline.specs.Rule.{Knows}
-use Rattle.ssb_pipeline.specs.State.{PartialState, TicketState}
+use Rattle.ssb_pipeline.specs.State.{PartialState}
+use Rattle.ssb_pipeline.specs.Tickets.{TicketState}
 
 -- each of these numbers came back
 abbrev pub AllBack : List ℕ → PartState → Type 0
@@ -65,16 +66,31 @@ GetsTicket (Some t) v w = GetsOne t v w
 abbrev pub IsSettled : ℕ → PartState → Type 0
 IsSettled i p = (p.gave_up ≡ true) ⊎ (has p.returned i ≡ true)
 
--- the morsel of what comes back: groups over it, or its ticket
-abbrev pub morsel_of : Result PartialState TicketState → ℕ
-morsel_of (Ok x) = x.ticket.morsel
-morsel_of (Err t) = t.morsel
+-- what comes back of a ticket: groups over its morsel, or the ticket itself
+abbrev pub IsMadeOf : TicketState → Result PartialState TicketState → Type 0
+IsMadeOf t (Ok x) = x.tickets ≡ t ∷ []
+IsMadeOf t (Err u) = u ≡ t
+
+-- it is of a ticket of this number, of the parts' job and size of a morsel
+pub record IsMade (parts : PartsState) (i : ℕ) (made : Result PartialState TicketState) : Type 0 where
+  pub ticket : TicketState
+  pub of : IsMadeOf ticket made
+  pub morsel : ticket.morsel ≡ i
+  pub job : AreOneJob ticket.job parts.job
+  pub size : ticket.size ≡ parts.size
+
+-- it is of a ticket of the part's job that the part handed out
+pub record IsReturned (p : PartState) (made : Result PartialState TicketState) : Type 0 where
+  pub ticket : TicketState
+  pub of : IsMadeOf ticket made
+  pub job : AreOneJob ticket.job p.job
+  pub handed : is_handed_out p ticket ≡ true
 
 -- what a part is after a partial or a ticket came back: its morsel is settled, and nothing was handed out
-pub record TakesBack (made : Result PartialState TicketState) (p q : PartState) : Type 0 where
+pub record TakesBack (i : ℕ) (p q : PartState) : Type 0 where
   pub handed : q.handed ≡ p.handed
   pub ran : Ran p q
-  pub back : IsSettled (morsel_of made) q
+  pub back : IsSettled i q
 
 -- what bringing a number back in a hold of its own leaves
 pub record Brings (i : ℕ) (v w : Knows) : Type 0 where

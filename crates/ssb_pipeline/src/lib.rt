@@ -4,11 +4,13 @@
 //!
 //! - `specs/Morsels.antt`, `Joined.antt`: where the rows of the fact table are cut into morsels, and
 //!   these into sections; the kept combinations of some morsels
-//! - `specs/State.antt`, `Part.antt`: what contracts see of tickets and partials; of parts: which are
-//!   lawful, the events that change one, what a core run is, what each call answers
+//! - `specs/Tickets.antt`, `State.antt`, `Part.antt`: what contracts see of tickets, and which make a
+//!   batch; of partials; of parts: which are lawful, the events that change one, what a core run is, what
+//!   each call answers
 //! - `specs/Marks.antt`: for the contracts inside: what a part's fields keep
-//! - `src/ticket.rt`, `partial.rt`, `grouping.rt`: `Ticket`: a morsel that was handed out; `Partial`:
-//!   the groups over its rows; the loop over them, 1,024 at a time: narrowed first, then probed
+//! - `src/ticket.rt`, `batch.rt`, `partial.rt`, `grouping.rt`: `Ticket`: a morsel that was handed out;
+//!   which tickets make a batch; `Partial`: the groups over the rows of a batch; the loop over them, 1,024
+//!   at a time: narrowed first, then probed
 //! - `src/part.rt`, `fault.rt`: `Part`: one section of the work, with `hand_out`, `give_back`,
 //!   `give_up`, `work_off` and `sweep`; why a partial is not taken
 //! - `specs/Rule.antt`, `src/line.rt`, `proofs/Moves.antt`: the rule of a part's queue: what holds
@@ -45,6 +47,7 @@
 //! that no ticket was given up of.
 #![tactic(auto)]
 
+mod batch;
 mod fault;
 mod finishing;
 mod gate;
@@ -57,6 +60,7 @@ mod parts;
 mod ticket;
 mod worker;
 
+pub use batch::BatchFault;
 pub use fault::ReturnFault;
 pub use finishing::finish;
 pub use gate::{Gate, NoGate};

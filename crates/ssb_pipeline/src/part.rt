@@ -1,11 +1,13 @@
 // One section's part of the work.
 
 ghost use Rattle.std.specs.Prelude.{◌≡◌, ◌<◌, ◌≤◌, ◌-◌, ℕ, true, false, IfOk, OnErr, OnOk, length};
-ghost use Rattle.std.specs.List.{range_with_len};
+ghost use Rattle.std.specs.List.{All, list_all, list_any, range_with_len};
 ghost use Rattle.std.specs.Arc.{arc_value};
 ghost use Rattle.ssb_pipeline.specs.Joined.{morsel_rows};
 ghost use Rattle.ssb_pipeline.specs.Morsels.{morsel_cut};
-ghost use Rattle.ssb_pipeline.specs.Part.{GivesBack, GivesUp, Grows, HandsOut, IsBack, IsHandedOut, IsLawfulPart, IsOpening, IsWhole, Ran, Returns, has, ours, ticket_of};
+ghost use Rattle.ssb_pipeline.specs.Part.{GivesBack, GivesUp, Grows, HandsOut, IsBack, IsLawfulPart, IsOpening, IsWhole, Ran, Returns, has, is_handed_out, ours, ticket_of};
+ghost use Rattle.ssb_pipeline.specs.Marks.{with_marks};
+ghost use Rattle.ssb_pipeline.specs.Tickets.{morsels_of};
 ghost use Rattle.ssb_job.specs.Kept.{AreOneJob};
 
 use crate::fault::ReturnFault;
@@ -68,6 +70,16 @@ fn morsel_cut(morsels: u32, sections: u32, section: u32) -> u32
     ensures { result ≡ morsel_cut morsels sections section }
 {
     (u64::from(section) * u64::from(morsels) / u64::from(sections)) as u32
+}
+
+// Sets the marks of the morsels of some tickets.
+fn set_marks(marks: &mut [bool], first: u32, tickets: &[Ticket])
+    requires { All (λ t. (first ≤ t.morsel) × (t.morsel - first < length marks.old)) tickets.now }
+    ensures { marks.new ≡ with_marks first marks.old (morsels_of tickets.now) }
+{
+    for place in 0..tickets.len() {
+        marks[(tickets[place].morsel() - first) as usize] = true;
+    }
 }
 
 impl Part {
@@ -145,29 +157,49 @@ impl Part {
         self.first <= morsel && morsel - self.first < self.next
     }
 
-    /// Takes the groups of a morsel that was handed out.
+    // Whether a ticket is for a morsel that was handed out.
+    fn is_handed_out(&self, ticket: &Ticket) -> bool
+        ensures { result ≡ is_handed_out self.now ticket.now }
+    {
+        ticket.size() == self.size && self.was_handed(ticket.morsel())
+    }
+
+    // Whether each of these tickets is so.
+    fn are_handed_out(&self, tickets: &[Ticket]) -> bool
+        ensures { result ≡ list_all (is_handed_out self.now) tickets.now }
+    {
+        tickets.iter().all(|ticket| self.is_handed_out(ticket))
+    }
+
+    // Whether the morsel of one of them came back.
+    fn has_come_back(&self, tickets: &[Ticket]) -> bool
+        ensures { result ≡ list_any (λ t. has self.now.returned t.morsel) tickets.now }
+    {
+        tickets.iter().any(|ticket| self.is_back(ticket.morsel()))
+    }
+
+    /// Takes the groups of morsels that were handed out, of all of them or of none.
     ///
     /// # Errors
     ///
-    /// `NotHandedOut` where the part handed out no such ticket, `Doubled` where the morsel came back
-    /// before, `Memory` where a growth was refused. The part is as before, and the partial comes back.
+    /// `NotHandedOut` where the part did not hand out each of the tickets, else `Doubled` where a morsel
+    /// of theirs came back before, else `Memory` where a growth was refused. The part is as before, and
+    /// the partial comes back.
     pub fn give_back(&mut self, partial: Partial) -> Result<(), ReturnFault>
-        requires one_job { AreOneJob partial.ticket.job self.old.job }
+        requires one_job { All (λ t. AreOneJob t.job self.old.job) partial.tickets }
         ensures gives { GivesBack self.old partial result self.new }
         ensures ran { Ran self.old self.new }
     {
-        let morsel = partial.morsel();
-        if partial.size() != self.size || !self.was_handed(morsel) {
+        if !self.are_handed_out(partial.tickets()) {
             return Err(ReturnFault::NotHandedOut(partial));
         }
-        let place = (morsel - self.first) as usize;
-        if self.marks[place] {
+        if self.has_come_back(partial.tickets()) {
             return Err(ReturnFault::Doubled(partial));
         }
         match partial.merge_into(&mut self.groups) {
-            Ok(()) => {
-                self.marks[place] = true;
-                self.back += 1;
+            Ok(tickets) => {
+                set_marks(self.marks.as_mut_slice(), self.first, tickets.as_slice());
+                self.back += tickets.len() as u32;
                 Ok(())
             }
             Err(partial) => Err(ReturnFault::Memory(partial)),
@@ -206,7 +238,7 @@ impl Part {
     // Refused, the part is as before.
     fn bring_back(&mut self, ticket: Ticket) -> Result<(), AllocError>
         requires one_job { AreOneJob ticket.job self.old.job }
-        requires handed { IsHandedOut self.old ticket }
+        requires handed { is_handed_out self.old ticket ≡ true }
         requires fresh { has self.old.returned ticket.morsel ≡ false }
         ensures back { OnOk result (Returns ticket.morsel self.old self.new) }
         ensures err { OnErr result (self.new ≡ self.old) }

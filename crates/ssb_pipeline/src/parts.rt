@@ -1,12 +1,13 @@
 // All parts of a job, each in a queue of its own.
 
-ghost use Rattle.std.specs.Prelude.{◌≡◌, ◌<◌, ◌≤◌, ◌^◌, true, false, [], length, All, IfErr, IfOk};
+ghost use Rattle.std.specs.Prelude.{◌≡◌, ◌<◌, ◌≤◌, ◌^◌, true, false, [], length, All, IfOk};
 ghost use Rattle.std.specs.Arc.{arc_value};
 ghost use Rattle.crossbeam_queue.specs.Passes.{view, IsPassOf, ruled_capacity};
 ghost use Rattle.ssb_job.specs.Kept.{AreOneJob, fact_rows};
 ghost use Rattle.ssb_pipeline.specs.Part.{Follows, IsLawfulPart, IsOpening, IsReached, Ran};
 ghost use Rattle.ssb_pipeline.specs.Rule.{knows, taker, putter};
 ghost use Rattle.ssb_pipeline.specs.Pass.{IsPartOf, IsPassOfParts, HoldsNone, KnowsNothing, known, knowing, newcomers};
+ghost use Rattle.ssb_pipeline.specs.Work.{IsMadeOf};
 ghost use Rattle.std.specs.Borrow.{sem};
 ghost use Rattle.ssb_pipeline.specs.Lending.{LendsPart};
 
@@ -189,8 +190,7 @@ impl Parts {
     // The partial of a ticket of these parts' job; where a growth is refused, the ticket.
     pub(crate) fn partial_of(&self, ticket: Ticket) -> Result<Partial, Ticket>
         requires { AreOneJob ticket.job self.now.job }
-        ensures ticket { IfOk result (λ p. p.ticket ≡ ticket) }
-        ensures err { IfErr result (λ t. t ≡ ticket) }
+        ensures { IsMadeOf ticket result }
     {
         match Partial::of(self.alloc, &self.job, ticket) {
             Ok(partial) => Ok(partial),

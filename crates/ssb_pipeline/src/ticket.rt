@@ -19,7 +19,7 @@ pub struct Ticket {
 
 impl Model for Ticket {
     ghost use Rattle.std.specs.Coded.{codes};
-    ghost use Rattle.ssb_pipeline.specs.State.{TicketState};
+    ghost use Rattle.ssb_pipeline.specs.Tickets.{TicketState};
 
     ghost Value = { TicketState };
 
@@ -56,5 +56,19 @@ impl Ticket {
         ensures { result ≡ self.now.size }
     {
         self.size
+    }
+
+    // The section of its morsel, from 0.
+    pub(crate) fn section(&self) -> u32
+        ensures { result ≡ self.now.section }
+    {
+        self.section
+    }
+
+    // How many sections there are.
+    pub(crate) fn sections(&self) -> u32
+        ensures { result ≡ self.now.sections }
+    {
+        self.sections
     }
 }

@@ -2,9 +2,10 @@
 
 ghost use Rattle.std.specs.Prelude.{◌≡◌, ◌<◌, ℕ, true, length, slice_index_or, All, IfOk, IsFalse, IsTrue};
 ghost use Rattle.ssb_job.specs.Kept.{AreOneJob};
-ghost use Rattle.ssb_pipeline.specs.Part.{IsHandedOut, has};
+ghost use Rattle.ssb_pipeline.specs.Part.{has};
+ghost use Rattle.ssb_pipeline.specs.Tickets.{TicketState};
 ghost use Rattle.ssb_pipeline.specs.Pass.{HoldsNone, IsPassOfParts, PassState, known};
-ghost use Rattle.ssb_pipeline.specs.Work.{Brings, GetsTicket, IsExhausted, IsOneMore, IsReady, IsRound, IsWorked, StaysReady, TakesBack, morsel_of};
+ghost use Rattle.ssb_pipeline.specs.Work.{Brings, GetsTicket, IsExhausted, IsOneMore, IsMade, IsMadeOf, IsReady, IsReturned, IsRound, IsWorked, StaysReady, TakesBack};
 
 use crate::fault::ReturnFault;
 use crate::gate::Gate;
@@ -48,8 +49,7 @@ fn bring_back<R: Wait>(
     morsel: u32,
 )
     requires ready { IsReady parts.now section pass.old }
-    requires morsel { morsel_of made ≡ morsel }
-    requires made { IfOk made (λ p. AreOneJob p.ticket.job parts.now.job × (p.ticket.size ≡ parts.now.size)) }
+    requires made { IsMade parts.now morsel made }
     requires handed { has (known pass.old section).seen.handed morsel ≡ true }
     ensures ready { StaysReady parts.now section pass.old pass.new }
     ensures brings { Brings morsel (known pass.old section) (known pass.new section) }
@@ -61,9 +61,8 @@ fn bring_back<R: Wait>(
 
 // A part takes a partial, or notes that its ticket is given up.
 fn take_back(part: &mut Part, made: Result<Partial, Ticket>)
-    requires one_job { IfOk made (λ p. AreOneJob p.ticket.job part.old.job) }
-    requires handed { IfOk made (λ p. IsHandedOut part.old p.ticket) }
-    ensures { TakesBack made part.old part.new }
+    requires { IsReturned part.old made }
+    ensures { (t : TicketState) → IsMadeOf t made → TakesBack t.morsel part.old part.new }
 {
     match made {
         Ok(partial) => match part.give_back(partial) {

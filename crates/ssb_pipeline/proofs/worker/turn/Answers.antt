@@ -1,7 +1,6 @@
-use Rattle.std.proofs.Common.{◌∙◌, subst, sym, true≢false, arith}
+use Rattle.std.proofs.Common.{◌<◌, ◌∙◌, subst, sym, true≢false, arith}
 use Rattle.ssb_pipeline.specs.Pass.{known}
 use Rattle.ssb_pipeline.specs.Work.{Brings}
-use Rattle.ssb_pipeline.proofs.Bringing.{made-of}
 use Rattle.ssb_pipeline.proofs.Rounds.{ready-again, ready_more, round-of}
 use Rattle.std.proofs.lemmas.Grind.{common_steps}
 use Rattle.ssb_pipeline.proofs.worker.turn.Goals as goal
@@ -9,8 +8,12 @@ use Rattle.ssb_pipeline.proofs.worker.turn.Goals as goal
 pub bring_back-requires-clause-ready : goal.bring_back-requires-clause-ready
 bring_back-requires-clause-ready g c = ready-again _ _ _ _ c.requires c.in-Some.ensures.ready
 
-pub bring_back-requires-clause-morsel : goal.bring_back-requires-clause-morsel
-bring_back-requires-clause-morsel g c = made-of c.partial_of-made.result c.in-Some.ticket c.partial_of-made.ensures.ticket c.partial_of-made.ensures.err ∙ sym c.morsel-morsel.ensures
+pub bring_back-requires-clause-made : goal.bring_back-requires-clause-made
+bring_back-requires-clause-made g c =
+    let in_views = subst (λ n. c.args.section < n) (sym c.in-Some.ensures.ready.pass.count) c.requires.there in
+    let got = c.in-Some.ensures.gets in
+    let part = (c.in-Some.ensures.ready.pass.each c.args.section in_views).part in
+    record { ticket = c.in-Some.ticket; of = c.partial_of-made.ensures; morsel = sym c.morsel-morsel.ensures; job = got.job ∙ part.job; size = got.size ∙ part.size }
 
 pub returns-clause-ready : goal.returns-clause-ready
 returns-clause-ready g c = ready_more _ _ _ _ c.requires _ c.in-Some.ensures.ready c.bring_back.ensures.ready

@@ -1,89 +1,89 @@
-use Rattle.std.proofs.Common.{◌≡◌, ◌∙◌, ◌-◌, true, false, refl, sym, ap, subst, rules, arith}
+use Rattle.std.proofs.Common.{◌≡◌, ◌∙◌, ◌+◌, ◌-◌, ◌<◌, ◌≤◌, Bool, List, length, map, sym, ap, subst, arith}
+use Rattle.std.specs.List.{All}
 use Rattle.std.specs.Arc.{arc_value}
-use Rattle.ssb_pipeline.specs.Marks.{IsKept}
-use Rattle.ssb_pipeline.specs.Part.{PartState, back, has}
-use Rattle.ssb_pipeline.proofs.MarkFacts.{marked-has, marked-lacks}
-use Rattle.ssb_pipeline.proofs.PartFacts.{back-few, comes-back, few-both, kept-more}
-use Rattle.ssb_pipeline.proofs.GivingBack.{at, due, in_marks, mark, starts}
-use Rattle.ssb_pipeline.proofs.RunFacts.{ran_one, same-ran}
+use Rattle.std.proofs.lemmas.List.{length-map}
+use Rattle.ssb_pipeline.specs.Marks.{IsKept, with_marks}
+use Rattle.ssb_pipeline.specs.Part as event
+use Rattle.ssb_pipeline.specs.Part.{AreHandedOut, Runs}
+use Rattle.ssb_pipeline.specs.contracts.part.Part.{the_view}
+use Rattle.ssb_pipeline.specs.Tickets.{TicketState, morsels_of}
+use Rattle.ssb_pipeline.proofs.Due.{awaits, in-place}
+use Rattle.ssb_pipeline.proofs.MarkFacts.{length-with}
+use Rattle.ssb_pipeline.proofs.PartFacts.{back-few, comes-back, few-both, kept-more, marks-there, one-job, state}
 use Rattle.ssb_pipeline.proofs.part.Part.give_back.Goals as goal
 
-pub overflow_sub-place : goal.overflow_sub-place
-overflow_sub-place c =
-    let known = subst (λ i. has c.args.self.now.handed i ≡ true) c.morsel-morsel.ensures.morsel (sym c.was_handed.ensures ∙ c.if-not-was_handed.false) in
-    starts c.self.inside c.self.invariant c.args.partial.ticket.morsel c.morsel-morsel.result c.morsel-morsel.ensures.morsel (rw (← c.self.view_is) at known)
-
-pub index-requires : goal.index-requires
-index-requires c =
-    let known = subst (λ i. has c.args.self.now.handed i ≡ true) c.morsel-morsel.ensures.morsel (sym c.was_handed.ensures ∙ c.if-not-was_handed.false) in
-    let lt = in_marks c.self.inside c.self.invariant c.args.partial.ticket.morsel c.morsel-morsel.result c.morsel-morsel.ensures.morsel (rw (← c.self.view_is) at known) in
-    omega (arith, lt)
-
-pub index_mut-requires : goal.index_mut-requires
-index_mut-requires c =
-    let known = subst (λ i. has c.args.self.now.handed i ≡ true) c.morsel-morsel.ensures.morsel (sym c.was_handed.ensures ∙ c.if-not-was_handed.false) in
-    let lt = in_marks c.self.inside c.self.invariant c.args.partial.ticket.morsel c.morsel-morsel.result c.morsel-morsel.ensures.morsel (rw (← c.self.view_is) at known) in
-    omega (arith, lt)
-
-pub returns-then-index-clause-gives : goal.returns-then-index-clause-gives
-returns-then-index-clause-gives c =
-    let known = subst (λ i. has c.args.self.now.handed i ≡ true) c.morsel-morsel.ensures.morsel (sym c.was_handed.ensures ∙ c.if-not-was_handed.false) in
-    let size = sym c.size.ensures ∙ c.if-size-self.false ∙ ap (λ (q : PartState). q.size) c.self.view_is in
+pub merge_into-requires-clause-one_job : goal.merge_into-requires-clause-one_job
+merge_into-requires-clause-one_job c =
     let p = c.self.inside in
-    let set = mark c.self.inside c.self.invariant c.args.partial.ticket.morsel c.morsel-morsel.result c.morsel-morsel.ensures.morsel (rw (← c.self.view_is) at known) c.index.result.now true c.index.ensures c.if-index.true in
-    record { reason = record { handed = record { size = size; handed = known }; back = rw (← c.self.view_is) (marked-has p.first p.marks.items (c.morsel-morsel.result - p.first) c.args.partial.ticket.morsel (at c.self.inside c.self.invariant c.args.partial.ticket.morsel c.morsel-morsel.result c.morsel-morsel.ensures.morsel (rw (← c.self.view_is) at known)).is set) }; partial = refl; same = refl }
+    let handed = sym c.are_handed_out.ensures ∙ c.if-not-are_handed_out.false in
+    let fresh = sym c.has_come_back.ensures ∙ c.if-has_come_back.false in
+    let d = awaits c.self.inside c.self.invariant c.args.partial c.tickets.result.now c.tickets-2.result.now c.tickets.ensures.tickets c.tickets-2.ensures.tickets (rw (← c.self.view_is) at handed) (rw (← c.self.view_is) at fresh) (rw (← c.self.view_is) at c.requires.one_job) c.tickets.ensures.of in
+    c.self.invariant.job ∙ sym (one-job (arc_value p.job) p.size p.section p.sections p.first p.next p.back p.marks.items p.groups c.args.partial d)
 
 pub merge_into-requires-clause-few : goal.merge_into-requires-clause-few
 merge_into-requires-clause-few c =
-    let known = subst (λ i. has c.args.self.now.handed i ≡ true) c.morsel-morsel.ensures.morsel (sym c.was_handed.ensures ∙ c.if-not-was_handed.false) in
-    let size = sym c.size.ensures ∙ c.if-size-self.false ∙ ap (λ (q : PartState). q.size) c.self.view_is in
     let p = c.self.inside in
-    few-both (arc_value p.job) p.size p.section p.sections p.first p.next p.back p.marks.items p.groups c.args.partial (c.morsel-morsel.result - p.first) (due p c.self.invariant c.args.partial c.morsel-morsel.result c.morsel-morsel.ensures.morsel (rw (← c.self.view_is) at known) c.index.result.now c.index.ensures c.if-index.false (rw (← c.self.view_is) at c.requires.one_job) (rw (← c.self.view_is) at size) c.morsel-morsel.ensures.of)
+    let handed = sym c.are_handed_out.ensures ∙ c.if-not-are_handed_out.false in
+    let fresh = sym c.has_come_back.ensures ∙ c.if-has_come_back.false in
+    let d = awaits c.self.inside c.self.invariant c.args.partial c.tickets.result.now c.tickets-2.result.now c.tickets.ensures.tickets c.tickets-2.ensures.tickets (rw (← c.self.view_is) at handed) (rw (← c.self.view_is) at fresh) (rw (← c.self.view_is) at c.requires.one_job) c.tickets.ensures.of in
+    few-both (arc_value p.job) p.size p.section p.sections p.first p.next p.back p.marks.items p.groups c.args.partial d
+
+pub set_marks-requires : goal.set_marks-requires
+set_marks-requires c =
+    let p = c.self.inside in
+    let handed = sym c.are_handed_out.ensures ∙ c.if-not-are_handed_out.false in
+    let fresh = sym c.has_come_back.ensures ∙ c.if-has_come_back.false in
+    let d = awaits c.self.inside c.self.invariant c.args.partial c.tickets.result.now c.tickets-2.result.now c.tickets.ensures.tickets c.tickets-2.ensures.tickets (rw (← c.self.view_is) at handed) (rw (← c.self.view_is) at fresh) (rw (← c.self.view_is) at c.requires.one_job) c.tickets.ensures.of in
+    let there = marks-there (arc_value p.job) p.size p.section p.sections p.first p.next p.back p.marks.items p.groups c.args.partial d in
+    subst (λ (ts : List TicketState). All (λ t. (p.first ≤ t.morsel) × (t.morsel - p.first < length c.as_mut_slice.result.now)) ts) (sym (c.as_slice.ensures.value ∙ c.in-Ok.ensures.tickets))
+    (subst (λ (marks : List Bool). All (λ (t : TicketState). (p.first ≤ t.morsel) × (t.morsel - p.first < length marks)) c.args.partial.tickets) (sym c.as_mut_slice.ensures.value) there)
+
+pub overflow_cast-self : goal.overflow_cast-self
+overflow_cast-self c =
+    let p = c.self.inside in
+    let handed = sym c.are_handed_out.ensures ∙ c.if-not-are_handed_out.false in
+    let fresh = sym c.has_come_back.ensures ∙ c.if-has_come_back.false in
+    let d = awaits c.self.inside c.self.invariant c.args.partial c.tickets.result.now c.tickets-2.result.now c.tickets.ensures.tickets c.tickets-2.ensures.tickets (rw (← c.self.view_is) at handed) (rw (← c.self.view_is) at fresh) (rw (← c.self.view_is) at c.requires.one_job) c.tickets.ensures.of in
+    let back : c.len.result ≡ length (morsels_of c.args.partial.tickets) = c.len.ensures ∙ sym c.as_slice.ensures.len ∙ ap length c.as_slice.ensures.value ∙ ap length c.in-Ok.ensures.tickets ∙ sym (length-map c.args.partial.tickets (λ t. t.morsel)) in
+    let few = back-few (arc_value p.job) p.size p.section p.sections p.first p.next p.back p.marks.items p.groups c.args.partial d in
+    omega (arith, few, back)
 
 pub overflow_add-self : goal.overflow_add-self
 overflow_add-self c =
-    let known = subst (λ i. has c.args.self.now.handed i ≡ true) c.morsel-morsel.ensures.morsel (sym c.was_handed.ensures ∙ c.if-not-was_handed.false) in
-    let size = sym c.size.ensures ∙ c.if-size-self.false ∙ ap (λ (q : PartState). q.size) c.self.view_is in
     let p = c.self.inside in
-    let few = back-few (arc_value p.job) p.size p.section p.sections p.first p.next p.back p.marks.items p.groups c.args.partial (c.morsel-morsel.result - p.first) (due p c.self.invariant c.args.partial c.morsel-morsel.result c.morsel-morsel.ensures.morsel (rw (← c.self.view_is) at known) c.index.result.now c.index.ensures c.if-index.false (rw (← c.self.view_is) at c.requires.one_job) (rw (← c.self.view_is) at size) c.morsel-morsel.ensures.of) in
-    omega (arith, few)
+    let handed = sym c.are_handed_out.ensures ∙ c.if-not-are_handed_out.false in
+    let fresh = sym c.has_come_back.ensures ∙ c.if-has_come_back.false in
+    let d = awaits c.self.inside c.self.invariant c.args.partial c.tickets.result.now c.tickets-2.result.now c.tickets.ensures.tickets c.tickets-2.ensures.tickets (rw (← c.self.view_is) at handed) (rw (← c.self.view_is) at fresh) (rw (← c.self.view_is) at c.requires.one_job) c.tickets.ensures.of in
+    let back : c.len.result ≡ length (morsels_of c.args.partial.tickets) = c.len.ensures ∙ sym c.as_slice.ensures.len ∙ ap length c.as_slice.ensures.value ∙ ap length c.in-Ok.ensures.tickets ∙ sym (length-map c.args.partial.tickets (λ t. t.morsel)) in
+    let few = back-few (arc_value p.job) p.size p.section p.sections p.first p.next p.back p.marks.items p.groups c.args.partial d in
+    omega (arith, few, back)
 
 pub invariant_of-self : goal.invariant_of-self
 invariant_of-self c =
-    let known = subst (λ i. has c.args.self.now.handed i ≡ true) c.morsel-morsel.ensures.morsel (sym c.was_handed.ensures ∙ c.if-not-was_handed.false) in
-    let size = sym c.size.ensures ∙ c.if-size-self.false ∙ ap (λ (q : PartState). q.size) c.self.view_is in
     let p = c.self.inside in
-    let m = c.in-Ok.ensures in
-    kept-more (arc_value p.job) p.size p.section p.sections p.first p.next p.back p.marks.items p.groups c.args.partial (c.morsel-morsel.result - p.first) (due p c.self.invariant c.args.partial c.morsel-morsel.result c.morsel-morsel.ensures.morsel (rw (← c.self.view_is) at known) c.index.result.now c.index.ensures c.if-index.false (rw (← c.self.view_is) at c.requires.one_job) (rw (← c.self.view_is) at size) c.morsel-morsel.ensures.of) c.merge_into.new.groups m.job m.counted m.stands
+    let handed = sym c.are_handed_out.ensures ∙ c.if-not-are_handed_out.false in
+    let fresh = sym c.has_come_back.ensures ∙ c.if-has_come_back.false in
+    let d = awaits c.self.inside c.self.invariant c.args.partial c.tickets.result.now c.tickets-2.result.now c.tickets.ensures.tickets c.tickets-2.ensures.tickets (rw (← c.self.view_is) at handed) (rw (← c.self.view_is) at fresh) (rw (← c.self.view_is) at c.requires.one_job) c.tickets.ensures.of in
+    let back : c.len.result ≡ length (morsels_of c.args.partial.tickets) = c.len.ensures ∙ sym c.as_slice.ensures.len ∙ ap length c.as_slice.ensures.value ∙ ap length c.in-Ok.ensures.tickets ∙ sym (length-map c.args.partial.tickets (λ t. t.morsel)) in
+    let new = c.set_marks.ensures ∙ ap (λ marks. with_marks p.first marks (morsels_of c.as_slice.result.now)) c.as_mut_slice.ensures.value ∙ ap (λ ts. with_marks p.first p.marks.items (morsels_of ts)) (c.as_slice.ensures.value ∙ c.in-Ok.ensures.tickets) in
+    let long = ap length c.set_marks.ensures ∙ length-with p.first c.as_mut_slice.result.now (morsels_of c.as_slice.result.now) ∙ c.as_mut_slice.ensures.len in
+    let items = in-place p.marks.len c.set_marks.new.marks p.marks.items long ∙ new in
+    subst (λ marks. IsKept (arc_value p.job) p.size p.section p.sections p.first p.next marks (p.back + c.len.result) c.merge_into.new.groups) (sym items)
+    (subst (λ n. IsKept (arc_value p.job) p.size p.section p.sections p.first p.next (with_marks p.first p.marks.items (morsels_of c.args.partial.tickets)) (p.back + n) c.merge_into.new.groups) (sym back)
+    (kept-more (arc_value p.job) p.size p.section p.sections p.first p.next p.back p.marks.items p.groups c.args.partial d c.merge_into.new.groups c.in-Ok.ensures.stands c.in-Ok.ensures.job c.in-Ok.ensures.counted))
 
 pub returns-in-Ok-clause-gives : goal.returns-in-Ok-clause-gives
 returns-in-Ok-clause-gives c =
-    let known = subst (λ i. has c.args.self.now.handed i ≡ true) c.morsel-morsel.ensures.morsel (sym c.was_handed.ensures ∙ c.if-not-was_handed.false) in
-    let size = sym c.size.ensures ∙ c.if-size-self.false ∙ ap (λ (q : PartState). q.size) c.self.view_is in
     let p = c.self.inside in
-    let m = c.in-Ok.ensures in
-    record { handed = record { size = size; handed = known }; returns = rw (← c.self.view_is) (comes-back (arc_value p.job) p.size p.section p.sections p.first p.next p.back p.marks.items p.groups c.args.partial (c.morsel-morsel.result - p.first) (due p c.self.invariant c.args.partial c.morsel-morsel.result c.morsel-morsel.ensures.morsel (rw (← c.self.view_is) at known) c.index.result.now c.index.ensures c.if-index.false (rw (← c.self.view_is) at c.requires.one_job) (rw (← c.self.view_is) at size) c.morsel-morsel.ensures.of) p.gave_up c.merge_into.new.groups m.job m.stands) }
-
-pub returns-in-Err-clause-gives : goal.returns-in-Err-clause-gives
-returns-in-Err-clause-gives c =
-    let known = subst (λ i. has c.args.self.now.handed i ≡ true) c.morsel-morsel.ensures.morsel (sym c.was_handed.ensures ∙ c.if-not-was_handed.false) in
-    let size = sym c.size.ensures ∙ c.if-size-self.false ∙ ap (λ (q : PartState). q.size) c.self.view_is in
-    let clear = mark c.self.inside c.self.invariant c.args.partial.ticket.morsel c.morsel-morsel.result c.morsel-morsel.ensures.morsel (rw (← c.self.view_is) at known) c.index.result.now false c.index.ensures c.if-index.false in
-    record { reason = record { handed = record { size = size; handed = known }; back = rw (← c.self.view_is) (marked-lacks c.self.inside.first c.self.inside.marks.items (c.morsel-morsel.result - c.self.inside.first) c.args.partial.ticket.morsel (at c.self.inside c.self.invariant c.args.partial.ticket.morsel c.morsel-morsel.result c.morsel-morsel.ensures.morsel (rw (← c.self.view_is) at known)).is clear) }; partial = c.in-Err.ensures.partial; same = search rules }
-
-pub invariant_of-self-in-Err : goal.invariant_of-self-in-Err
-invariant_of-self-in-Err c =
-    let p = c.self.inside in
-    subst (IsKept (arc_value p.job) p.size p.section p.sections p.first p.next p.marks.items p.back) (sym c.in-Err.ensures.err) c.self.invariant
-
-pub merge_into-requires-clause-one_job : goal.merge_into-requires-clause-one_job
-merge_into-requires-clause-one_job c = c.self.invariant.job ∙ ap (λ (q : PartState). q.job) c.self.view_is ∙ sym c.requires.one_job
-
-pub returns-then-index-clause-ran : goal.returns-then-index-clause-ran
-returns-then-index-clause-ran c = same-ran _ _ (returns-then-index-clause-gives c).same
+    let handed = sym c.are_handed_out.ensures ∙ c.if-not-are_handed_out.false in
+    let fresh = sym c.has_come_back.ensures ∙ c.if-has_come_back.false in
+    let d = awaits c.self.inside c.self.invariant c.args.partial c.tickets.result.now c.tickets-2.result.now c.tickets.ensures.tickets c.tickets-2.ensures.tickets (rw (← c.self.view_is) at handed) (rw (← c.self.view_is) at fresh) (rw (← c.self.view_is) at c.requires.one_job) c.tickets.ensures.of in
+    let new = c.set_marks.ensures ∙ ap (λ marks. with_marks p.first marks (morsels_of c.as_slice.result.now)) c.as_mut_slice.ensures.value ∙ ap (λ ts. with_marks p.first p.marks.items (morsels_of ts)) (c.as_slice.ensures.value ∙ c.in-Ok.ensures.tickets) in
+    let long = ap length c.set_marks.ensures ∙ length-with p.first c.as_mut_slice.result.now (morsels_of c.as_slice.result.now) ∙ c.as_mut_slice.ensures.len in
+    let items = in-place p.marks.len c.set_marks.new.marks p.marks.items long ∙ new in
+    let runs = comes-back (arc_value p.job) p.size p.section p.sections p.first p.next p.back p.marks.items p.groups c.args.partial d c.merge_into.new.groups c.in-Ok.ensures.stands p.gave_up c.in-Ok.ensures.job in
+    let there = subst (λ marks. Runs (map event.back (morsels_of c.args.partial.tickets)) (the_view p) (state (arc_value p.job) p.size p.section p.sections p.first p.next marks p.gave_up c.merge_into.new.groups)) (sym items) runs in
+    record { handed = subst (λ ts. AreHandedOut c.args.self.now ts) c.tickets.ensures.tickets handed; returns = rw (← c.self.view_is) there }
 
 pub returns-in-Ok-clause-ran : goal.returns-in-Ok-clause-ran
-returns-in-Ok-clause-ran c = ran_one (back c.args.partial.ticket.morsel) _ _ (returns-in-Ok-clause-gives c).returns
-
-pub returns-in-Err-clause-ran : goal.returns-in-Err-clause-ran
-returns-in-Err-clause-ran c = same-ran _ _ (returns-in-Err-clause-gives c).same
+returns-in-Ok-clause-ran c = record { events = map event.back (morsels_of c.args.partial.tickets); runs = (returns-in-Ok-clause-gives c).returns }

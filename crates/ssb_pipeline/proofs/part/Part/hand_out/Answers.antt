@@ -2,7 +2,7 @@ use Rattle.std.proofs.Common.{◌≡◌, ◌∙◌, ◌<◌, ◌+◌, ℕ, true,
 use Rattle.std.proofs.Math.Nat.{eq-or-lt_of_le}
 use Rattle.std.specs.Arc.{arc_value}
 use Rattle.ssb_pipeline.specs.Part.{Hands, PartState, hand, has, ours, ticket_of}
-use Rattle.ssb_pipeline.specs.State.{TicketState}
+use Rattle.ssb_pipeline.specs.Tickets.{TicketState}
 use Rattle.ssb_pipeline.proofs.PartFacts.{all-handed, handed-kept, hands-next, state}
 use Rattle.ssb_pipeline.proofs.RunFacts.{ran_one, ran_self}
 use Rattle.ssb_pipeline.proofs.part.Part.hand_out.Goals as goal

@@ -1,6 +1,7 @@
 use Rattle.std.proofs.Common.{◌≡◌, ◌+◌, ◌∙◌, true, sym, ap, subst}
 use Rattle.ssb_pipeline.specs.Part.{PartState, Ran, Returns, has}
-use Rattle.ssb_pipeline.specs.State.{TicketState}
+use Rattle.ssb_pipeline.specs.Tickets.{TicketState}
+use Rattle.ssb_pipeline.proofs.BatchFacts.{one-handed}
 use Rattle.ssb_pipeline.proofs.SweepFacts.{IsSwept, all-done, begins, goes-on, next-handed, passes}
 use Rattle.ssb_pipeline.proofs.part.Part.sweep.Goals as goal
 use Rattle.ssb_pipeline.proofs.part.Part.sweep.Goals.{then-not-is_back+in_ok-bring_back, else-not-is_back}
@@ -12,10 +13,8 @@ pub bring_back-requires-clause-handed : goal.bring_back-requires-clause-handed
 bring_back-requires-clause-handed c =
     let l = c.loop-morsel in
     let ticket = c.ticket_for-ticket.ensures in
-    record {
-      size = ap (λ (t : TicketState). t.size) ticket;
-      handed = subst (λ (t : TicketState). has l.self.handed t.morsel ≡ true) (sym ticket) (next-handed c.args.self.now l.self c.bounds-first.result.0 c.bounds-first.result.1 l.morsel l.invariant l.auto.morsel c.loop-morsel-test.true);
-    }
+    one-handed l.self c.ticket_for-ticket.result (ap (λ (t : TicketState). t.size) ticket)
+    (subst (λ (t : TicketState). has l.self.handed t.morsel ≡ true) (sym ticket) (next-handed c.args.self.now l.self c.bounds-first.result.0 c.bounds-first.result.1 l.morsel l.invariant l.auto.morsel c.loop-morsel-test.true))
 
 pub loop-morsel-preserved : goal.loop-morsel-preserved
 loop-morsel-preserved c =

@@ -1,6 +1,7 @@
 use Rattle.std.proofs.Common.{◌∙◌, sym, ap, subst}
 use Rattle.ssb_pipeline.specs.Part.{Grows, IsLawfulPart, PartState, Ran}
-use Rattle.ssb_pipeline.specs.State.{TicketState}
+use Rattle.ssb_pipeline.specs.Tickets.{TicketState}
+use Rattle.ssb_pipeline.proofs.BatchFacts.{one-handed}
 use Rattle.ssb_pipeline.proofs.Later.{grows-more, hand-follows}
 use Rattle.ssb_pipeline.proofs.RunFacts.{ran_after}
 use Rattle.ssb_pipeline.proofs.WorkFacts.{all-back, fewer-left, is-fresh, is-out, nothing-yet, one-more}
@@ -15,7 +16,7 @@ bring_back-requires-clause-one_job c = ap (λ (t : TicketState). t.job) c.in-Som
 pub bring_back-requires-clause-handed : goal.bring_back-requires-clause-handed
 bring_back-requires-clause-handed c =
     let h = c.in-Some.ensures.hands.hands in
-    record { size = ap (λ (t : TicketState). t.size) c.in-Some.ensures.hands.ticket ∙ sym (ap (λ (p : PartState). p.size) h.after); handed = is-out c.in-Some.ticket.morsel c.loop-ticket.self c.hand_out.new.self h }
+    one-handed c.hand_out.new.self c.in-Some.ticket (ap (λ (t : TicketState). t.size) c.in-Some.ensures.hands.ticket ∙ sym (ap (λ (p : PartState). p.size) h.after)) (is-out c.in-Some.ticket.morsel c.loop-ticket.self c.hand_out.new.self h)
 
 pub bring_back-requires-clause-fresh : goal.bring_back-requires-clause-fresh
 bring_back-requires-clause-fresh c = is-fresh c.in-Some.ticket.morsel c.loop-ticket.self c.hand_out.new.self c.loop-ticket.invariant.lawful c.in-Some.ensures.hands.hands

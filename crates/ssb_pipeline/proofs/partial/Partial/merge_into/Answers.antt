@@ -5,7 +5,7 @@ use Rattle.ssb_pipeline.proofs.partial.Partial.merge_into.Goals as goal
 
 pub returns-in-Err-clause-partial : goal.returns-in-Err-clause-partial
 returns-in-Err-clause-partial c =
-    let with : GroupMap → PartialState = λ groups. record { ticket = c.self.inside.ticket; groups = groups } in
+    let with : GroupMap → PartialState = λ groups. record { tickets = c.self.inside.tickets.items; groups = groups } in
     ap with c.in-Err.ensures.other ∙ c.self.view_is
 
 pub returns-in-Ok-clause-stands : goal.returns-in-Ok-clause-stands

@@ -28,9 +28,11 @@
 //! - `src/law.rt`: laws: each row lies in one morsel, each morsel in one section; core runs keep a part
 //!   lawful, and from an opening part lead to the whole
 //! - `proofs/Cuts.antt`, `MorselFacts.antt`: cut points that rise; where morsels and sections are cut
-//! - `proofs/MarkFacts.antt`, `PartFacts.antt`, `GivingBack.antt`, `OpeningFacts.antt`,
-//!   `WorkFacts.antt`, `SweepFacts.antt`: marks and what they stand for; what a part keeps, at its
-//!   opening, at each call, worked off and in a sweep
+//! - `proofs/BatchFacts.antt`, `PartialFacts.antt`, `Probing.antt`: tickets that make a batch; the groups
+//!   over their morsels, row by row
+//! - `proofs/MarkFacts.antt`, `PartFacts.antt`, `Due.antt`, `OpeningFacts.antt`, `WorkFacts.antt`,
+//!   `SweepFacts.antt`: marks and what they stand for; what a part keeps, at its opening, at each call,
+//!   worked off and in a sweep
 //! - `proofs/Later.antt`: a later state of a part, after each event
 //! - `proofs/SetFacts.antt`, `RunFacts.antt`, `EveryRun.antt`: lists of different numbers as sets; core
 //!   runs, and those from an opening part
@@ -38,7 +40,8 @@
 //!
 //! A morsel goes this way: `Part::hand_out` gives the ticket of the least one that was not handed out,
 //! `Partial::of` probes its rows into groups of its own, and `Part::give_back` merges these into the
-//! part's and marks the morsel. A worker (`work`) takes the part of its own section from its queue, gets
+//! part's and marks the morsel. `Partial::of_all` does the same of several tickets, which then come back
+//! whole or not at all. A worker (`work`) takes the part of its own section from its queue, gets
 //! a ticket, puts the part back, probes while it holds no part, takes the part again and gives the
 //! partial back; once the section has no ticket left it goes on to the next, in a circle. Where memory
 //! is refused it gives its ticket up, and the part hands out no other. `Part::work_off` goes this way

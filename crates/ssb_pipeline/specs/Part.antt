@@ -178,10 +178,11 @@ abbrev pub HandsOut : PartState → Option TicketState → PartState → Type 0
 HandsOut p None q = HandsNone p q
 HandsOut p (Some t) q = HandsNext t p q
 
--- a partial is taken: the morsels of its tickets come back, one after the other
+-- a partial is taken: the morsels of its tickets come back, one after the other, and all else is as before
 pub record IsTaken (x : PartialState) (p q : PartState) : Type 0 where
   pub handed : AreHandedOut p x.tickets
   pub returns : Runs (map back (morsels_of x.tickets)) p q
+  pub after : q ≡ record p { returned = q.returned; groups = q.groups }
 
 -- a partial is refused, for a reason: the part is as before, and the partial comes back
 pub record IsRefused (Reason : Type 0) (x y : PartialState) (p q : PartState) : Type 0 where

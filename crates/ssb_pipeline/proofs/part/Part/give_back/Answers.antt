@@ -1,4 +1,4 @@
-use Rattle.std.proofs.Common.{◌≡◌, ◌∙◌, ◌+◌, ◌-◌, ◌<◌, ◌≤◌, Bool, List, length, map, sym, ap, subst, arith}
+use Rattle.std.proofs.Common.{◌≡◌, ◌∙◌, ◌+◌, ◌-◌, ◌<◌, ◌≤◌, Bool, List, length, map, refl, sym, ap, subst, arith}
 use Rattle.std.specs.List.{All}
 use Rattle.std.specs.Arc.{arc_value}
 use Rattle.std.proofs.lemmas.List.{length-map}
@@ -83,7 +83,7 @@ returns-in-Ok-clause-gives c =
     let items = in-place p.marks.len c.set_marks.new.marks p.marks.items long ∙ new in
     let runs = comes-back (arc_value p.job) p.size p.section p.sections p.first p.next p.back p.marks.items p.groups c.args.partial d c.merge_into.new.groups c.in-Ok.ensures.stands p.gave_up c.in-Ok.ensures.job in
     let there = subst (λ marks. Runs (map event.back (morsels_of c.args.partial.tickets)) (the_view p) (state (arc_value p.job) p.size p.section p.sections p.first p.next marks p.gave_up c.merge_into.new.groups)) (sym items) runs in
-    record { handed = subst (λ ts. AreHandedOut c.args.self.now ts) c.tickets.ensures.tickets handed; returns = rw (← c.self.view_is) there }
+    record { handed = subst (λ ts. AreHandedOut c.args.self.now ts) c.tickets.ensures.tickets handed; returns = rw (← c.self.view_is) there; after = rw (← c.self.view_is) refl }
 
 pub returns-in-Ok-clause-ran : goal.returns-in-Ok-clause-ran
 returns-in-Ok-clause-ran c = record { events = map event.back (morsels_of c.args.partial.tickets); runs = (returns-in-Ok-clause-gives c).returns }

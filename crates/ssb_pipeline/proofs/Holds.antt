@@ -3,18 +3,14 @@ use Rattle.std.proofs.Common.{◌≡◌, ◌<◌, ◌++◌, ◌∷◌, [], ℕ, 
 use Rattle.std.specs.List.{filter}
 use Rattle.std.proofs.lemmas.List.{append-nil, set-set}
 use Rattle.std.proofs.lemmas.Grind.{get_or-set_at}
-use Rattle.ssb_pipeline.specs.Part.{Follows, HandsOut, PartState, handed_between, has, ours}
+use Rattle.ssb_pipeline.specs.Part.{PartState, handed_between, has}
 use Rattle.ssb_pipeline.specs.Pass.{HoldsNone, PassState, known, knowing}
 use Rattle.ssb_pipeline.specs.Rule.{Knows, fresh, knows, putter, taker}
-use Rattle.ssb_pipeline.specs.Tickets.{TicketState}
-use Rattle.ssb_pipeline.specs.Work.{GetsTicket, OnlyIn}
-use Rattle.ssb_pipeline.proofs.Later.{follows_after}
+use Rattle.ssb_pipeline.specs.Work.{OnlyIn}
 use Rattle.ssb_pipeline.proofs.Passes.{all_knowing}
 use Rattle.ssb_pipeline.proofs.RangeFacts.{range-has}
 use Rattle.ssb_pipeline.proofs.Rounds.{only_again}
-use Rattle.ssb_pipeline.proofs.RunFacts.{out-ran, ran-follows}
 use Rattle.ssb_pipeline.proofs.SetFacts.{has-left, has-right}
-use Rattle.ssb_pipeline.proofs.WorkFacts.{is-out}
 
 -- ---- the pass
 
@@ -54,33 +50,3 @@ none-new xs (y ∷ ys) h = rw (h y (range-head y ys)) (none-new xs ys (λ i ther
 
 pub same-none : (x q : PartState) → q.handed ≡ x.handed → handed_between x q ≡ []
 same-none x q e = ap (filter (λ i. not (has x.handed i))) e ∙ none-new x.handed x.handed (λ i h. h)
-
-one-new : (xs : List ℕ) (i : ℕ) (ys : List ℕ) → ((k : ℕ) → has ys k ≡ true → has xs k ≡ true) → has xs i ≡ false → filter (λ k. not (has xs k)) (ys ++ i ∷ []) ≡ i ∷ []
-one-new xs i [] h new = rw new refl
-one-new xs i (y ∷ ys) h new =
-    rw (h y (has-left (y ∷ []) ys y (range-has y 1 y (omega arith) (omega arith)))) (one-new xs i ys (λ k there. h k (has-right (y ∷ []) ys k there)) new)
-
--- what getting a ticket leaves
-pub gets : (r : Option TicketState) (v w : Knows) (x q : PartState) → w ≡ knows false q (v.mine ++ handed_between x q) → Follows x v.seen → HandsOut x r q → GetsTicket r v w
-gets r v w x q e f h = subst (GetsTicket r v) (sym e) (by r h)
-  where
-    by : (r : Option TicketState) → HandsOut x r q → GetsTicket r v (knows false q (v.mine ++ handed_between x q))
-    by None h =
-        record {
-          mine = ap (λ l. v.mine ++ l) (same-none x q (ap (λ (y : PartState). y.handed) h.same)) ∙ append-nil v.mine;
-          follows = follows_after q x v.seen (ran-follows x q (out-ran None x q h)) f;
-          ended = elim h.ended [
-            | inl gave ↦ inl (ap (λ (y : PartState). y.gave_up) h.same ∙ gave)
-            | inr all ↦ inr (λ i there. ap (λ (y : PartState). has y.handed i) h.same ∙ all i (subst (λ (y : PartState). has (ours y) i ≡ true) h.same there))
-          ];
-        }
-    by (Some t) h =
-        let e = h.hands.after in
-        let new : handed_between x q ≡ t.morsel ∷ [] = ap (λ (y : PartState). filter (λ i. not (has x.handed i)) y.handed) e ∙ one-new x.handed t.morsel x.handed (λ k there. there) h.hands.fresh in
-        record {
-          mine = ap (λ l. v.mine ++ l) new;
-          follows = follows_after q x v.seen (ran-follows x q (out-ran (Some t) x q h)) f;
-          handed = is-out t.morsel x q h.hands;
-          job = ap (λ (u : TicketState). u.job) h.ticket ∙ sym (ap (λ (y : PartState). y.job) e);
-          size = ap (λ (u : TicketState). u.size) h.ticket ∙ sym (ap (λ (y : PartState). y.size) e);
-        }

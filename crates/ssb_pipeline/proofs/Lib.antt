@@ -1,4 +1,5 @@
 pub mod BatchFacts
+pub mod Batches
 pub mod Bringing
 pub mod Crossing
 pub mod CrossingJobs

@@ -1,13 +1,14 @@
 -- One turn of a worker after another.
-use Rattle.std.proofs.Common.{◌≡◌, ◌≢◌, ◌⊎◌, inl, inr, ℕ, ◌<◌, true, [], ◌∷◌, ◌++◌, length, sym, refl, ap, ◌∙◌, subst, append_assoc, append-nil, None, Some}
+use Rattle.std.proofs.Common.{◌≡◌, ◌≢◌, ◌⊎◌, inl, inr, ℕ, ◌<◌, true, [], ◌∷◌, ◌++◌, length, sym, refl, ap, ◌∙◌, subst, append_assoc, append-nil, List}
 use Rattle.std.proofs.lemmas.List.{set-set, set-get_or}
 use Rattle.std.proofs.lemmas.Grind.{get_or-set_at}
-use Rattle.std.proofs.lemmas.List.Elements.{All-nil, All-append, All-push, All-weaker}
+use Rattle.std.proofs.lemmas.List.Elements.{All-nil, All-append, All-weaker}
 use Rattle.ssb_pipeline.specs.Part.{has}
 use Rattle.ssb_pipeline.specs.Rule.{Knows, fresh}
 use Rattle.ssb_pipeline.specs.Pass.{AllSections, PartsState, PassState, known, knowing}
-use Rattle.ssb_pipeline.specs.Tickets.{TicketState}
-use Rattle.ssb_pipeline.specs.Work.{AllBack, Brings, GetsTicket, IsExhausted, IsReady, IsRound, OnlyIn, StaysReady}
+use Rattle.ssb_pipeline.specs.Batch.{AreSettled, BringsAll, GetsTickets, IsMore}
+use Rattle.ssb_pipeline.specs.Tickets.{TicketState, morsels_of}
+use Rattle.ssb_pipeline.specs.Work.{AllBack, IsExhausted, IsReady, IsRound, OnlyIn, StaysReady}
 use Rattle.ssb_pipeline.proofs.Later.{follows_self, follows_after}
 use Rattle.ssb_pipeline.proofs.Passes.{all_knowing, all_but_one}
 
@@ -63,15 +64,25 @@ ended_step D q r s in_views all only new =
     let F : ℕ → Knows → Type 0 = λ t w. D t → IsExhausted w in
     subst (AllSections F) (sym only) (all_but_one F q s (known r s) all (λ d. new) in_views)
 
--- a ticket came, and its morsel was brought back
-pub round-of : (t : TicketState) (v m w : Knows) → GetsTicket (Some t) v m → Brings t.morsel m w → IsRound v w
-round-of t v m w g b = record {
-  more = t.morsel ∷ [];
+-- tickets came, and their morsels were brought back
+pub round-of : (ts : List TicketState) (v m w : Knows) → GetsTickets ts v m → BringsAll ts m w → IsRound v w
+round-of ts v m w g b = record {
+  more = morsels_of ts ++ g.lost;
   mine = b.mine ∙ g.mine;
   follows = follows_after w.seen m.seen v.seen b.follows g.follows;
-  back = elim b.back [ inl gave ↦ inl gave | inr here ↦ inr (All-push (λ i. has w.seen.returned i ≡ true) [] t.morsel (All-nil (λ i. has w.seen.returned i ≡ true)) here) ];
+  back = by g.lost g.gave b.back;
 }
+  where
+    by : (lost : List ℕ) → ((m.seen.gave_up ≡ true) ⊎ (lost ≡ [])) → AreSettled (morsels_of ts) w.seen → AreSettled (morsels_of ts ++ lost) w.seen
+    by lost (inl gave) settled = inl (b.follows.gave_up gave)
+    by lost (inr none) (inl gave) = inl gave
+    by lost (inr none) (inr all) = inr (subst (λ is. AllBack is w.seen) (sym (append-nil (morsels_of ts)) ∙ ap (λ l. morsels_of ts ++ l) (sym none)) all)
 
 -- no ticket came
-pub round-none : (v w : Knows) → GetsTicket None v w → IsRound v w
-round-none v w g = record { more = []; mine = g.mine ∙ sym (append-nil v.mine); follows = g.follows; back = inr (All-nil (λ i. has w.seen.returned i ≡ true)) }
+pub round-none : (ts : List TicketState) (v w : Knows) → ts ≡ [] → GetsTickets ts v w → IsRound v w
+round-none ts v w none g = round-of ts v w w g (record { mine = refl; follows = follows_self w.seen; back = inr (subst (λ us. AllBack (morsels_of us) w.seen) (sym none) (All-nil (λ i. has w.seen.returned i ≡ true))) })
+
+-- where tickets came, more was handed out to the pass
+pub more-of : (ts : List TicketState) (v m w : Knows) → (ts ≡ [] → ⊥) → GetsTickets ts v m → BringsAll ts m w → IsMore v w
+more-of [] v m w some g b = absurd (some refl)
+more-of (t ∷ ts) v m w some g b = record { first = t.morsel; others = morsels_of ts ++ g.lost; mine = b.mine ∙ g.mine }

@@ -9,4 +9,5 @@ pub mod Rule
 pub mod Pass
 pub mod Lending
 pub mod Work
+pub mod Batch
 pub mod Finish

@@ -1,6 +1,6 @@
 -- What workers leave: the rounds of one pass over the sections.
 -- Source: own.
-use Rattle.std.specs.Prelude.{◌≡◌, ℕ, ◌<◌, true, List, [], ◌∷◌, ◌++◌, ◌⊎◌, length, All, None, Some, Option, Result, Ok, Err}
+use Rattle.std.specs.Prelude.{◌≡◌, ℕ, ◌<◌, true, List, [], ◌∷◌, ◌++◌, ◌⊎◌, length, All, Result, Ok, Err}
 use Rattle.ssb_job.specs.Kept.{AreOneJob}
 use Rattle.ssb_pipeline.specs.Part.{Follows, IsAllHanded, PartState, Ran, has, is_handed_out}
 use Rattle.ssb_pipeline.specs.Pass.{AllSections, HoldsNone, IsPassOfParts, PartsState, PassState, known, knowing}
@@ -19,13 +19,13 @@ pub record IsRound (v w : Knows) : Type 0 where
   pub follows : Follows w.seen v.seen
   pub back : (w.seen.gave_up ≡ true) ⊎ AllBack more w.seen
 
--- a ticket was seen to be given up, or that all of the section is handed out
-abbrev pub IsExhausted : Knows → Type 0
-IsExhausted w = (w.seen.gave_up ≡ true) ⊎ IsAllHanded w.seen
+-- a ticket was given up, or all of the section is handed out
+abbrev pub IsEnded : PartState → Type 0
+IsEnded p = (p.gave_up ≡ true) ⊎ IsAllHanded p
 
--- one number more was handed out to it
-abbrev pub IsOneMore : Knows → Knows → Type 0
-IsOneMore v w = (i : ℕ) × (w.mine ≡ v.mine ++ i ∷ [])
+-- the same, as a pass has seen it
+abbrev pub IsExhausted : Knows → Type 0
+IsExhausted w = IsEnded w.seen
 
 -- only what it knows of this section has changed
 abbrev pub OnlyIn : ℕ → PassState → PassState → Type 0
@@ -42,25 +42,6 @@ pub record StaysReady (parts : PartsState) (section : ℕ) (p q : PassState) : T
   pub only : OnlyIn section p q
   pub pass : IsPassOfParts parts q
   pub none : HoldsNone q
-
--- a ticket came in a hold of its own: a number more was handed out to the pass
-pub record GetsOne (t : TicketState) (v w : Knows) : Type 0 where
-  pub mine : w.mine ≡ v.mine ++ t.morsel ∷ []
-  pub follows : Follows w.seen v.seen
-  pub handed : has w.seen.handed t.morsel ≡ true
-  pub job : AreOneJob t.job w.seen.job
-  pub size : t.size ≡ w.seen.size
-
--- no ticket came: there is none left
-pub record GetsNone (v w : Knows) : Type 0 where
-  pub mine : w.mine ≡ v.mine
-  pub follows : Follows w.seen v.seen
-  pub ended : IsExhausted w
-
--- what getting a ticket leaves
-abbrev pub GetsTicket : Option TicketState → Knows → Knows → Type 0
-GetsTicket None v w = GetsNone v w
-GetsTicket (Some t) v w = GetsOne t v w
 
 -- the morsel came back, perhaps before, or a ticket was given up
 abbrev pub IsSettled : ℕ → PartState → Type 0

@@ -7,6 +7,7 @@ ghost use Rattle.ssb_job.specs.Kept.{AreOneJob, fact_rows};
 ghost use Rattle.ssb_pipeline.specs.Part.{Follows, IsLawfulPart, IsOpening, IsReached, Ran};
 ghost use Rattle.ssb_pipeline.specs.Rule.{knows, taker, putter};
 ghost use Rattle.ssb_pipeline.specs.Pass.{IsPartOf, IsPassOfParts, HoldsNone, KnowsNothing, known, knowing, newcomers};
+ghost use Rattle.ssb_pipeline.specs.Batch.{IsBatchOf};
 ghost use Rattle.ssb_pipeline.specs.Work.{IsMadeOf};
 ghost use Rattle.std.specs.Borrow.{sem};
 ghost use Rattle.ssb_pipeline.specs.Lending.{LendsPart};
@@ -195,6 +196,28 @@ impl Parts {
         match Partial::of(self.alloc, &self.job, ticket) {
             Ok(partial) => Ok(partial),
             Err((ticket, _)) => Err(ticket),
+        }
+    }
+
+    // The partial of a batch of tickets of these parts' job; where it can't be made, the tickets.
+    pub(crate) fn partial_of_all(&self, tickets: Vec<Ticket>) -> Result<Partial, Vec<Ticket>>
+        requires { All (λ t. AreOneJob t.job self.now.job) tickets.items }
+        ensures { IsBatchOf tickets.items result }
+    {
+        match Partial::of_all(self.alloc, &self.job, tickets) {
+            Ok(partial) => Ok(partial),
+            Err((tickets, _)) => Err(tickets),
+        }
+    }
+
+    // No tickets, with room for so many, or for none where a growth is refused; and for how many.
+    pub(crate) fn room(&self, count: u32) -> (u32, Vec<Ticket>)
+        ensures none { result.1.items ≡ [] }
+    {
+        let mut tickets = Vec::new(self.alloc);
+        match tickets.reserve(count as usize) {
+            Ok(()) => (count, tickets),
+            Err(_) => (0, tickets),
         }
     }
 

@@ -18,7 +18,7 @@ work_section-requires g c =
     let i = c.loop-section.invariant in
     let k = c.sections-sections.ensures in
     let t = c.loop-section-test.true in
-    record { there = omega (arith, k, t); pass = i.pass; none = i.none }
+    record { ready = record { there = omega (arith, k, t); pass = i.pass; none = i.none }; some = c.requires.some }
 
 pub loop-section-preserved : goal.loop-section-preserved
 loop-section-preserved g c =

@@ -3,7 +3,7 @@ use Rattle.ssb_pipeline.specs.Work.{IsWorked}
 use denote.Param.Send.{sendable}
 use Rattle.ssb_pipeline.proofs.CrossingParts.{parts_sync, pass_send}
 use Rattle.std.proofs.lemmas.Grind.{common_steps}
-use Rattle.ssb_pipeline.proofs.worker.run_workers.Goals as goal
+use Rattle.ssb_pipeline.proofs.worker.run_batches.Goals as goal
 
 pub for_each_mut-requires-send-T : goal.for_each_mut-requires-send-T
 for_each_mut-requires-send-T g c κs within = search (pass_send, sendable) depth 20

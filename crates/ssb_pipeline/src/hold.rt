@@ -1,0 +1,132 @@
+// What a worker does while it holds a part: it gets a batch of tickets, or brings one back.
+
+ghost use Rattle.std.specs.Prelude.{◌≡◌, ◌<◌, [], List, length};
+ghost use Rattle.ssb_pipeline.specs.Batch.{BringsBatch, GetsTickets, HandsBatch, IsBatchOf, IsReturnedBatch, TakesBatch};
+ghost use Rattle.ssb_pipeline.specs.Part.{GivesUp};
+ghost use Rattle.ssb_pipeline.specs.Pass.{known};
+ghost use Rattle.ssb_pipeline.specs.Tickets.{TicketState};
+ghost use Rattle.ssb_pipeline.specs.Work.{IsReady, StaysReady};
+
+use crate::fault::ReturnFault;
+use crate::gate::Gate;
+use crate::part::Part;
+use crate::partial::Partial;
+use crate::parts::{Parts, PartsPass};
+use crate::ticket::Ticket;
+use std::sync::Wait;
+
+// A part hands out a ticket for which there is no room, so that it is given up.
+fn hand_out_none<G: Gate>(part: &mut Part, section: u32, gate: &G)
+    ensures { HandsBatch [] part.old part.new }
+{
+    if let Some(ticket) = part.hand_out() {
+        gate.while_held(section, ticket.morsel());
+        part.give_up(ticket);
+    }
+}
+
+// A part hands out up to so many tickets, for which there is room; where there is room for none, one
+// that is given up.
+fn hand_out_batch<G: Gate>(
+    part: &mut Part,
+    section: u32,
+    room: u32,
+    gate: &G,
+    tickets: &mut Vec<Ticket>,
+)
+    requires { tickets.old.items ≡ [] }
+    ensures { HandsBatch tickets.new.items part.old part.new }
+{
+    if room == 0 {
+        hand_out_none(part, section, gate);
+        return;
+    }
+    for _ in 0..room {
+        let Some(ticket) = part.hand_out() else {
+            return;
+        };
+        gate.while_held(section, ticket.morsel());
+        if let Err(refused) = tickets.push(ticket) {
+            part.give_up(refused.value);
+            return;
+        }
+    }
+}
+
+// Gets up to so many tickets in a hold of its own.
+pub(crate) fn get_tickets<R: Wait, G: Gate>(
+    rt: &R,
+    parts: &Parts,
+    section: u32,
+    pass: &mut PartsPass,
+    batch: u32,
+    gate: &G,
+) -> Vec<Ticket>
+    requires { IsReady parts.now section pass.old }
+    ensures ready { StaysReady parts.now section pass.old pass.new }
+    ensures gets { GetsTickets result.items (known pass.old section) (known pass.new section) }
+{
+    let (room, tickets) = parts.room(batch);
+    let mut tickets = tickets;
+    let mut held = parts.take(rt, section, pass);
+    hand_out_batch(held.part(), section, room, gate, &mut tickets);
+    parts.put(rt, held, pass);
+    tickets
+}
+
+// A part notes that these tickets are given up.
+fn give_all_up(part: &mut Part, tickets: Vec<Ticket>)
+    requires { 0 < length tickets.items }
+    ensures { GivesUp part.old part.new }
+{
+    let mut tickets = tickets;
+    while let Some(ticket) = tickets.pop() {
+        part.give_up(ticket);
+    }
+}
+
+// A part takes a batch, or notes that its tickets are given up. The tickets come back where a morsel of
+// theirs is back already.
+fn take_batch_back(part: &mut Part, made: Result<Partial, Vec<Ticket>>) -> Option<Vec<Ticket>>
+    requires { IsReturnedBatch part.old made }
+    ensures { (ts : List TicketState) → IsBatchOf ts made → TakesBatch ts result part.old part.new }
+{
+    match made {
+        Ok(partial) => match part.give_back(partial) {
+            Ok(()) => None,
+            Err(ReturnFault::Doubled(partial)) => Some(partial.into_tickets()),
+            Err(ReturnFault::Memory(partial)) => {
+                give_all_up(part, partial.into_tickets());
+                None
+            }
+            Err(ReturnFault::NotHandedOut(partial)) => {
+                drop(partial);
+                None
+            }
+        },
+        Err(tickets) => {
+            give_all_up(part, tickets);
+            None
+        }
+    }
+}
+
+// Takes a batch that was handed out in an earlier hold back whole, or notes that its tickets are given
+// up, in a hold of its own. The tickets come back where a morsel of theirs is back already.
+pub(crate) fn bring_whole<R: Wait>(
+    rt: &R,
+    parts: &Parts,
+    section: u32,
+    pass: &mut PartsPass,
+    made: Result<Partial, Vec<Ticket>>,
+) -> Option<Vec<Ticket>>
+    requires ready { IsReady parts.now section pass.old }
+    requires made { IsReturnedBatch (known pass.old section).seen made }
+    ensures ready { StaysReady parts.now section pass.old pass.new }
+    ensures brings { (ts : List TicketState) → IsBatchOf ts made → BringsBatch ts result (known pass.old section) (known pass.new section) }
+{
+    let mut held = parts.take(rt, section, pass);
+    let doubled = take_batch_back(held.part(), made);
+    parts.put(rt, held, pass);
+    doubled
+}

@@ -1,5 +1,5 @@
-use Rattle.std.proofs.Common.{sym}
-use Rattle.ssb_pipeline.specs.Pass.{known}
+use Rattle.std.proofs.Common.{ap, length, arith}
+use Rattle.std.proofs.lemmas.Grind.{common_steps}
 use Rattle.ssb_pipeline.proofs.Rounds.{more-of, ready_more, round-of}
 use Rattle.ssb_pipeline.proofs.worker.turn.Goals as goal
 
@@ -10,4 +10,7 @@ pub returns-clause-round : goal.returns-clause-round
 returns-clause-round g c = round-of c.get_tickets-tickets.result.items _ _ _ c.get_tickets-tickets.ensures.gets (c.bring_batch.ensures.brings c.get_tickets-tickets.result.items c.partial_of_all-made.ensures)
 
 pub returns-clause-more : goal.returns-clause-more
-returns-clause-more g c = ?
+returns-clause-more g c =
+    let empty = c.is_empty.ensures in
+    let test = c.if-is_empty.false in
+    λ yes. more-of c.get_tickets-tickets.result.items _ _ _ (λ none. let ok = c.get_tickets-tickets.result.ok in let is = ap length none in grind (arith, common_steps)) c.get_tickets-tickets.ensures.gets (c.bring_batch.ensures.brings c.get_tickets-tickets.result.items c.partial_of_all-made.ensures)

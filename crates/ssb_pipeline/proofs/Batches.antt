@@ -138,10 +138,12 @@ pub giving-none : (ts : List TicketState) (p : PartState) → IsGivingUp ts ts p
 giving-none ts p = record { now = inl (refl, refl) }
 
 pub giving-one : (ts us vs : List TicketState) (p q r : PartState) → IsGivingUp ts us p q → GivesUp q r → IsGivingUp ts vs p r
-giving-one ts us vs p q r h g = record { now = inr (elim h.now [
-  | inl same ↦ g ∙ ap (λ (y : PartState). record y { gave_up = true }) same.1
-  | inr gave ↦ g ∙ ap (λ (y : PartState). record y { gave_up = true }) gave
-]) }
+giving-one ts us vs p q r h g = record {
+  now = inr (elim h.now [
+    | inl same ↦ g ∙ ap (λ (y : PartState). record y { gave_up = true }) same.1
+    | inr gave ↦ g ∙ ap (λ (y : PartState). record y { gave_up = true }) gave
+  ]);
+}
 
 pub given-all : (ts us : List TicketState) (p q : PartState) → 0 < length ts → us ≡ [] → IsGivingUp ts us p q → GivesUp p q
 given-all ts us p q some none h = elim h.now [

@@ -17,9 +17,10 @@
 //!   between any two steps of the passes that use it; the queue, and each step, which keeps the rule
 //! - `specs/Pass.antt`, `Lending.antt`, `src/parts.rt`, `proofs/Passes.antt`: `Parts`, a queue for each
 //!   section; `PartsPass`, what a worker knows of each; `Held`, a part that was taken
-//! - `specs/Work.antt`, `src/worker.rt`, `gate.rt`, `proofs/Holds.antt`, `Bringing.antt`, `Rounds.antt`:
-//!   `work`: one worker, which takes, probes and brings back; `run_workers`: one in a thread for each
-//!   pass; what a hold leaves its pass with; `Gate`, where a test can hold a worker up
+//! - `specs/Work.antt`, `Batch.antt`, `src/hold.rt`, `worker.rt`, `gate.rt`, `proofs/Holds.antt`,
+//!   `Batches.antt`, `Bringing.antt`, `Rounds.antt`: `work`: one worker, which takes, probes and brings
+//!   back; `run_batches` and `run_workers`: one in a thread for each pass; what a hold leaves its pass
+//!   with; `Gate`, where a test can hold a worker up
 //! - `specs/Finish.antt`, `src/finishing.rt`, `proofs/FinishFacts.antt`: `finish`: every part is taken,
 //!   what is left of it is done, and the groups of the sections are merged
 //! - `proofs/Crossing.antt`, `CrossingQueries.antt`, `CrossingJobs.antt`, `CrossingParts.antt`: that
@@ -42,9 +43,9 @@
 //! `Partial::of` probes its rows into groups of its own, and `Part::give_back` merges these into the
 //! part's and marks the morsel. `Partial::of_all` does the same of several tickets, which then come back
 //! whole or not at all. A worker (`work`) takes the part of its own section from its queue, gets
-//! a ticket, puts the part back, probes while it holds no part, takes the part again and gives the
+//! tickets, puts the part back, probes while it holds no part, takes the part again and gives the
 //! partial back; once the section has no ticket left it goes on to the next, in a circle. Where memory
-//! is refused it gives its ticket up, and the part hands out no other. `Part::work_off` goes this way
+//! is refused it gives its tickets up, and the part hands out no other. `Part::work_off` goes this way
 //! with morsel after morsel in the caller's thread, until no ticket comes. `Part::sweep` does what is
 //! left of a section, also what was handed out and did not come back; `finish` calls it of each part
 //! that no ticket was given up of.

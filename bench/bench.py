@@ -3,7 +3,8 @@
 
 Usage: bench.py load FOLDER [--old PROGRAM]
        bench.py query FOLDER [--old PROGRAM] [--queries NAME..] [--morsels N..] [--times N]
-       bench.py threads FOLDER [--queries NAME..] [--workers N..] [--parts N..] [--morsels N..] [--times N]
+       bench.py threads FOLDER [--queries NAME..] [--workers N..] [--parts N..] [--morsels N..]
+                                [--batches N..] [--times N]
        bench.py check
 
 Each takes [--runs N] [--ssb PROGRAM] [--ssb-bench PROGRAM] too. FOLDER has tables and their catalog, as
@@ -166,9 +167,9 @@ def paths_of(given, texts):
     return measure.write_texts(texts, {name: known[name] for name in names})
 
 
-def answering(program, given, path, morsel, *workers_and_parts):
-    """The command that answers a query again and again: by one thread alone, or by workers from parts."""
-    return [program, "run", given.folder, path, morsel, given.times, *workers_and_parts]
+def answering(program, given, path, morsel, *shared):
+    """The command that answers a query again and again: by one thread alone, or by workers, from parts, in batches."""
+    return [program, "run", given.folder, path, morsel, given.times, *shared]
 
 
 def least_of_all(given, commands):
@@ -201,21 +202,21 @@ def query(given, texts):
 def threads(given, texts):
     """Answers over loaded tables by workers in threads, against one thread alone."""
     paths = paths_of(given, texts)
-    choices = list(itertools.product(given.workers, given.parts, given.morsels))
+    choices = list(itertools.product(given.workers, given.parts, given.morsels, given.batches))
     commands = {}
     for name, path in paths.items():
         for morsel in given.morsels:
             commands[name, ALONE, morsel] = answering(given.ssb_bench, given, path, morsel)
-        for workers, parts, morsel in choices:
-            command = answering(given.ssb_bench, given, path, morsel, workers, parts)
-            commands[name, workers, parts, morsel] = command
+        for workers, parts, morsel, batch in choices:
+            command = answering(given.ssb_bench, given, path, morsel, workers, parts, batch)
+            commands[name, workers, parts, morsel, batch] = command
     found = least_of_all(given, commands)
     first = given.morsels[0]
     rows = []
     for name in paths:
-        ratios = [found[name, *choice] / found[name, ALONE, choice[-1]] for choice in choices]
+        ratios = [found[name, *choice] / found[name, ALONE, choice[2]] for choice in choices]
         rows.append([name, f"{found[name, ALONE, first]:.2f}", *(f"{ratio:.2f}" for ratio in ratios)])
-    head = [f"{workers} of {parts}, {morsel:,}" for workers, parts, morsel in choices]
+    head = [f"{workers} of {parts}, {batch} of {morsel:,}" for workers, parts, morsel, batch in choices]
     measure.print_table(["Query", f"Milliseconds alone, in morsels of {first:,}", *head], rows)
 
 
@@ -259,7 +260,7 @@ def check(given, texts):
 COMMANDS = {
     load: (["ssb", "ssb_bench"], ["folder", "--old"]),
     query: (["ssb_bench"], ["folder", "--old", "--queries", "--morsels", "--times"]),
-    threads: (["ssb_bench"], ["folder", "--queries", "--workers", "--parts", "--morsels", "--times"]),
+    threads: (["ssb_bench"], ["folder", "--queries", "--workers", "--parts", "--morsels", "--batches", "--times"]),
     check: (["ssb"], []),
 }
 

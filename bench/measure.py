@@ -37,6 +37,7 @@ OPTIONS = {
     "--queries": {"nargs": "+", "metavar": "NAME", "help": "all where left out"},
     "--workers": {**NUMBERS, "default": [1, 2, 4], "help": "threads that answer"},
     "--parts": {**NUMBERS, "default": [1, 4], "help": "parts from which workers take morsels"},
+    "--batches": {**NUMBERS, "default": [1], "help": "morsels that a worker takes at a time"},
     "--morsels": {**NUMBERS, "default": [10_000, 100_000], "help": "rows of a morsel"},
     "--times": {**NUMBER, "default": 5, "help": "answers in a run, which tells the least"},
     "--runs": {**NUMBER, "default": 5, "help": "runs of each program"},

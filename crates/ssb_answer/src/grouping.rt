@@ -8,7 +8,7 @@ ghost use Rattle.ssb_reply.specs.Reply.{seen_rows};
 
 use ssb_groups::Groups;
 use ssb_job::Job;
-use ssb_pipeline::{Gate, Parts, finish, run_workers};
+use ssb_pipeline::{Gate, Parts, finish, run_batches};
 use ssb_reply::Settings;
 use std::alloc::{AllocError, Global};
 use std::sync::{Arc, Wait};
@@ -30,9 +30,10 @@ pub(crate) fn group_shared<R: Threads + Wait + Sync, G: Gate + Sync>(
         workers,
         morsel_size,
         parts,
+        batch,
     } = settings;
     let shared = Arc::try_clone(job)?;
     let (parts, mut passes) = Parts::open(rt, alloc, shared, morsel_size, parts, workers as usize)?;
-    run_workers(rt, &parts, passes.as_mut_slice(), gate);
+    run_batches(rt, &parts, passes.as_mut_slice(), batch, gate);
     finish(rt, parts, &mut passes[0])
 }

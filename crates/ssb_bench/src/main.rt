@@ -6,8 +6,8 @@
 //!   where it has more than 16 MB, in so many sections, each by a thread of its own
 //! - `run FOLDER FILE MORSEL TIMES`: the least milliseconds of so many answers to a file's query, by the
 //!   caller's thread, in morsels of so many rows; tables are loaded and indexes built once
-//! - `run FOLDER FILE MORSEL TIMES WORKERS PARTS`: the same by so many workers, in threads of their own,
-//!   who take the morsels from so many parts
+//! - `run FOLDER FILE MORSEL TIMES WORKERS PARTS BATCH`: the same by so many workers, in threads of their
+//!   own, who take up to so many morsels at a time from so many parts
 //!
 //! The catalog of a folder lies in it as `catalog`. The status is 1 where a file or a growth failed, or
 //! a file is not what it should be, and 2 where the words are others.
@@ -101,11 +101,13 @@ fn alone(morsel_size: &str) -> Option<By> {
     Some(By::Alone(Settings::new(1, morsel_size.parse().ok()?, 1)?))
 }
 
-fn workers(workers: &str, morsel_size: &str, parts: &str) -> Option<By> {
+fn workers(workers: &str, morsel_size: &str, parts: &str, batch: &str) -> Option<By> {
     let workers = workers.parse().ok()?;
     let morsel_size = morsel_size.parse().ok()?;
     let parts = parts.parse().ok()?;
-    Some(By::Workers(Settings::new(workers, morsel_size, parts)?))
+    let batch = batch.parse().ok()?;
+    let settings = Settings::new(workers, morsel_size, parts)?.with_batch(batch)?;
+    Some(By::Workers(settings))
 }
 
 // Prints the least milliseconds of so many answers, given by such workers.
@@ -135,8 +137,21 @@ fn print_own_time<R: Files + Clock + Print + Threads + Wait + Sync + AllocGlobal
             let by = alone(morsel_size.as_str());
             print_least(rt, folder.as_str(), path.as_str(), by, times.as_str())
         }
-        [folder, path, morsel_size, times, count, parts] => {
-            let by = workers(count.as_str(), morsel_size.as_str(), parts.as_str());
+        [
+            folder,
+            path,
+            morsel_size,
+            times,
+            count,
+            parts,
+            batch,
+        ] => {
+            let by = workers(
+                count.as_str(),
+                morsel_size.as_str(),
+                parts.as_str(),
+                batch.as_str(),
+            );
             print_least(rt, folder.as_str(), path.as_str(), by, times.as_str())
         }
         _ => BAD_WORDS,

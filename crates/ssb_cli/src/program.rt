@@ -293,7 +293,8 @@ fn act_on_task<R: Files<File = File> + Print + AllocGlobal + Threads + Wait + Sy
             workers,
             morsel,
             parts,
-        } => match Settings::with_defaults(workers, morsel, parts) {
+            batch,
+        } => match Settings::with_defaults(workers, morsel, parts, batch) {
             Some(settings) => run(
                 rt,
                 RunWords {

@@ -10,3 +10,8 @@ pub record AreInRange (workers morsel_size parts : ℕ) : Type 0 where
   pub few_rows : morsel_size ≤ 1048576
   pub some_parts : 0 < parts
   pub few_parts : parts ≤ 16
+
+-- so many morsels are taken at a time
+pub record IsBatch (batch : ℕ) : Type 0 where
+  pub some_morsels : 0 < batch
+  pub few_morsels : batch ≤ 64

@@ -8,7 +8,8 @@
 //!
 //! - `specs/Reply.antt`, `Running.antt`, `Settled.antt`: what a run owes for its files and its text,
 //!   what it leaves, and that this is one reply
-//! - `src/settings.rt`, `specs/Settings.antt`: `Settings`: how many workers, rows of a morsel and parts
+//! - `src/settings.rt`, `specs/Settings.antt`: `Settings`: how many workers, rows of a morsel and parts,
+//!   and how many morsels are taken at a time
 //! - `src/run_fault.rt`, `specs/Told.antt`: the faults of a run, and how those of its steps become one
 //! - `specs/FaultLine.antt`, `src/fault_line.rt`: the line of a fault
 //! - `src/law.rt`: laws: files and a text have one reply; loaded tables fit what a job asks for
@@ -22,4 +23,6 @@ pub mod settings;
 pub use fault_line::{MEMORY_LINE, load_line, run_line, words_line};
 pub use law::{loaded_tables_fit, one_reply};
 pub use run_fault::RunFault;
-pub use settings::{DEFAULT_MORSEL_SIZE, DEFAULT_PARTS, DEFAULT_WORKERS, Settings};
+pub use settings::{
+    DEFAULT_BATCH, DEFAULT_MORSEL_SIZE, DEFAULT_PARTS, DEFAULT_WORKERS, Settings,
+};

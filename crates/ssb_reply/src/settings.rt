@@ -1,7 +1,7 @@
 // How the work of a run is cut and shared.
 
 ghost use Rattle.std.specs.Prelude.{◌≡◌, IfSome, IsNone, MatchOption, unwrap_or};
-ghost use Rattle.ssb_reply.specs.Settings.{AreInRange};
+ghost use Rattle.ssb_reply.specs.Settings.{AreInRange, IsBatch};
 
 /// How many workers there are where nothing else is said.
 pub const DEFAULT_WORKERS: u32 = 4;
@@ -12,6 +12,9 @@ pub const DEFAULT_MORSEL_SIZE: u32 = 10_000;
 /// How many parts there are where nothing else is said.
 pub const DEFAULT_PARTS: u32 = 1;
 
+/// How many morsels a worker takes at a time where nothing else is said.
+pub const DEFAULT_BATCH: u32 = 1;
+
 /// How the work of a run is cut and shared. It changes no answer.
 #[derive(Clone, Copy)]
 pub struct Settings {
@@ -21,7 +24,10 @@ pub struct Settings {
     pub morsel_size: u32,
     /// Of how many parts, one for each section of the morsels, workers take them: 1 to 16.
     pub parts: u32,
+    /// Up to how many morsels a worker takes at a time: 1 to 64.
+    pub batch: u32,
     ghost in_range: { AreInRange workers morsel_size parts },
+    ghost batch_in_range: { IsBatch batch },
 }
 
 impl Settings {
@@ -31,9 +37,12 @@ impl Settings {
 
     const MAX_PARTS: u32 = 16;
 
-    /// Settings of these numbers; none where one is outside its range.
+    const MAX_BATCH: u32 = 64;
+
+    /// Settings of these numbers, with one morsel at a time; none where one is outside its range.
     pub fn new(workers: u32, morsel_size: u32, parts: u32) -> Option<Settings>
         ensures { MatchOption result (AreInRange workers morsel_size parts → ⊥) (λ s. (s.workers ≡ workers) × (s.morsel_size ≡ morsel_size) × (s.parts ≡ parts)) }
+        ensures batch { IfSome result (λ s. s.batch ≡ 1) }
     {
         if workers == 0 || workers > Settings::MAX_WORKERS {
             return None;
@@ -48,7 +57,18 @@ impl Settings {
             workers,
             morsel_size,
             parts,
+            batch: 1,
         })
+    }
+
+    /// The same settings with up to so many morsels at a time; none where that is not 1 to 64.
+    pub fn with_batch(self, batch: u32) -> Option<Settings>
+        ensures { MatchOption result (IsBatch batch → ⊥) (λ s. (s.batch ≡ batch) × (s.workers ≡ self.workers) × (s.morsel_size ≡ self.morsel_size) × (s.parts ≡ self.parts)) }
+    {
+        if batch == 0 || batch > Settings::MAX_BATCH {
+            return None;
+        }
+        Some(Settings { batch, ..self })
     }
 
     /// Settings of the numbers that are given, and the defaults; none where one is outside its range.
@@ -56,16 +76,19 @@ impl Settings {
         workers: Option<u32>,
         morsel_size: Option<u32>,
         parts: Option<u32>,
+        batch: Option<u32>,
     ) -> Option<Settings>
         ensures workers { IfSome result (λ s. s.workers ≡ unwrap_or workers DEFAULT_WORKERS) }
         ensures morsel_size { IfSome result (λ s. s.morsel_size ≡ unwrap_or morsel_size DEFAULT_MORSEL_SIZE) }
         ensures parts { IfSome result (λ s. s.parts ≡ unwrap_or parts DEFAULT_PARTS) }
-        ensures none { IsNone result → AreInRange (unwrap_or workers DEFAULT_WORKERS) (unwrap_or morsel_size DEFAULT_MORSEL_SIZE) (unwrap_or parts DEFAULT_PARTS) → ⊥ }
+        ensures batch { IfSome result (λ s. s.batch ≡ unwrap_or batch DEFAULT_BATCH) }
+        ensures none { IsNone result → AreInRange (unwrap_or workers DEFAULT_WORKERS) (unwrap_or morsel_size DEFAULT_MORSEL_SIZE) (unwrap_or parts DEFAULT_PARTS) → IsBatch (unwrap_or batch DEFAULT_BATCH) → ⊥ }
     {
-        Settings::new(
+        let settings = Settings::new(
             workers.unwrap_or(DEFAULT_WORKERS),
             morsel_size.unwrap_or(DEFAULT_MORSEL_SIZE),
             parts.unwrap_or(DEFAULT_PARTS),
-        )
+        )?;
+        settings.with_batch(batch.unwrap_or(DEFAULT_BATCH))
     }
 }

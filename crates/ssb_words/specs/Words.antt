@@ -16,5 +16,5 @@ IsFileOrBenchmark (query.Text text) = (name : List ℕ) × (lookup (bytes_eq nam
 
 -- the task's query is that of a file or of the benchmark
 abbrev pub AsksKnownQuery : Task → Type 0
-AsksKnownQuery (task.Run folder query catalog workers morsel parts) = IsFileOrBenchmark query
+AsksKnownQuery (task.Run folder query catalog workers morsel parts batch) = IsFileOrBenchmark query
 AsksKnownQuery (task.Check query catalog) = ⊤

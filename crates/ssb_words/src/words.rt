@@ -28,12 +28,14 @@ pub enum Task<'a> {
         query: QuerySource<'a>,
         /// The catalog's file, where another than the built-in one is meant.
         catalog: Option<&'a str>,
-        /// How many workers there are, where that is said: like the two numbers below, any of 32 bits.
+        /// How many workers there are, where that is said: like the numbers below, any of 32 bits.
         workers: Option<u32>,
         /// How many rows a morsel has, where that is said.
         morsel: Option<u32>,
         /// How many parts there are, where that is said.
         parts: Option<u32>,
+        /// Up to how many morsels a worker takes at a time, where that is said.
+        batch: Option<u32>,
     },
     /// To say whether a query means something over a catalog.
     Check {
@@ -120,6 +122,12 @@ static RUN: Action = Action {
             name: "parts",
             value: "N",
             help: "Into how many parts the morsels are divided, 1 to 16; 1 if not given",
+            is_required: false,
+        },
+        Choice {
+            name: "batch",
+            value: "N",
+            help: "Up to how many morsels a worker takes at a time, 1 to 64; 1 if not given",
             is_required: false,
         },
     ],
@@ -210,6 +218,7 @@ fn run_task<'a>(found: &ArgMatches<'a>) -> Option<Task<'a>>
         workers: number(found, "workers")?,
         morsel: number(found, "morsel")?,
         parts: number(found, "parts")?,
+        batch: number(found, "batch")?,
     })
 }
 

@@ -132,7 +132,7 @@ of-each P (t ∷ ts) h =
 pub sizes-are : (p : PartState) (t : TicketState) (ts : List TicketState) → list_all (is_handed_out p) (t ∷ ts) ≡ true → t.size ≡ p.size
 sizes-are p t ts h = eqb-true t.size p.size (both-left (nat_eq t.size p.size) (has p.handed t.morsel) (both-left (is_handed_out p t) (list_all (is_handed_out p) ts) h))
 
-member : (i x : ℕ) (is : List ℕ) (P : ℕ → Type 0) → P x → (has is i ≡ true → P i) → has (x ∷ is) i ≡ true → P i
+pub member : (i x : ℕ) (is : List ℕ) (P : ℕ → Type 0) → P x → (has is i ≡ true → P i) → has (x ∷ is) i ≡ true → P i
 member i x is P here rest h = by (nat_eq i x) refl h
   where
     by : (b : Bool) → nat_eq i x ≡ b → (b || has is i) ≡ true → P i

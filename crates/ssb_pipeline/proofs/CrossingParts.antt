@@ -85,7 +85,10 @@ part_send =
                 search (as_row_send, sendable) depth 20,
                 (
                   search (as_row_send, sendable) depth 20,
-                  (search (as_row_send, crosses, sendable) depth 20, (search (as_row_send, sendable) depth 20, (search (as_row_send, sendable) depth 20, (groups_send, tt)))),
+                  (
+                    search (as_row_send, crosses, sendable) depth 20,
+                    (search (as_row_send, sendable) depth 20, (search (as_row_send, crosses, sendable) depth 20, (search (as_row_send, sendable) depth 20, (groups_send, tt)))),
+                  ),
                 ),
               ),
             ),

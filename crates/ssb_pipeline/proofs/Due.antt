@@ -12,20 +12,21 @@ use Rattle.ssb_pipeline.specs.declared.part.Part.TheInside.{Inside}
 use Rattle.ssb_pipeline.proofs.PartFacts.{IsDue, state}
 
 abbrev pub Keeps : Inside → Type 0
-Keeps p = IsKept (arc_value p.job) p.size p.section p.sections p.first p.next p.marks.items p.back p.groups
+Keeps p = IsKept (arc_value p.job) p.size p.section p.sections p.first p.next p.marks.items p.back p.groups × (length p.given.items ≡ length p.marks.items)
 
 abbrev pub Awaits : Inside → PartialState → Type 0
-Awaits p x = IsDue (arc_value p.job) p.size p.section p.sections p.first p.next p.back p.marks.items p.groups x
+Awaits p x = IsDue (arc_value p.job) p.size p.section p.sections p.first p.next p.back p.marks.items p.given.items p.gave_up p.groups x
 
 -- the part waits for a partial, as its own tests say
 pub awaits : (p : Inside) → Keeps p → (x : PartialState) (ts us : List TicketState) → ts ≡ x.tickets → us ≡ x.tickets
-    → list_all (is_handed_out (state (arc_value p.job) p.size p.section p.sections p.first p.next p.marks.items p.gave_up p.groups)) ts ≡ true
-    → list_any (λ t. has (state (arc_value p.job) p.size p.section p.sections p.first p.next p.marks.items p.gave_up p.groups).returned t.morsel) us ≡ false
+    → list_all (is_handed_out (state (arc_value p.job) p.size p.section p.sections p.first p.next p.marks.items p.given.items p.gave_up p.groups)) ts ≡ true
+    → list_any (λ t. has (state (arc_value p.job) p.size p.section p.sections p.first p.next p.marks.items p.given.items p.gave_up p.groups).returned t.morsel) us ≡ false
     → All (λ t. AreOneJob t.job (arc_value p.job)) x.tickets → IsOfTickets x → Awaits p x
 awaits p kept x ts us here there handed fresh one of = record {
-  kept = kept;
-  handed = subst (λ vs. list_all (is_handed_out (state (arc_value p.job) p.size p.section p.sections p.first p.next p.marks.items p.gave_up p.groups)) vs ≡ true) here handed;
-  fresh = subst (λ vs. list_any (λ t. has (state (arc_value p.job) p.size p.section p.sections p.first p.next p.marks.items p.gave_up p.groups).returned t.morsel) vs ≡ false) there fresh;
+  kept = kept.0;
+  long = kept.1;
+  handed = subst (λ vs. list_all (is_handed_out (state (arc_value p.job) p.size p.section p.sections p.first p.next p.marks.items p.given.items p.gave_up p.groups)) vs ≡ true) here handed;
+  fresh = subst (λ vs. list_any (λ t. has (state (arc_value p.job) p.size p.section p.sections p.first p.next p.marks.items p.given.items p.gave_up p.groups).returned t.morsel) vs ≡ false) there fresh;
   one = one;
   of = of;
 }

@@ -1,21 +1,20 @@
 -- What a pass knows after a hold: it took a part, changed it and put it back.
-use Rattle.std.proofs.Common.{◌≡◌, ◌<◌, ◌++◌, ◌∷◌, [], ℕ, true, false, not, List, Option, None, Some, inl, inr, length, refl, sym, ap, ◌∙◌, subst, arith}
+use Rattle.std.proofs.Common.{◌≡◌, ◌<◌, [], ℕ, false, not, length, refl, sym, ap, ◌∙◌, subst}
 use Rattle.std.specs.List.{filter}
-use Rattle.std.proofs.lemmas.List.{append-nil, set-set}
+use Rattle.std.proofs.lemmas.List.{set-set}
 use Rattle.std.proofs.lemmas.Grind.{get_or-set_at}
 use Rattle.ssb_pipeline.specs.Part.{PartState, handed_between, has}
 use Rattle.ssb_pipeline.specs.Pass.{HoldsNone, PassState, known, knowing}
-use Rattle.ssb_pipeline.specs.Rule.{Knows, fresh, knows, putter, taker}
+use Rattle.ssb_pipeline.specs.Rule.{Knows, fresh, putter, taker}
 use Rattle.ssb_pipeline.specs.Work.{OnlyIn}
+use Rattle.ssb_pipeline.proofs.Numbers.{filter-none}
 use Rattle.ssb_pipeline.proofs.Passes.{all_knowing}
-use Rattle.ssb_pipeline.proofs.RangeFacts.{range-has}
 use Rattle.ssb_pipeline.proofs.Rounds.{only_again}
-use Rattle.ssb_pipeline.proofs.SetFacts.{has-left, has-right}
 
 -- ---- the pass
 
 pub record Held (s : ℕ) (p r : PassState) (x q : PartState) : Type 0 where
-  pub known : known r s ≡ knows false q ((known p s).mine ++ handed_between x q)
+  pub known : known r s ≡ putter (taker (known p s) x) q
   pub only : OnlyIn s p r
   pub none : HoldsNone r
 
@@ -37,16 +36,5 @@ hold s t p m r x q is in_views none a b =
 
 -- ---- the part
 
--- numbers that are all among others are none that is new
-none-new : (xs ys : List ℕ) → ((i : ℕ) → has ys i ≡ true → has xs i ≡ true) → filter (λ i. not (has xs i)) ys ≡ []
-none-new xs [] h = refl
-none-new xs (y ∷ ys) h = rw (h y (range-head y ys)) (none-new xs ys (λ i there. h i (behind y ys i there)))
-  where
-    range-head : (y : ℕ) (ys : List ℕ) → has (y ∷ ys) y ≡ true
-    range-head y ys = has-left (y ∷ []) ys y (range-has y 1 y (omega arith) (omega arith))
-
-    behind : (y : ℕ) (ys : List ℕ) (i : ℕ) → has ys i ≡ true → has (y ∷ ys) i ≡ true
-    behind y ys i there = has-right (y ∷ []) ys i there
-
 pub same-none : (x q : PartState) → q.handed ≡ x.handed → handed_between x q ≡ []
-same-none x q e = ap (filter (λ i. not (has x.handed i))) e ∙ none-new x.handed x.handed (λ i h. h)
+same-none x q e = ap (filter (λ i. not (has x.handed i))) e ∙ filter-none (λ i. not (has x.handed i)) x.handed (λ k there. ap not there)

@@ -2,7 +2,7 @@
 use Rattle.std.proofs.Common.{◌≡◌, ◌∙◌, ◌++◌, ◌∷◌, [], ℕ, Bool, true, List, nat_eq, refl, sym, subst, arith}
 use Rattle.std.proofs.lemmas.List.Sorted.{list_any-IsPermutation}
 use Rattle.ssb_groups.specs.Stands.{GroupMap}
-use Rattle.ssb_pipeline.specs.Part.{Follows, GivesUp, Grows, Hands, HandsAll, PartState, Returns, has, ours}
+use Rattle.ssb_pipeline.specs.Part.{Follows, Gives, Grows, Hands, HandsAll, PartState, Refuses, Returns, has, ours}
 use Rattle.ssb_pipeline.proofs.RangeFacts.{range-has}
 use Rattle.ssb_pipeline.proofs.SetFacts.{has-left, has-right}
 
@@ -21,31 +21,34 @@ follows_after x y z a b = record {
 }
 
 -- the part with other numbers, of which none is lost
-changed : (x q : PartState) (handed returned : List ℕ) (gave_up : Bool) (groups : GroupMap) → q ≡ record x { handed = handed; returned = returned; gave_up = gave_up; groups = groups }
+changed : (x q : PartState) (handed returned given : List ℕ) (gave_up : Bool) (groups : GroupMap) → q ≡ record x { handed = handed; returned = returned; given = given; gave_up = gave_up; groups = groups }
     → ((i : ℕ) → has x.handed i ≡ true → has handed i ≡ true) → ((i : ℕ) → has x.returned i ≡ true → has returned i ≡ true) → (x.gave_up ≡ true → gave_up ≡ true) → Follows q x
-changed x q handed returned gave_up groups e a b c = subst (λ (y : PartState). Follows y x) (sym e) (record { job = refl; size = refl; section = refl; sections = refl; handed = a; returned = b; gave_up = c })
+changed x q handed returned given gave_up groups e a b c = subst (λ (y : PartState). Follows y x) (sym e) (record { job = refl; size = refl; section = refl; sections = refl; handed = a; returned = b; gave_up = c })
 
 -- ---- each event
 
 pub hand-follows : (i : ℕ) (x q : PartState) → Hands i x q → Follows q x
-hand-follows i x q h = changed x q (x.handed ++ i ∷ []) x.returned x.gave_up x.groups h.after (has-left x.handed (i ∷ [])) (λ k there. there) (λ g. g)
+hand-follows i x q h = changed x q (x.handed ++ i ∷ []) x.returned x.given x.gave_up x.groups h.after (has-left x.handed (i ∷ [])) (λ k there. there) (λ g. g)
 
 came : (i : ℕ) (x q : PartState) → Returns i x q → (k : ℕ) → has (x.returned ++ i ∷ []) k ≡ true → has q.returned k ≡ true
 came i x q r k there = sym (list_any-IsPermutation (nat_eq k) (x.returned ++ i ∷ []) q.returned r.returned) ∙ there
 
 pub back-follows : (i : ℕ) (x q : PartState) → Returns i x q → Follows q x
-back-follows i x q r = changed x q x.handed q.returned x.gave_up q.groups r.after (λ k there. there) (λ k there. came i x q r k (has-left x.returned (i ∷ []) k there)) (λ g. g)
+back-follows i x q r = changed x q x.handed q.returned q.given x.gave_up q.groups r.after (λ k there. there) (λ k there. came i x q r k (has-left x.returned (i ∷ []) k there)) (λ g. g)
 
 -- the number is back then
 pub is-back : (i : ℕ) (x q : PartState) → Returns i x q → has q.returned i ≡ true
 is-back i x q r = came i x q r i (has-right x.returned (i ∷ []) i (range-has i 1 i (omega arith) (omega arith)))
 
-pub give-up-follows : (x q : PartState) → GivesUp x q → Follows q x
-give-up-follows x q e = changed x q x.handed x.returned true x.groups e (λ k there. there) (λ k there. there) (λ g. refl)
+pub give-follows : (i : ℕ) (x q : PartState) → Gives i x q → Follows q x
+give-follows i x q g = changed x q x.handed x.returned q.given true x.groups g.after (λ k there. there) (λ k there. there) (λ g. refl)
+
+pub refuse-follows : (x q : PartState) → Refuses x q → Follows q x
+refuse-follows x q e = changed x q x.handed x.returned x.given true x.groups e (λ k there. there) (λ k there. there) (λ g. refl)
 
 -- all of the section is handed out at once
 pub sweep-follows : (x q : PartState) → HandsAll x q → Follows q x
-sweep-follows x q h = changed x q (ours x) x.returned x.gave_up x.groups h.after h.kept (λ k there. there) (λ g. g)
+sweep-follows x q h = changed x q (ours x) x.returned x.given x.gave_up x.groups h.after h.kept (λ k there. there) (λ g. g)
 
 -- ---- where no ticket is given up meanwhile
 

@@ -9,12 +9,14 @@ pub mod Cuts
 pub mod Due
 pub mod EveryRun
 pub mod FinishFacts
+pub mod GivenFacts
 pub mod Holds
 pub mod JoinedFacts
 pub mod Later
 pub mod MarkFacts
 pub mod MorselFacts
 pub mod Moves
+pub mod Numbers
 pub mod OpeningFacts
 pub mod PartFacts
 pub mod PartialFacts

@@ -109,13 +109,13 @@ still-free a bs i is free d k h =
     or-true true = refl
     or-true false = refl
 
-pub length-with : (a : ℕ) (bs : List Bool) (is : List ℕ) → length (with_marks a bs is) ≡ length bs
-length-with a bs [] = refl
-length-with a bs (i ∷ is) = length-with a (slice_set bs (i - a) true) is ∙ length-set bs (i - a) true
+pub length-with : (b : Bool) (a : ℕ) (bs : List Bool) (is : List ℕ) → length (with_marks b a bs is) ≡ length bs
+length-with b a bs [] = refl
+length-with b a bs (i ∷ is) = length-with b a (slice_set bs (i - a) b) is ∙ length-set bs (i - a) b
 
-pub with-last : (a : ℕ) (bs : List Bool) (is : List ℕ) (i : ℕ) → with_marks a bs (is ++ i ∷ []) ≡ slice_set (with_marks a bs is) (i - a) true
-with-last a bs [] i = refl
-with-last a bs (x ∷ is) i = with-last a (slice_set bs (x - a) true) is i
+pub with-last : (b : Bool) (a : ℕ) (bs : List Bool) (is : List ℕ) (i : ℕ) → with_marks b a bs (is ++ i ∷ []) ≡ slice_set (with_marks b a bs is) (i - a) b
+with-last b a bs [] i = refl
+with-last b a bs (x ∷ is) i = with-last b a (slice_set bs (x - a) b) is i
 
 set-within : (bs : List Bool) (q r : ℕ) → slice_get (slice_set bs q true) r ≡ Some true → (r ≡ q) ⊎ (slice_get bs r ≡ Some true)
 set-within [] q r e = inr e
@@ -125,7 +125,7 @@ set-within (b ∷ bs) (suc q) zero e = inr e
 set-within (b ∷ bs) (suc q) (suc r) e = elim (set-within bs q r e) [ inl same ↦ inl (ap (λ n. suc n) same) | inr there ↦ inr there ]
 
 -- what is marked then was marked, or is the place of one of them
-pub with-within : (a : ℕ) (bs : List Bool) (is : List ℕ) (r : ℕ) → slice_get (with_marks a bs is) r ≡ Some true → ((i : ℕ) × (has is i ≡ true) × (r ≡ i - a)) ⊎ (slice_get bs r ≡ Some true)
+pub with-within : (a : ℕ) (bs : List Bool) (is : List ℕ) (r : ℕ) → slice_get (with_marks true a bs is) r ≡ Some true → ((i : ℕ) × (has is i ≡ true) × (r ≡ i - a)) ⊎ (slice_get bs r ≡ Some true)
 with-within a bs [] r e = inr e
 with-within a bs (i ∷ is) r e =
     elim (with-within a (slice_set bs (i - a) true) is r e) [
@@ -157,7 +157,7 @@ module _ {X : Type 0} (F : List ℕ → List X) (nil : F [] ≡ []) (cons : (i :
   one-more a (false ∷ bs) (suc k) i e h = one-more (a + 1) bs k i (omega (arith, e)) h
 
   -- some places more are marked
-  pub many-more : (a : ℕ) (bs : List Bool) (is : List ℕ) → AreFree a bs is → IsDistinct nat_eq is → IsPermutation (F (marked a bs) ++ F is) (F (marked a (with_marks a bs is)))
+  pub many-more : (a : ℕ) (bs : List Bool) (is : List ℕ) → AreFree a bs is → IsDistinct nat_eq is → IsPermutation (F (marked a bs) ++ F is) (F (marked a (with_marks true a bs is)))
   unfolding IsDistinct
   many-more a bs [] free d = subst (λ t. IsPermutation t (F (marked a bs))) (sym (ap (λ z. F (marked a bs) ++ z) nil ∙ append-nil (F (marked a bs)))) (IsPermutation-refl (F (marked a bs)))
   many-more a bs (i ∷ is) free d =
@@ -168,7 +168,7 @@ module _ {X : Type 0} (F : List ℕ → List X) (nil : F [] ≡ []) (cons : (i :
       let rest = many-more a after is (still-free a bs i is free d.0) d.1 in
       let both = IsPermutation-append_left (F is) (F (marked a bs) ++ F (i ∷ [])) (F (marked a after)) one in
       let left : F (marked a bs) ++ F (i ∷ is) ≡ (F (marked a bs) ++ F (i ∷ [])) ++ F is = ap (λ z. F (marked a bs) ++ z) (cons i is) ∙ sym (append_assoc (F (marked a bs)) (F (i ∷ [])) (F is)) in
-      subst (λ t. IsPermutation t (F (marked a (with_marks a after is)))) (sym left) (IsPermutation-trans _ _ _ both rest)
+      subst (λ t. IsPermutation t (F (marked a (with_marks true a after is)))) (sym left) (IsPermutation-trans _ _ _ both rest)
 
   -- what is marked is no more than the whole
   pub no-more : (a : ℕ) (bs : List Bool) → length (F (marked a bs)) ≤ length (F (range_with_len a (length bs)))

@@ -1,6 +1,6 @@
 -- What a part's fields keep, and the part that contracts see.
-use Rattle.std.proofs.Common.{◌≡◌, ◌∙◌, ◌++◌, ◌∷◌, [], ◌≤◌, ◌<◌, ◌+◌, ◌-◌, ◌^◌, inl, inr, ℕ, zero, suc, Bool, true, false, true≢false, nat_eq, List, Some, length, map, refl, sym, ap, subst, arith, length-append}
-use Rattle.std.specs.Prelude.{slice_get}
+use Rattle.std.proofs.Common.{◌≡◌, ◌∙◌, ◌++◌, ◌∷◌, [], ◌≤◌, ◌<◌, ◌+◌, ◌-◌, ◌^◌, inl, inr, ℕ, zero, suc, Bool, true, false, true≢false, not, nat_eq, List, Some, length, map, refl, sym, ap, subst, arith, length-append}
+use Rattle.std.specs.Prelude.{slice_get, slice_set}
 use Rattle.std.specs.List.{All, IsDistinct, list_all, list_any, range_with_len}
 use Rattle.std.specs.List.Sorted.{IsPermutation}
 use Rattle.std.proofs.lemmas.List.FromFn.{length-range_with_len}
@@ -14,12 +14,14 @@ use Rattle.ssb_pipeline.specs.Joined.{morsel_rows, seen_in}
 use Rattle.ssb_pipeline.specs.Marks.{IsKept, marked, with_marks}
 use Rattle.ssb_pipeline.specs.Morsels.{morsel_count, morsel_cut, section}
 use Rattle.ssb_pipeline.specs.Part as event
-use Rattle.ssb_pipeline.specs.Part.{Hands, IsLawfulPart, PartState, Runs, has, is_handed_out}
+use Rattle.ssb_pipeline.specs.Part.{Gives, GivesUp, Hands, IsLawfulPart, PartState, Runs, has, is_awaited, is_handed_out}
 use Rattle.ssb_pipeline.specs.State.{AreOver, IsOfTickets, PartialState}
-use Rattle.ssb_pipeline.specs.Tickets.{morsels_of}
-use Rattle.ssb_pipeline.proofs.BatchFacts.{batch-apart, each-handed, none-back, of-each, sizes-are, twice-distinct}
+use Rattle.ssb_pipeline.specs.Tickets.{TicketState, morsels_of}
+use Rattle.ssb_pipeline.proofs.BatchFacts.{batch-apart, both-left, both-right, each-handed, none-back, of-each, sizes-are, twice-distinct}
+use Rattle.ssb_pipeline.proofs.GivenFacts.{AreThere, cleared-gone, cleared-others, with-mark}
 use Rattle.ssb_pipeline.proofs.JoinedFacts.{rows-cons, seen-append, seen-cons, seen-none}
 use Rattle.ssb_pipeline.proofs.MarkFacts.{AreFree, distinct-marked, length-with, many-more, marked-has, no-more, place-of, with-within}
+use Rattle.ssb_pipeline.proofs.Numbers.{not-is}
 use Rattle.ssb_pipeline.proofs.RangeFacts.{beyond-range, distinct-range, range-has, range-lacks, range-last, within-range}
 use Rattle.ssb_pipeline.proofs.RunFacts.{returns-all}
 
@@ -38,8 +40,8 @@ unmarked a bs i from below none = by (there bs (i - a) below)
 
 module _ (j : JobShape) (size s k first : ℕ) where
   -- the part that contracts see
-  abbrev pub state : ℕ → List Bool → Bool → GroupMap → PartState
-  state next marks gave g = record { job = j; size = size; section = s; sections = k; handed = range_with_len first next; returned = marked first marks; gave_up = gave; groups = g }
+  abbrev pub state : ℕ → List Bool → List Bool → Bool → GroupMap → PartState
+  state next marks given gave g = record { job = j; size = size; section = s; sections = k; handed = range_with_len first next; returned = marked first marks; given = marked first given; gave_up = gave; groups = g }
 
   pub ours-is : (next back : ℕ) (marks : List Bool) (g : GroupMap) → IsKept j size s k first next marks back g → section (morsel_count (fact_rows j) size) k s ≡ range_with_len first (length marks)
   ours-is next back marks g h =
@@ -47,8 +49,8 @@ module _ (j : JobShape) (size s k first : ℕ) where
       let many : morsel_cut c k (s + 1) - morsel_cut c k s ≡ length marks = let b = h.begins in let e = h.ends in omega (arith, b, e) in
       ap (λ n. range_with_len (morsel_cut c k s) n) many ∙ ap (λ a. range_with_len a (length marks)) (sym h.begins)
 
-  pub lawful-of : (next back : ℕ) (marks : List Bool) (gave : Bool) (g : GroupMap) → IsKept j size s k first next marks back g → IsLawfulPart (state next marks gave g)
-  lawful-of next back marks gave g h =
+  pub lawful-of : (next back : ℕ) (marks given : List Bool) (gave : Bool) (g : GroupMap) → IsKept j size s k first next marks back g → IsLawfulPart (state next marks given gave g)
+  lawful-of next back marks given gave g h =
       let fits = h.fits in
       record {
         handed = distinct-range first next;
@@ -67,16 +69,16 @@ module _ (j : JobShape) (size s k first : ℕ) where
       }
 
   -- the next number is the least that was not handed out
-  pub hands-next : (next back : ℕ) (marks : List Bool) (gave : Bool) (g : GroupMap) → IsKept j size s k first next marks back g → next < length marks → gave ≡ false
-      → Hands (first + next) (state next marks gave g) (state (next + 1) marks gave g)
-  hands-next next back marks gave g h lt going = record {
+  pub hands-next : (next back : ℕ) (marks given : List Bool) (gave : Bool) (g : GroupMap) → IsKept j size s k first next marks back g → next < length marks → gave ≡ false
+      → Hands (first + next) (state next marks given gave g) (state (next + 1) marks given gave g)
+  hands-next next back marks given gave g h lt going = record {
     going = going;
     member = subst (λ xs. has xs (first + next) ≡ true) (sym (ours-is next back marks g h)) (range-has first (length marks) (first + next) (omega arith) (omega (arith, lt)));
     fresh = range-lacks first next (first + next) (inr (omega arith));
     least = λ i there new.
         let w = within-range first (length marks) i (subst (λ xs. has xs i ≡ true) (ours-is next back marks g h) there) in
         beyond-range first next i w.0 new;
-    after = ap (λ hs. record { job = j; size = size; section = s; sections = k; handed = hs; returned = marked first marks; gave_up = gave; groups = g }) (range-last first next (next + 1) (first + next) (omega arith) refl);
+    after = ap (λ hs. record { job = j; size = size; section = s; sections = k; handed = hs; returned = marked first marks; given = marked first given; gave_up = gave; groups = g }) (range-last first next (next + 1) (first + next) (omega arith) refl);
   }
 
   -- with more of the section handed out
@@ -96,21 +98,55 @@ module _ (j : JobShape) (size s k first : ℕ) where
   }
 
   -- where there is no next number, all of the section is handed out
-  pub all-handed : (next back : ℕ) (marks : List Bool) (gave : Bool) (g : GroupMap) → IsKept j size s k first next marks back g → next ≡ length marks
-      → (i : ℕ) → has (section (morsel_count (fact_rows j) size) k s) i ≡ true → has (state next marks gave g).handed i ≡ true
-  all-handed next back marks gave g h e i there = subst (λ xs. has xs i ≡ true) (ours-is next back marks g h ∙ ap (range_with_len first) (sym e)) there
+  pub all-handed : (next back : ℕ) (marks : List Bool) (g : GroupMap) → IsKept j size s k first next marks back g → next ≡ length marks
+      → (i : ℕ) → has (section (morsel_count (fact_rows j) size) k s) i ≡ true → has (range_with_len first next) i ≡ true
+  all-handed next back marks g h e i there = subst (λ xs. has xs i ≡ true) (ours-is next back marks g h ∙ ap (range_with_len first) (sym e)) there
+
+  -- ---- a ticket that is given up
+
+  module _ (next back : ℕ) (marks given : List Bool) (gave : Bool) (g : GroupMap) (t : TicketState) (h : IsKept j size s k first next marks back g) (long : length given ≡ length marks) (here : is_awaited (state next marks given gave g) t ≡ true) where
+    p : PartState
+    p = state next marks given gave g
+
+    handed : has p.handed t.morsel ≡ true
+    unfolding p
+    handed = both-right (nat_eq t.size size) (has p.handed t.morsel) (both-left (is_handed_out p t) (not (has p.returned t.morsel)) here)
+
+    -- it has a mark
+    pub awaited-place : (first ≤ t.morsel) × (t.morsel - first < length given)
+    unfolding p
+    awaited-place =
+        let w = within-range first next t.morsel handed in
+        let from = w.0 in
+        let below = w.1 in
+        let fits = h.fits in
+        (from, omega (arith, from, below, fits, long))
+
+    -- which it gets
+    pub gives-up : GivesUp t (state next marks given gave g) (state next marks (slice_set given (t.morsel - first) true) true g)
+    unfolding p
+    gives-up = record {
+      awaited = λ _. record {
+        handed = handed;
+        fresh = not-is (has p.returned t.morsel) (both-right (is_handed_out p t) (not (has p.returned t.morsel)) here);
+        given = with-mark first given t.morsel awaited-place.0 awaited-place.1;
+        after = refl;
+      };
+      strange = λ none. absurd (true≢false (sym here ∙ none));
+    }
 
   -- ---- a partial that comes back
 
   -- the part waits for it: its morsels were handed out, and none of them is back
-  pub record IsDue (next back : ℕ) (marks : List Bool) (g : GroupMap) (x : PartialState) : Type 0 where
+  pub record IsDue (next back : ℕ) (marks given : List Bool) (gave : Bool) (g : GroupMap) (x : PartialState) : Type 0 where
     pub kept : IsKept j size s k first next marks back g
-    pub handed : list_all (is_handed_out (state next marks false g)) x.tickets ≡ true
+    pub long : length given ≡ length marks
+    pub handed : list_all (is_handed_out (state next marks given gave g)) x.tickets ≡ true
     pub fresh : list_any (λ t. has (marked first marks) t.morsel) x.tickets ≡ false
     pub one : All (λ t. AreOneJob t.job j) x.tickets
     pub of : IsOfTickets x
 
-  module _ (next back : ℕ) (marks : List Bool) (g : GroupMap) (x : PartialState) (due : IsDue next back marks g x) where
+  module _ (next back : ℕ) (marks given : List Bool) (gave : Bool) (g : GroupMap) (x : PartialState) (due : IsDue next back marks given gave g x) where
     abbrev h : IsKept j size s k first next marks back g
     h = due.kept
 
@@ -118,10 +154,14 @@ module _ (j : JobShape) (size s k first : ℕ) where
     is = morsels_of x.tickets
 
     abbrev pub after : List Bool
-    after = with_marks first marks is
+    after = with_marks true first marks is
+
+    -- the marks of what was given up
+    abbrev pub fewer : List Bool
+    fewer = with_marks false first given is
 
     pub in-range : (i : ℕ) → has is i ≡ true → (first ≤ i) × (i < first + next)
-    in-range i m = within-range first next i (each-handed (state next marks false g) x.tickets due.handed i m)
+    in-range i m = within-range first next i (each-handed (state next marks given gave g) x.tickets due.handed i m)
 
     -- each has its mark
     pub marks-there : All (λ t. (first ≤ t.morsel) × (t.morsel - first < length marks)) x.tickets
@@ -132,13 +172,25 @@ module _ (j : JobShape) (size s k first : ℕ) where
         let fits = h.fits in
         (from, omega (arith, from, below, fits)))
 
+    given-there : AreThere first given is
+    given-there i m =
+        let w = in-range i m in
+        let from = w.0 in
+        let below = w.1 in
+        let fits = h.fits in
+        let long = due.long in
+        (from, omega (arith, from, below, fits, long))
+
+    pub given-marks-there : All (λ t. (first ≤ t.morsel) × (t.morsel - first < length given)) x.tickets
+    given-marks-there = of-each (λ i. (first ≤ i) × (i - first < length given)) x.tickets given-there
+
     pub free : AreFree first marks is
     free i m =
         let w = in-range i m in
         let from = w.0 in
         let below = w.1 in
         let fits = h.fits in
-        record { from = from; free = unmarked first marks i from (omega (arith, from, below, fits)) (none-back (state next marks false g) x.tickets due.fresh i m) }
+        record { from = from; free = unmarked first marks i from (omega (arith, from, below, fits)) (none-back (state next marks given gave g) x.tickets due.fresh i m) }
 
     apart : IsDistinct nat_eq is
     apart = twice-distinct is (batch-apart x.tickets due.of.batch)
@@ -150,7 +202,7 @@ module _ (j : JobShape) (size s k first : ℕ) where
     first-job = All-head (λ t. AreOneJob t.job j) due.of.first due.of.rest (subst (All (λ t. AreOneJob t.job j)) due.of.are due.one)
 
     first-size : due.of.first.size ≡ size
-    first-size = sizes-are (state next marks false g) due.of.first due.of.rest (subst (λ ts. list_all (is_handed_out (state next marks false g)) ts ≡ true) due.of.are due.handed)
+    first-size = sizes-are (state next marks given gave g) due.of.first due.of.rest (subst (λ ts. list_all (is_handed_out (state next marks given gave g)) ts ≡ true) due.of.are due.handed)
 
     -- the groups are of the part's job
     over : AreOver j size is x.groups
@@ -163,7 +215,10 @@ module _ (j : JobShape) (size s k first : ℕ) where
     rows-more = sym (length-append (morsel_rows j size (marked first marks)) (morsel_rows j size is)) ∙ sym (length_permutation _ _ (many-more (morsel_rows j size) refl (rows-cons j size) first marks is free apart))
 
     still : length after ≡ length marks
-    still = length-with first marks is
+    still = length-with true first marks is
+
+    pub still-long : length fewer ≡ length after
+    still-long = length-with false first given is ∙ due.long ∙ sym still
 
     rows-few : length (morsel_rows j size (marked first after)) < 2 ^ 32
     rows-few =
@@ -225,7 +280,8 @@ module _ (j : JobShape) (size s k first : ℕ) where
           }
 
       -- the morsels come back
-      pub comes-back : (gave : Bool) → n.job ≡ g.job → Runs (map event.back is) (state next marks gave g) (state next after gave n)
-      comes-back gave job =
-          returns-all is (state next marks gave g) (state next after gave n) some (λ i m. each-handed (state next marks false g) x.tickets due.handed i m) (λ i m. none-back (state next marks false g) x.tickets due.fresh i m) apart perm (job ∙ h.job) stands-more
+      pub comes-back : n.job ≡ g.job → Runs (map event.back is) (state next marks given gave g) (state next after fewer gave n)
+      comes-back job =
+          returns-all is (state next marks given gave g) (state next after fewer gave n) some (λ i m. each-handed (state next marks given gave g) x.tickets due.handed i m) (λ i m. none-back (state next marks given gave g) x.tickets due.fresh i m) apart perm
+          (cleared-gone first given is given-there) (cleared-others first given is given-there) (job ∙ h.job) stands-more
           (subst (Stands n) (sym (seen-append j size (marked first marks) is)) both) refl

@@ -79,6 +79,7 @@ pub record IsNewView (j : JobShape) (m s k : ℕ) (v : Knows) : Type 0 where
   pub opened : v.opened ≡ true
   pub free : v.holds ≡ false
   pub mine : v.mine ≡ []
+  pub due : v.due ≡ []
   pub opening : IsOpening j m s k v.seen
 
 pub begins_pass : (parts : PartsState) (p : PassState) (k : ℕ) → p.queues ≡ parts.queues → length parts.queues ≡ k → length p.views ≡ k → ((s : ℕ) → s < k → IsNewView parts.job parts.size s k (known p s)) → IsPassOfParts parts p × HoldsNone p × KnowsNothing p
@@ -90,7 +91,7 @@ begins_pass parts p k queues count count' each =
         each = λ s h. record { opened = (at s h).opened; part = let o = (at s h).opening in record { job = o.job; size = o.size; section = o.section; sections = o.sections ∙ sym count } };
       },
       (λ s h. (at s h).free),
-      (λ s h. let o = (at s h).opening in record { mine = (at s h).mine; handed = o.handed; returned = o.returned; gave_up = o.gave_up }),
+      (λ s h. let o = (at s h).opening in record { mine = (at s h).mine; due = (at s h).due; handed = o.handed; returned = o.returned; gave_up = o.gave_up }),
     )
 
 -- of a newcomer all that is asked of a pass holds
@@ -105,7 +106,7 @@ new_pass parts p h =
         each = all (IsViewOf parts) (λ s i. record { opened = refl; part = (h.0.each s i).part });
       },
       all (λ _ v. v.holds ≡ false) (λ s i. refl),
-      all (λ _ v. IsUnused v) (λ s i. let u = h.2 s i in record { mine = refl; handed = u.handed; returned = u.returned; gave_up = u.gave_up }),
+      all (λ _ v. IsUnused v) (λ s i. let u = h.2 s i in record { mine = refl; due = refl; handed = u.handed; returned = u.returned; gave_up = u.gave_up }),
     )
 
 -- the pass of one section was replaced by one that knows as much
@@ -188,10 +189,10 @@ opened_none name j m k = record { names = refl; count = refl; rest = All-nil IsA
 pub opened_count : {Q : Type 0} (name : Q → TableId) (j : JobShape) (m k : ℕ) (qs : List Q) (ps : List Own) (n : ℕ) → IsOpened name j m k qs ps n → length ps ≡ n
 opened_count name j m k qs ps n o = sym (length-map ps pass_name) ∙ (ap length o.names ∙ (length-map qs name ∙ o.count))
 
-pub opened_step : {Q : Type 0} (name : Q → TableId) (j : JobShape) (m k : ℕ) (qs : List Q) (ps : List Own) (n : ℕ) (q : Q) (p : Own) (x : PartState) → IsOpened name j m k qs ps n → p.table_id ≡ name q → p.me.1 ≡ [] → view p ≡ knows false x [] → IsOpening j m n k x
+pub opened_step : {Q : Type 0} (name : Q → TableId) (j : JobShape) (m k : ℕ) (qs : List Q) (ps : List Own) (n : ℕ) (q : Q) (p : Own) (x : PartState) → IsOpened name j m k qs ps n → p.table_id ≡ name q → p.me.1 ≡ [] → view p ≡ knows false x [] [] → IsOpening j m n k x
     → IsOpened name j m k (qs ++ q ∷ []) (ps ++ p ∷ []) (n + 1)
 opened_step name j m k qs ps n q p x o named slots knew opening =
-    let new : IsNewView j m n k (view p) = subst (IsNewView j m n k) (sym knew) (record { opened = refl; free = refl; mine = refl; opening = opening }) in record {
+    let new : IsNewView j m n k (view p) = subst (IsNewView j m n k) (sym knew) (record { opened = refl; free = refl; mine = refl; due = refl; opening = opening }) in record {
       names = snoc_both pass_name name ps qs p q o.names named;
       count = length-append qs (q ∷ []) ∙ ap (λ l. l + 1) o.count;
       rest = All-push IsAtRest ps p o.rest slots;

@@ -6,10 +6,11 @@ use Rattle.std.proofs.lemmas.List.Elements.{All-nil, All-append, All-weaker}
 use Rattle.ssb_pipeline.specs.Part.{has}
 use Rattle.ssb_pipeline.specs.Rule.{Knows, fresh}
 use Rattle.ssb_pipeline.specs.Pass.{AllSections, PartsState, PassState, known, knowing}
-use Rattle.ssb_pipeline.specs.Batch.{AreSettled, BringsAll, GetsTickets, IsMore}
+use Rattle.ssb_pipeline.specs.Batch.{BringsBatch, GetsTickets, IsMore, without_all}
 use Rattle.ssb_pipeline.specs.Tickets.{TicketState, morsels_of}
-use Rattle.ssb_pipeline.specs.Work.{AllBack, IsExhausted, IsReady, IsRound, OnlyIn, StaysReady}
+use Rattle.ssb_pipeline.specs.Work.{AllBack, AreSettled, IsExhausted, IsReady, IsRound, OnlyIn, StaysReady}
 use Rattle.ssb_pipeline.proofs.Later.{follows_self, follows_after}
+use Rattle.ssb_pipeline.proofs.Numbers.{as-before}
 use Rattle.ssb_pipeline.proofs.Passes.{all_knowing, all_but_one}
 
 pub only_self : (s : ℕ) (p : PassState) → OnlyIn s p p
@@ -34,7 +35,7 @@ module _ (parts : PartsState) (s : ℕ) (p q : PassState) (ready : IsReady parts
   ready_more r a b = record { only = only_more s p q r (subst (λ n. s < n) (sym ready.pass.count) ready.there) a.only b.only; pass = b.pass; none = b.none }
 
 pub round_self : (v : Knows) → IsRound v v
-round_self v = record { more = []; mine = sym (append-nil v.mine); follows = follows_self v.seen; back = inr (All-nil (λ i. has v.seen.returned i ≡ true)) }
+round_self v = record { more = []; mine = sym (append-nil v.mine); due = refl; follows = follows_self v.seen; back = inr (All-nil (λ i. has v.seen.returned i ≡ true)) }
 
 back_after : (v w x : Knows) (a : IsRound v w) (b : IsRound w x) → ((w.seen.gave_up ≡ true) ⊎ AllBack a.more w.seen) → ((x.seen.gave_up ≡ true) ⊎ AllBack b.more x.seen)
     → (x.seen.gave_up ≡ true) ⊎ AllBack (a.more ++ b.more) x.seen
@@ -49,6 +50,7 @@ pub round_after : (v w x : Knows) → IsRound v w → IsRound w x → IsRound v 
 round_after v w x a b = record {
   more = a.more ++ b.more;
   mine = b.mine ∙ (ap (λ l. l ++ b.more) a.mine ∙ append_assoc v.mine a.more b.more);
+  due = b.due ∙ a.due;
   follows = follows_after x.seen w.seen v.seen b.follows a.follows;
   back = back_after v w x a b a.back b.back;
 }
@@ -65,10 +67,11 @@ ended_step D q r s in_views all only new =
     subst (AllSections F) (sym only) (all_but_one F q s (known r s) all (λ d. new) in_views)
 
 -- tickets came, and their morsels were brought back
-pub round-of : (ts : List TicketState) (v m w : Knows) → GetsTickets ts v m → BringsAll ts m w → IsRound v w
-round-of ts v m w g b = record {
+pub round-of : (batch : ℕ) (ts : List TicketState) (v m w : Knows) → GetsTickets batch ts v m → BringsBatch ts m w → IsRound v w
+round-of batch ts v m w g b = record {
   more = morsels_of ts ++ g.lost;
   mine = b.mine ∙ g.mine;
+  due = b.due ∙ ap (without_all (morsels_of ts)) g.due ∙ as-before (morsels_of ts) v.due g.fresh;
   follows = follows_after w.seen m.seen v.seen b.follows g.follows;
   back = by g.lost g.gave b.back;
 }
@@ -79,10 +82,20 @@ round-of ts v m w g b = record {
     by lost (inr none) (inr all) = inr (subst (λ is. AllBack is w.seen) (sym (append-nil (morsels_of ts)) ∙ ap (λ l. morsels_of ts ++ l) (sym none)) all)
 
 -- no ticket came
-pub round-none : (ts : List TicketState) (v w : Knows) → ts ≡ [] → GetsTickets ts v w → IsRound v w
-round-none ts v w none g = round-of ts v w w g (record { mine = refl; follows = follows_self w.seen; back = inr (subst (λ us. AllBack (morsels_of us) w.seen) (sym none) (All-nil (λ i. has w.seen.returned i ≡ true))) })
+pub round-none : (batch : ℕ) (ts : List TicketState) (v w : Knows) → ts ≡ [] → GetsTickets batch ts v w → IsRound v w
+round-none batch ts v w none g = record {
+  more = g.lost;
+  mine = g.mine ∙ ap (λ us. v.mine ++ (morsels_of us ++ g.lost)) none;
+  due = g.due ∙ ap (λ us. v.due ++ morsels_of us) none ∙ append-nil v.due;
+  follows = g.follows;
+  back = by g.lost g.gave;
+}
+  where
+    by : (lost : List ℕ) → ((w.seen.gave_up ≡ true) ⊎ (lost ≡ [])) → AreSettled lost w.seen
+    by lost (inl gave) = inl gave
+    by lost (inr empty) = inr (subst (λ is. AllBack is w.seen) (sym empty) (All-nil (λ i. has w.seen.returned i ≡ true)))
 
 -- where tickets came, more was handed out to the pass
-pub more-of : (ts : List TicketState) (v m w : Knows) → (ts ≡ [] → ⊥) → GetsTickets ts v m → BringsAll ts m w → IsMore v w
-more-of [] v m w some g b = absurd (some refl)
-more-of (t ∷ ts) v m w some g b = record { first = t.morsel; others = morsels_of ts ++ g.lost; mine = b.mine ∙ g.mine }
+pub more-of : (batch : ℕ) (ts : List TicketState) (v m w : Knows) → (ts ≡ [] → ⊥) → GetsTickets batch ts v m → BringsBatch ts m w → IsMore v w
+more-of batch [] v m w some g b = absurd (some refl)
+more-of batch (t ∷ ts) v m w some g b = record { first = t.morsel; others = morsels_of ts ++ g.lost; mine = b.mine ∙ g.mine }

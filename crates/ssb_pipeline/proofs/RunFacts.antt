@@ -12,14 +12,15 @@ use Rattle.ssb_groups.specs.Stands.{AreRanged, Stands}
 use Rattle.ssb_groups.proofs.AnyRows.{stands_for_any}
 use Rattle.ssb_groups.proofs.Permuted.{any_order}
 use Rattle.ssb_pipeline.specs.Joined.{seen_in}
-use Rattle.ssb_pipeline.specs.Part.{Event, Follows, GivesBack, GivesUp, Hands, HandsAll, HandsOut, Happens, IsLawfulPart, IsOpening, IsReached, PartState, Ran, Returns, Runs, RunsLoseNothing, RunsStayLawful, WholeSectionsStand, back, give_up, hand, hand_all, has, ours}
+use Rattle.ssb_pipeline.specs.Part.{Event, Follows, Gives, GivesBack, GivesUp, Hands, HandsAll, HandsOut, Happens, IsLawfulPart, IsOpening, IsReached, PartState, Ran, Refuses, Returns, Runs, RunsLoseNothing, RunsStayLawful, WholeSectionsStand, back, give, hand, hand_all, has, is_awaited, ours, refuse}
 use Rattle.ssb_pipeline.specs.State.{PartialState}
 use Rattle.ssb_pipeline.specs.Tickets.{TicketState, morsels_of}
 use Rattle.ssb_pipeline.specs.declared.fault.ReturnFault.{ReturnFault}
 use Rattle.ssb_pipeline.specs.declared.fault.ReturnFault.TheVariants as fault
 use Rattle.ssb_pipeline.proofs.JoinedFacts.{seen-append, seen-cons, seen-none}
-use Rattle.ssb_pipeline.proofs.Later.{back-follows, follows_after, follows_self, give-up-follows, hand-follows, sweep-follows}
+use Rattle.ssb_pipeline.proofs.Later.{back-follows, follows_after, follows_self, give-follows, hand-follows, refuse-follows, sweep-follows}
 use Rattle.ssb_pipeline.proofs.MarkFacts.{lacks-each}
+use Rattle.ssb_pipeline.proofs.Numbers.{differs, head-has, known, only-one, tail-has, without, without-is}
 use Rattle.ssb_pipeline.proofs.RangeFacts.{distinct-range, itself}
 use Rattle.ssb_pipeline.proofs.SetFacts.{distinct-last, has-last, has-left, same-set}
 
@@ -53,8 +54,11 @@ back-ran x (Err (fault.NotHandedOut y)) p q h = same-ran p q h.same
 back-ran x (Err (fault.Doubled y)) p q h = same-ran p q h.same
 back-ran x (Err (fault.Memory y)) p q h = same-ran p q h.same
 
-pub up-ran : (p q : PartState) → GivesUp p q → Ran p q
-up-ran p q h = ran_one give_up p q h
+pub up-ran : (t : TicketState) (p q : PartState) → GivesUp t p q → Ran p q
+up-ran t p q h = elim (known (is_awaited p t)) [
+  | inl here ↦ ran_one (give t.morsel) p q (h.awaited here)
+  | inr none ↦ ran_one refuse p q (h.strange none)
+]
 
 pub sweep-ran : (p q : PartState) → IsLawfulPart p → q ≡ record p { handed = ours p } → Ran p q
 sweep-ran p q l e = ran_one hand_all p q (record { kept = l.within; after = e })
@@ -71,8 +75,11 @@ handed-lawful i p q l h = subst IsLawfulPart (sym h.after) (record {
   stands = l.stands;
 })
 
-gave-lawful : (p q : PartState) → IsLawfulPart p → GivesUp p q → IsLawfulPart q
-gave-lawful p q l h = subst IsLawfulPart (sym h) (record { handed = l.handed; within = l.within; returned = l.returned; among = l.among; job = l.job; stands = l.stands })
+gave-lawful : (i : ℕ) (p q : PartState) → IsLawfulPart p → Gives i p q → IsLawfulPart q
+gave-lawful i p q l h = subst IsLawfulPart (sym h.after) (record { handed = l.handed; within = l.within; returned = l.returned; among = l.among; job = l.job; stands = l.stands })
+
+refused-lawful : (p q : PartState) → IsLawfulPart p → Refuses p q → IsLawfulPart q
+refused-lawful p q l h = subst IsLawfulPart (sym h) (record { handed = l.handed; within = l.within; returned = l.returned; among = l.among; job = l.job; stands = l.stands })
 
 swept-lawful : (p q : PartState) → IsLawfulPart p → HandsAll p q → IsLawfulPart q
 swept-lawful p q l h = subst IsLawfulPart (sym h.after) (record {
@@ -106,7 +113,8 @@ step : (e : Event) (p q : PartState) → IsLawfulPart p → Happens e p q → Is
 step (hand i) p q l h = handed-lawful i p q l h
 step hand_all p q l h = swept-lawful p q l h
 step (back i) p q l h = back-lawful i p q l h
-step give_up p q l h = gave-lawful p q l h
+step (give i) p q l h = gave-lawful i p q l h
+step refuse p q l h = refused-lawful p q l h
 
 steps : (es : List Event) (p q : PartState) → IsLawfulPart p → Runs es p q → IsLawfulPart q
 steps [] p q l r = subst IsLawfulPart (sym r) l
@@ -131,7 +139,8 @@ one-follows : (e : Event) (p q : PartState) → Happens e p q → Follows q p
 one-follows (hand i) p q h = hand-follows i p q h
 one-follows hand_all p q h = sweep-follows p q h
 one-follows (back i) p q h = back-follows i p q h
-one-follows give_up p q h = give-up-follows p q h
+one-follows (give i) p q h = give-follows i p q h
+one-follows refuse p q h = refuse-follows p q h
 
 all-follow : (es : List Event) (p q : PartState) → Runs es p q → Follows q p
 all-follow [] p q r = subst (λ x. Follows x p) (sym r) (follows_self p)
@@ -144,7 +153,7 @@ ran-follows p q r = all-follow r.events p q r.runs
 
 -- an opening part, as its own state names it
 pub own-opening : (j : JobShape) (m s k : ℕ) (p : PartState) → IsOpening j m s k p → IsOpening p.job p.size p.section p.sections p
-own-opening j m s k p o = record { job = refl; size = refl; section = refl; sections = refl; handed = o.handed; returned = o.returned; gave_up = o.gave_up; one_job = o.one_job; stands = o.stands }
+own-opening j m s k p o = record { job = refl; size = refl; section = refl; sections = refl; handed = o.handed; returned = o.returned; given = o.given; gave_up = o.gave_up; one_job = o.one_job; stands = o.stands }
 
 pub reached-opening : (p : PartState) → IsOpening p.job p.size p.section p.sections p → IsReached p
 reached-opening p o = record { opening = p; empty = o; ran = ran_self p }
@@ -160,6 +169,34 @@ whole p l all =
     any_order p.groups (seen_in p.job p.size p.returned) (seen_in p.job p.size (ours p))
     (same-set (seen_in p.job p.size) (seen-none p.job p.size) (seen-cons p.job p.size) p.returned (ours p) l.returned (distinct-range _ _) (λ i h. l.within i (l.among i h)) all) l.stands
 
+-- ---- what was given up is handed out
+
+AreGiven : PartState → Type 0
+AreGiven p = (i : ℕ) → has p.given i ≡ true → has p.handed i ≡ true
+
+given-step : (e : Event) (p q : PartState) → AreGiven p → Happens e p q → AreGiven q
+unfolding AreGiven
+given-step (hand i) p q g h = subst AreGiven (sym h.after) (λ k there. has-left p.handed (i ∷ []) k (g k there))
+given-step hand_all p q g h = subst AreGiven (sym h.after) (λ k there. h.kept k (g k there))
+given-step (back i) p q g h = subst AreGiven (sym h.after) (λ k there. elim (known (nat_eq k i)) [
+  | inl e ↦ absurd (true≢false (sym (subst (λ n. has q.given n ≡ true) (eqb-true k i e) there) ∙ h.given.gone))
+  | inr e ↦ g k (sym (h.given.others k (differs k i e)) ∙ there)
+])
+given-step (give i) p q g h = subst AreGiven (sym h.after) (λ k there. elim (known (nat_eq k i)) [
+  | inl e ↦ subst (λ n. has p.handed n ≡ true) (sym (eqb-true k i e)) h.handed
+  | inr e ↦ g k (sym (h.given.others k (differs k i e)) ∙ there)
+])
+given-step refuse p q g h = subst AreGiven (sym h) g
+
+given-steps : (es : List Event) (p q : PartState) → AreGiven p → Runs es p q → AreGiven q
+unfolding AreGiven
+given-steps [] p q g r = subst AreGiven (sym r) g
+given-steps (e ∷ es) p q g r = given-steps es r.0 q (given-step e p r.0 g r.1) r.2
+
+pub given-handed : (p : PartState) → IsReached p → (i : ℕ) → has p.given i ≡ true → has p.handed i ≡ true
+unfolding AreGiven
+given-handed p r = given-steps r.ran.events r.opening p (λ i h. absurd (true≢false (sym h ∙ ap (λ l. has l i) r.empty.given))) r.ran.runs
+
 -- ---- several numbers that come back, one after the other
 
 ranged-left : (xs ys : List SeenRow) → AreRanged (xs ++ ys) → AreRanged xs
@@ -168,53 +205,48 @@ ranged-left (x ∷ xs) ys h = (h.0, ranged-left xs ys h.1)
 
 -- where the groups stand for those before and all of these, and none of these was back
 pub returns-all : (is : List ℕ) (p q : PartState) → 0 < length is → ((i : ℕ) → has is i ≡ true → has p.handed i ≡ true) → ((i : ℕ) → has is i ≡ true → has p.returned i ≡ false) → IsDistinct nat_eq is
-    → IsPermutation (p.returned ++ is) q.returned → AreOneJob q.groups.job q.job → Stands q.groups (seen_in q.job q.size q.returned) → Stands q.groups (seen_in p.job p.size (p.returned ++ is)) → q ≡ record p { returned = q.returned; groups = q.groups }
+    → IsPermutation (p.returned ++ is) q.returned → ((i : ℕ) → has is i ≡ true → has q.given i ≡ false) → ((i : ℕ) → has is i ≡ false → has q.given i ≡ has p.given i) → AreOneJob q.groups.job q.job → Stands q.groups (seen_in q.job q.size q.returned)
+    → Stands q.groups (seen_in p.job p.size (p.returned ++ is)) → q ≡ record p { returned = q.returned; given = q.given; groups = q.groups }
     → Runs (map back is) p q
 unfolding IsDistinct
-returns-all [] p q some handed fresh d perm job stands all after = absurd (omega (arith, some))
-returns-all (i ∷ []) p q some handed fresh d perm job stands all after = (
+returns-all [] p q some handed fresh d perm gone others job stands all after = absurd (omega (arith, some))
+returns-all (i ∷ []) p q some handed fresh d perm gone others job stands all after = (
   q,
   record {
-    handed = handed i (head i []);
-    fresh = fresh i (head i []);
+    handed = handed i (head-has i []);
+    fresh = fresh i (head-has i []);
     returned = perm;
+    given = record { gone = gone i (head-has i []); others = λ k ne. others k (false_from_ne_true (has (i ∷ []) k) (λ h. ne (only-one i k h))) };
     job = job;
     stands = stands;
     after = after;
   },
   refl,
 )
-  where
-    head : (x : ℕ) (xs : List ℕ) → has (x ∷ xs) x ≡ true
-    head x xs = ap (λ b. b || has xs x) (itself x x refl)
-returns-all (i ∷ k ∷ is) p q some handed fresh d perm job stands all after =
+returns-all (i ∷ k ∷ is) p q some handed fresh d perm gone others job stands all after =
     let on : (p.returned ++ i ∷ []) ++ k ∷ is ≡ p.returned ++ i ∷ k ∷ is = append_assoc p.returned (i ∷ []) (k ∷ is) in
     let rows : seen_in p.job p.size (p.returned ++ i ∷ k ∷ is) ≡ seen_in p.job p.size (p.returned ++ i ∷ []) ++ seen_in p.job p.size (k ∷ is) = ap (seen_in p.job p.size) (sym on) ∙ seen-append p.job p.size (p.returned ++ i ∷ []) (k ∷ is) in
     let some_groups = stands_for_any p.job (seen_in p.job p.size (p.returned ++ i ∷ [])) (ranged-left _ _ (subst AreRanged rows all.ranged)) in
-    let m : PartState = record p { returned = p.returned ++ i ∷ []; groups = some_groups.groups } in
+    let w = without-is i p.given in
+    let m : PartState = record p { returned = p.returned ++ i ∷ []; given = without i p.given; groups = some_groups.groups } in
     let first : Returns i p m = record {
-      handed = handed i (head i (k ∷ is));
-      fresh = fresh i (head i (k ∷ is));
+      handed = handed i (head-has i (k ∷ is));
+      fresh = fresh i (head-has i (k ∷ is));
       returned = IsPermutation-refl (p.returned ++ i ∷ []);
+      given = w;
       job = some_groups.job;
       stands = some_groups.stands;
       after = refl;
     } in (
       m,
       first,
-      returns-all (k ∷ is) m q (omega arith) (λ n h. handed n (behind i (k ∷ is) n h)) (λ n h. fresh-still n (fresh n (behind i (k ∷ is) n h)) (lacks-each i (k ∷ is) d.0 n h)) d.1
-          (subst (λ xs. IsPermutation xs q.returned) (sym on) perm) job stands (subst (λ xs. Stands q.groups (seen_in p.job p.size xs)) (sym on) all) after,
+      returns-all (k ∷ is) m q (omega arith) (λ n h. handed n (tail-has i (k ∷ is) n h)) (λ n h. fresh-still n (fresh n (tail-has i (k ∷ is) n h)) (lacks-each i (k ∷ is) d.0 n h)) d.1
+          (subst (λ xs. IsPermutation xs q.returned) (sym on) perm) (λ n h. gone n (tail-has i (k ∷ is) n h))
+          (λ n lacks. elim (known (nat_eq n i)) [
+            | inl same ↦ let e = eqb-true n i same in gone n (subst (λ x. has (i ∷ k ∷ is) x ≡ true) (sym e) (head-has i (k ∷ is))) ∙ sym (ap (has (without i p.given)) e ∙ w.gone)
+            | inr other ↦ others n (ap (λ b. b || has (k ∷ is) n) other ∙ lacks) ∙ sym (w.others n (differs n i other))
+          ]) job stands (subst (λ xs. Stands q.groups (seen_in p.job p.size xs)) (sym on) all) after,
     )
   where
-    head : (x : ℕ) (xs : List ℕ) → has (x ∷ xs) x ≡ true
-    head x xs = ap (λ b. b || has xs x) (itself x x refl)
-
-    or-true : (b : Bool) → (b || true) ≡ true
-    or-true true = refl
-    or-true false = refl
-
-    behind : (x : ℕ) (xs : List ℕ) (n : ℕ) → has xs n ≡ true → has (x ∷ xs) n ≡ true
-    behind x xs n h = ap (λ b. nat_eq n x || b) h ∙ or-true (nat_eq n x)
-
     fresh-still : (n : ℕ) → has p.returned n ≡ false → (n ≡ i → ⊥) → has (p.returned ++ i ∷ []) n ≡ false
     fresh-still n old other = false_from_ne_true (has (p.returned ++ i ∷ []) n) (λ h. elim (has-last p.returned i n h) [ inl there ↦ true≢false (sym there ∙ old) | inr same ↦ other same ])

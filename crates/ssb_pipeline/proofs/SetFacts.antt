@@ -7,7 +7,7 @@ use Rattle.std.proofs.lemmas.List.Sorted.{IsPermutation-append_comm, IsPermutati
 use Rattle.ssb_pipeline.specs.Part.{has}
 use Rattle.ssb_pipeline.proofs.RangeFacts.{itself}
 
-true-or : (b : Bool) → (b || true) ≡ true
+pub true-or : (b : Bool) → (b || true) ≡ true
 true-or true = refl
 true-or false = refl
 

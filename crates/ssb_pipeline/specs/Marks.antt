@@ -13,12 +13,12 @@ marked a [] = []
 marked a (true ∷ bs) = a ∷ marked (a + 1) bs
 marked a (false ∷ bs) = marked (a + 1) bs
 
--- the marks with those of these numbers set, where the first mark is that of a
-abbrev pub with_marks : ℕ → List Bool → List ℕ → List Bool
-with_marks a bs [] = bs
-with_marks a bs (i ∷ is) = with_marks a (slice_set bs (i - a) true) is
+-- the marks with those of these numbers set, or cleared, where the first mark is that of a
+abbrev pub with_marks : Bool → ℕ → List Bool → List ℕ → List Bool
+with_marks b a bs [] = bs
+with_marks b a bs (i ∷ is) = with_marks b a (slice_set bs (i - a) b) is
 
--- what a part's fields keep: the job, the size of a morsel, the section and how many there are, the section's first morsel, how many were handed out, the marks, how many are set, and the groups
+-- what a part's fields keep: the job, the size of a morsel, the section and how many there are, the section's first morsel, how many were handed out, the marks of those that came back, how many are set, and the groups
 pub record IsKept (j : JobShape) (size s k first next : ℕ) (marks : List Bool) (back : ℕ) (g : GroupMap) : Type 0 where
   pub many : 0 < k
   pub begins : first ≡ morsel_cut (morsel_count (fact_rows j) size) k s

@@ -1,6 +1,6 @@
 -- One section's part of the work: what was handed out, what came back, and the groups over what came back. And a core run: the events that change a part.
 -- Source: own. It knows no marks and no counters.
-use Rattle.std.specs.Prelude.{◌≡◌, ◌≤◌, ◌<◌, ◌++◌, ◌∷◌, [], ◌⊎◌, ◌&&◌, ℕ, Bool, true, false, not, nat_eq, List, length, map, Option, None, Some, Result, Ok, Err, ⊤}
+use Rattle.std.specs.Prelude.{◌≡◌, ◌≤◌, ◌<◌, ◌++◌, ◌∷◌, [], ◌⊎◌, ◌&&◌, ◌||◌, ℕ, Bool, true, false, not, nat_eq, List, length, map, Option, None, Some, Result, Ok, Err, ⊤}
 use Rattle.std.specs.List.{IsDistinct, filter, list_all, list_any}
 use Rattle.std.specs.List.Sorted.{IsPermutation}
 use Rattle.ssb_job.specs.Kept.{AreOneJob, JobShape, fact_rows, kept}
@@ -13,8 +13,8 @@ use Rattle.ssb_pipeline.specs.Tickets.{TicketState, morsels_of}
 use Rattle.ssb_pipeline.specs.declared.fault.ReturnFault.{ReturnFault}
 use Rattle.ssb_pipeline.specs.declared.fault.ReturnFault.TheVariants as fault
 
--- A part: its job, the size of a morsel, its section of so many, the numbers handed out, those that came back, whether a ticket was given up, and the
--- groups over those that came back.
+-- A part: its job, the size of a morsel, its section of so many, the numbers handed out, those that came back, those that were given up and did not come
+-- back, whether a ticket was given up, and the groups over those that came back.
 pub record PartState : Type 0 where
   pub job : JobShape
   pub size : ℕ
@@ -22,6 +22,7 @@ pub record PartState : Type 0 where
   pub sections : ℕ
   pub handed : List ℕ
   pub returned : List ℕ
+  pub given : List ℕ
   pub gave_up : Bool
   pub groups : GroupMap
 
@@ -55,6 +56,24 @@ IsWhole p = (i : ℕ) → has (ours p) i ≡ true → has p.returned i ≡ true
 abbrev pub IsAllHanded : PartState → Type 0
 IsAllHanded p = (i : ℕ) → has (ours p) i ≡ true → has p.handed i ≡ true
 
+-- a ticket was given up, or all of its section was handed out
+abbrev pub IsEnded : PartState → Type 0
+IsEnded p = (p.gave_up ≡ true) ⊎ IsAllHanded p
+
+-- whether a number neither came back nor was given up
+abbrev pub is_open : PartState → ℕ → Bool
+is_open p i = not (has p.returned i || has p.given i)
+
+-- a number that is out: handed out, and it neither came back nor was given up
+pub record IsOut (p : PartState) (i : ℕ) : Type 0 where
+  pub handed : has p.handed i ≡ true
+  pub returned : has p.returned i ≡ false
+  pub given : has p.given i ≡ false
+
+-- each of these numbers is
+abbrev pub AreOut : PartState → List ℕ → Type 0
+AreOut p is = (i : ℕ) → has is i ≡ true → IsOut p i
+
 -- nothing was handed out, nothing came back, no ticket was given up, and the groups stand for no row
 pub record IsOpening (j : JobShape) (m s k : ℕ) (p : PartState) : Type 0 where
   pub job : AreOneJob p.job j
@@ -63,11 +82,22 @@ pub record IsOpening (j : JobShape) (m s k : ℕ) (p : PartState) : Type 0 where
   pub sections : p.sections ≡ k
   pub handed : p.handed ≡ []
   pub returned : p.returned ≡ []
+  pub given : p.given ≡ []
   pub gave_up : p.gave_up ≡ false
   pub one_job : AreOneJob p.groups.job p.job
   pub stands : Stands p.groups []
 
 -- ---- events
+
+-- ys are the numbers xs and i
+pub record IsWith (i : ℕ) (xs ys : List ℕ) : Type 0 where
+  pub here : has ys i ≡ true
+  pub others : (k : ℕ) → (k ≡ i → ⊥) → has ys k ≡ has xs k
+
+-- ys are the numbers xs without i
+pub record IsWithout (i : ℕ) (xs ys : List ℕ) : Type 0 where
+  pub gone : has ys i ≡ false
+  pub others : (k : ℕ) → (k ≡ i → ⊥) → has ys k ≡ has xs k
 
 -- the least number of the section that was not handed out is handed out, where no ticket was given up
 pub record Hands (i : ℕ) (p q : PartState) : Type 0 where
@@ -82,18 +112,26 @@ pub record HandsAll (p q : PartState) : Type 0 where
   pub kept : (i : ℕ) → has p.handed i ≡ true → has (ours p) i ≡ true
   pub after : q ≡ record p { handed = ours p }
 
--- a number that was handed out and had not come back comes back, with the groups over its morsel
+-- a number that was handed out and had not come back comes back, with the groups over its morsel; where it was given up, it no longer is
 pub record Returns (i : ℕ) (p q : PartState) : Type 0 where
   pub handed : has p.handed i ≡ true
   pub fresh : has p.returned i ≡ false
   pub returned : IsPermutation (p.returned ++ i ∷ []) q.returned
+  pub given : IsWithout i p.given q.given
   pub job : AreOneJob q.groups.job q.job
   pub stands : Stands q.groups (seen_in q.job q.size q.returned)
-  pub after : q ≡ record p { returned = q.returned; groups = q.groups }
+  pub after : q ≡ record p { returned = q.returned; given = q.given; groups = q.groups }
 
--- a ticket is given up
-abbrev pub GivesUp : PartState → PartState → Type 0
-GivesUp p q = q ≡ record p { gave_up = true }
+-- a number that was handed out and had not come back is given up
+pub record Gives (i : ℕ) (p q : PartState) : Type 0 where
+  pub handed : has p.handed i ≡ true
+  pub fresh : has p.returned i ≡ false
+  pub given : IsWith i p.given q.given
+  pub after : q ≡ record p { given = q.given; gave_up = true }
+
+-- a ticket of another part, or one that came back, is given up
+abbrev pub Refuses : PartState → PartState → Type 0
+Refuses p q = q ≡ record p { gave_up = true }
 
 -- x is the same part as y, at that time or later: no number that was handed out or came back is lost, and a ticket that was given up stays so
 pub record Follows (x y : PartState) : Type 0 where
@@ -120,13 +158,15 @@ pub data Event : Type 0 where
   hand : ℕ → Event
   hand_all : Event
   back : ℕ → Event
-  give_up : Event
+  give : ℕ → Event
+  refuse : Event
 
 abbrev pub Happens : Event → PartState → PartState → Type 0
 Happens (hand i) p q = Hands i p q
 Happens hand_all p q = HandsAll p q
 Happens (back i) p q = Returns i p q
-Happens give_up p q = GivesUp p q
+Happens (give i) p q = Gives i p q
+Happens refuse p q = Refuses p q
 
 -- what a list of events leads to
 abbrev pub Runs : List Event → PartState → PartState → Type 0
@@ -150,7 +190,11 @@ pub record IsReached (p : PartState) : Type 0 where
 abbrev pub is_handed_out : PartState → TicketState → Bool
 is_handed_out p t = nat_eq t.size p.size && has p.handed t.morsel
 
--- all of some tickets are
+-- whether it is for one that also did not come back
+abbrev pub is_awaited : PartState → TicketState → Bool
+is_awaited p t = is_handed_out p t && not (has p.returned t.morsel)
+
+-- all of some tickets are for morsels that were handed out
 abbrev pub AreHandedOut : PartState → List TicketState → Type 0
 AreHandedOut p ts = list_all (is_handed_out p) ts ≡ true
 
@@ -171,7 +215,7 @@ pub record HandsNext (t : TicketState) (p q : PartState) : Type 0 where
 -- no ticket: all is handed out, or a ticket was given up
 pub record HandsNone (p q : PartState) : Type 0 where
   pub same : q ≡ p
-  pub ended : (p.gave_up ≡ true) ⊎ IsAllHanded p
+  pub ended : IsEnded p
 
 -- what handing out answers
 abbrev pub HandsOut : PartState → Option TicketState → PartState → Type 0
@@ -182,7 +226,7 @@ HandsOut p (Some t) q = HandsNext t p q
 pub record IsTaken (x : PartialState) (p q : PartState) : Type 0 where
   pub handed : AreHandedOut p x.tickets
   pub returns : Runs (map back (morsels_of x.tickets)) p q
-  pub after : q ≡ record p { returned = q.returned; groups = q.groups }
+  pub after : q ≡ record p { returned = q.returned; given = q.given; groups = q.groups }
 
 -- a partial is refused, for a reason: the part is as before, and the partial comes back
 pub record IsRefused (Reason : Type 0) (x y : PartialState) (p q : PartState) : Type 0 where
@@ -196,6 +240,28 @@ GivesBack p x (Ok u) q = IsTaken x p q
 GivesBack p x (Err (fault.NotHandedOut y)) q = IsRefused (list_all (is_handed_out p) x.tickets ≡ false) x y p q
 GivesBack p x (Err (fault.Doubled y)) q = IsRefused (HaveComeBack true p x.tickets) x y p q
 GivesBack p x (Err (fault.Memory y)) q = IsRefused (HaveComeBack false p x.tickets) x y p q
+
+-- taken, or refused for want of memory alone
+abbrev pub IsUnrefused : Result ⊤ ReturnFault → Type 0
+IsUnrefused (Ok u) = ⊤
+IsUnrefused (Err (fault.NotHandedOut y)) = ⊥
+IsUnrefused (Err (fault.Doubled y)) = ⊥
+IsUnrefused (Err (fault.Memory y)) = ⊤
+
+-- a ticket of the part's job and of its size of a morsel
+pub record IsTicketOf (p : PartState) (t : TicketState) : Type 0 where
+  pub job : AreOneJob t.job p.job
+  pub size : t.size ≡ p.size
+
+-- it is for a morsel that is out
+pub record IsOutIn (p : PartState) (t : TicketState) : Type 0 where
+  pub of : IsTicketOf p t
+  pub out : IsOut p t.morsel
+
+-- what giving a ticket up does: its number is given up where the part awaits it, and else the refusal alone is recorded
+pub record GivesUp (t : TicketState) (p q : PartState) : Type 0 where
+  pub awaited : is_awaited p t ≡ true → Gives t.morsel p q
+  pub strange : is_awaited p t ≡ false → Refuses p q
 
 -- ---- laws
 

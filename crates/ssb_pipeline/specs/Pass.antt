@@ -73,9 +73,10 @@ pub record IsPassOfParts (parts : PartsState) (p : PassState) : Type 0 where
 abbrev pub HoldsNone : PassState → Type 0
 HoldsNone p = AllSections (λ _ v. v.holds ≡ false) p
 
--- nothing was handed out to it, and it has seen that nothing was handed out, came back or was given up
+-- nothing was handed out to it, nothing is due, and it has seen that nothing was handed out, came back or was given up
 pub record IsUnused (v : Knows) : Type 0 where
   pub mine : v.mine ≡ []
+  pub due : v.due ≡ []
   pub handed : v.seen.handed ≡ []
   pub returned : v.seen.returned ≡ []
   pub gave_up : v.seen.gave_up ≡ false

@@ -1,10 +1,11 @@
 // What a worker does while it holds a part: it gets a batch of tickets, or brings one back.
 
-ghost use Rattle.std.specs.Prelude.{◌≡◌, ◌<◌, [], List, length};
-ghost use Rattle.ssb_pipeline.specs.Batch.{BringsBatch, GetsTickets, HandsBatch, IsBatchOf, IsReturnedBatch, TakesBatch};
-ghost use Rattle.ssb_pipeline.specs.Part.{GivesUp};
+ghost use Rattle.std.specs.Prelude.{◌≡◌, [], List};
+ghost use Rattle.std.specs.List.{All};
+ghost use Rattle.ssb_pipeline.specs.Batch.{BringsBatch, GetsTickets, HandsBatch, IsBatchOf, IsBatchWith, IsDueTo, Settles};
+ghost use Rattle.ssb_pipeline.specs.Part.{IsOutIn};
 ghost use Rattle.ssb_pipeline.specs.Pass.{known};
-ghost use Rattle.ssb_pipeline.specs.Tickets.{TicketState};
+ghost use Rattle.ssb_pipeline.specs.Tickets.{TicketState, morsels_of};
 ghost use Rattle.ssb_pipeline.specs.Work.{IsReady, StaysReady};
 
 use crate::fault::ReturnFault;
@@ -17,8 +18,9 @@ use std::sync::Wait;
 
 // A part hands out a ticket for which there is no room, so that it is given up.
 fn hand_out_none<G: Gate>(part: &mut Part, section: u32, gate: &G)
-    ensures { HandsBatch [] part.old part.new }
+    ensures { HandsBatch 0 [] part.old part.new }
 {
+    part.lawful();
     if let Some(ticket) = part.hand_out() {
         gate.while_held(section, ticket.morsel());
         part.give_up(ticket);
@@ -35,12 +37,13 @@ fn hand_out_batch<G: Gate>(
     tickets: &mut Vec<Ticket>,
 )
     requires { tickets.old.items ≡ [] }
-    ensures { HandsBatch tickets.new.items part.old part.new }
+    ensures { HandsBatch room tickets.new.items part.old part.new }
 {
     if room == 0 {
         hand_out_none(part, section, gate);
         return;
     }
+    part.lawful();
     for _ in 0..room {
         let Some(ticket) = part.hand_out() else {
             return;
@@ -53,7 +56,7 @@ fn hand_out_batch<G: Gate>(
     }
 }
 
-// Gets up to so many tickets in a hold of its own.
+// Gets up to so many tickets in a hold of its own; they are due then.
 pub(crate) fn get_tickets<R: Wait, G: Gate>(
     rt: &R,
     parts: &Parts,
@@ -64,7 +67,7 @@ pub(crate) fn get_tickets<R: Wait, G: Gate>(
 ) -> Vec<Ticket>
     requires { IsReady parts.now section pass.old }
     ensures ready { StaysReady parts.now section pass.old pass.new }
-    ensures gets { GetsTickets result.items (known pass.old section) (known pass.new section) }
+    ensures gets { GetsTickets batch result.items (known pass.old section) (known pass.new section) }
 {
     let (room, tickets) = parts.room(batch);
     let mut tickets = tickets;
@@ -74,10 +77,10 @@ pub(crate) fn get_tickets<R: Wait, G: Gate>(
     tickets
 }
 
-// A part notes that these tickets are given up.
+// A part notes that these tickets, which are out, are given up.
 fn give_all_up(part: &mut Part, tickets: Vec<Ticket>)
-    requires { 0 < length tickets.items }
-    ensures { GivesUp part.old part.new }
+    requires { All (IsOutIn part.old) tickets.items }
+    ensures { Settles (morsels_of tickets.items) part.old part.new }
 {
     let mut tickets = tickets;
     while let Some(ticket) = tickets.pop() {
@@ -85,48 +88,36 @@ fn give_all_up(part: &mut Part, tickets: Vec<Ticket>)
     }
 }
 
-// A part takes a batch, or notes that its tickets are given up. The tickets come back where a morsel of
-// theirs is back already.
-fn take_batch_back(part: &mut Part, made: Result<Partial, Vec<Ticket>>) -> Option<Vec<Ticket>>
-    requires { IsReturnedBatch part.old made }
-    ensures { (ts : List TicketState) → IsBatchOf ts made → TakesBatch ts result part.old part.new }
+// A part takes a batch, the tickets of which are out, or notes that they are given up. It refuses none
+// but for want of memory.
+fn take_back(part: &mut Part, made: Result<Partial, Vec<Ticket>>)
+    requires { IsBatchWith (IsOutIn part.old) made }
+    ensures { (ts : List TicketState) → IsBatchOf ts made → Settles (morsels_of ts) part.old part.new }
 {
     match made {
         Ok(partial) => match part.give_back(partial) {
-            Ok(()) => None,
-            Err(ReturnFault::Doubled(partial)) => Some(partial.into_tickets()),
-            Err(ReturnFault::Memory(partial)) => {
-                give_all_up(part, partial.into_tickets());
-                None
-            }
-            Err(ReturnFault::NotHandedOut(partial)) => {
-                drop(partial);
-                None
-            }
+            Ok(()) => {}
+            Err(ReturnFault::Memory(partial)) => give_all_up(part, partial.into_tickets()),
+            Err(_) => unreachable!(),
         },
-        Err(tickets) => {
-            give_all_up(part, tickets);
-            None
-        }
+        Err(tickets) => give_all_up(part, tickets),
     }
 }
 
-// Takes a batch that was handed out in an earlier hold back whole, or notes that its tickets are given
-// up, in a hold of its own. The tickets come back where a morsel of theirs is back already.
-pub(crate) fn bring_whole<R: Wait>(
+// Takes a batch that is due back whole, or notes that its tickets are given up, in a hold of its own.
+pub(crate) fn bring_back<R: Wait>(
     rt: &R,
     parts: &Parts,
     section: u32,
     pass: &mut PartsPass,
     made: Result<Partial, Vec<Ticket>>,
-) -> Option<Vec<Ticket>>
+)
     requires ready { IsReady parts.now section pass.old }
-    requires made { IsReturnedBatch (known pass.old section).seen made }
+    requires made { IsBatchWith (IsDueTo (known pass.old section)) made }
     ensures ready { StaysReady parts.now section pass.old pass.new }
-    ensures brings { (ts : List TicketState) → IsBatchOf ts made → BringsBatch ts result (known pass.old section) (known pass.new section) }
+    ensures brings { (ts : List TicketState) → IsBatchOf ts made → BringsBatch ts (known pass.old section) (known pass.new section) }
 {
     let mut held = parts.take(rt, section, pass);
-    let doubled = take_batch_back(held.part(), made);
+    take_back(held.part(), made);
     parts.put(rt, held, pass);
-    doubled
 }

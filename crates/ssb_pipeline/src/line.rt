@@ -2,8 +2,8 @@
 
 ghost use Rattle.std.specs.Prelude.{◌≡◌, ◌≤◌, ◌++◌, true, false, [], IfOk};
 ghost use Rattle.crossbeam_queue.specs.Passes.{view, IsPassOf, IsSamePass, ruled_capacity};
-ghost use Rattle.ssb_pipeline.specs.Part.{Follows, IsLawfulPart, IsOpening, IsReached, Ran};
-ghost use Rattle.ssb_pipeline.specs.Rule.{fresh, knows, newcomer, putter, taker};
+ghost use Rattle.ssb_pipeline.specs.Part.{AreOut, Follows, IsLawfulPart, IsOpening, IsReached, Ran};
+ghost use Rattle.ssb_pipeline.specs.Rule.{BringsOwn, fresh, knows, newcomer, putter, taker};
 
 use crate::part::Part;
 use crossbeam_queue::protocol::{Lesson, Outcome, Protocol, Split};
@@ -49,7 +49,7 @@ impl Outcome<Part, Knowledge> for Opens {
     ghost use Rattle.std.specs.Prelude.{◌≡◌, false, []};
     ghost use Rattle.ssb_pipeline.specs.Rule.{knows};
 
-    ghost then = { λ v x w. w ≡ knows false x [] };
+    ghost then = { λ v x w. w ≡ knows false x [] [] };
 }
 
 impl Lesson<Part, Knowledge> for Opens {
@@ -79,10 +79,10 @@ pub(crate) struct Takes;
 
 impl Outcome<Part, Knowledge> for Takes {
     ghost use Rattle.std.specs.Prelude.{◌≡◌};
-    ghost use Rattle.ssb_pipeline.specs.Part.{IsLawfulPart, IsReached, Ran};
-    ghost use Rattle.ssb_pipeline.specs.Rule.{taker};
+    ghost use Rattle.ssb_pipeline.specs.Part.{IsLawfulPart, IsReached};
+    ghost use Rattle.ssb_pipeline.specs.Rule.{Serves, taker};
 
-    ghost then = { λ v x w. (w ≡ taker v x) × IsLawfulPart x × IsReached x × Ran v.seen x };
+    ghost then = { λ v x w. (w ≡ taker v x) × IsLawfulPart x × IsReached x × Serves x v };
 }
 
 impl Lesson<Part, Knowledge> for Takes {
@@ -113,6 +113,7 @@ pub(crate) fn take_one<R: Wait>(rt: &R, line: &Line, pass: &mut LinePass) -> Par
     ensures reached { IsReached result }
     ensures ran { Ran (view pass.old).seen result }
     ensures follows { Follows result (view pass.old).seen }
+    ensures due { AreOut result (view pass.old).due }
     ensures view { view pass.new ≡ taker (view pass.old) result }
 {
     for _ in rt.forever() {
@@ -130,6 +131,7 @@ pub(crate) fn put_one<R: Wait>(rt: &R, line: &Line, pass: &mut LinePass, part: P
     requires holds { (view pass.old).holds ≡ true }
     requires opened { (view pass.old).opened ≡ true }
     requires ran { Ran (view pass.old).seen part }
+    requires own { BringsOwn (view pass.old) part }
     ensures queue { IsSamePass pass.old pass.new }
     ensures view { view pass.new ≡ putter (view pass.old) part }
 {
@@ -145,7 +147,7 @@ pub(crate) fn open_one<R: Wait>(
     part: Part,
 ) -> Result<(Line, LinePass), AllocError>
     requires { IsOpening part.job part.size part.section part.sections part }
-    ensures { IfOk result (λ r. IsPassOf r.0 r.1 × (ruled_capacity r.0 ≡ 1) × (view r.1 ≡ knows false part [])) }
+    ensures { IfOk result (λ r. IsPassOf r.0 r.1 × (ruled_capacity r.0 ≡ 1) × (view r.1 ≡ knows false part [] [])) }
 {
     let (line, mut pass) = Line::ruled(alloc, 1)?;
     if line.push_as::<Opens, R>(rt, &mut pass, part).is_err() {

@@ -1,12 +1,12 @@
 // One section's part of the work.
 
-ghost use Rattle.std.specs.Prelude.{◌≡◌, ◌<◌, ◌≤◌, ◌-◌, ℕ, true, false, IfOk, OnErr, OnOk, length};
+ghost use Rattle.std.specs.Prelude.{◌≡◌, ◌<◌, ◌≤◌, ◌-◌, ◌&&◌, ℕ, true, false, not, IfOk, OnErr, OnOk, length};
 ghost use Rattle.std.specs.List.{All, list_all, list_any, range_with_len};
 ghost use Rattle.std.specs.Arc.{arc_value};
 ghost use Rattle.ssb_pipeline.specs.Joined.{morsel_rows};
 ghost use Rattle.ssb_pipeline.specs.Morsels.{morsel_cut};
-ghost use Rattle.ssb_pipeline.specs.Part.{GivesBack, GivesUp, Grows, HandsOut, IsBack, IsLawfulPart, IsOpening, IsWhole, Ran, Returns, has, is_handed_out, ours, ticket_of};
-ghost use Rattle.ssb_pipeline.specs.Marks.{with_marks};
+ghost use Rattle.ssb_pipeline.specs.Part.{GivesBack, GivesUp, Grows, HandsOut, IsBack, IsLawfulPart, IsOpening, IsOutIn, IsUnrefused, IsWhole, Ran, Returns, has, is_awaited, is_handed_out, ours, ticket_of};
+ghost use Rattle.ssb_pipeline.specs.Marks.{marked, with_marks};
 ghost use Rattle.ssb_pipeline.specs.Tickets.{morsels_of};
 ghost use Rattle.ssb_job.specs.Kept.{AreOneJob};
 
@@ -19,8 +19,8 @@ use std::alloc::{AllocError, Global};
 use std::marker::Model;
 use std::sync::Arc;
 
-/// One section of a job's morsels: which were handed out, which came back, and the groups over those.
-/// It hands out each of them once.
+/// One section of a job's morsels: which were handed out, which came back, which were given up, and the
+/// groups over those that came back. It hands out each of them once.
 pub struct Part {
     alloc: Global,
     job: Arc<Job, Global>,
@@ -33,6 +33,9 @@ pub struct Part {
     // Of each morsel of the section whether it came back, and how many did.
     marks: Vec<bool>,
     back: u32,
+    // Of each morsel whether its ticket was given up and it did not come back, and whether any ticket
+    // was given up.
+    given: Vec<bool>,
     gave_up: bool,
     groups: Groups,
 }
@@ -45,6 +48,7 @@ impl Drop for Part {
 }
 
 impl Model for Part {
+    ghost use Rattle.std.specs.Prelude.{◌≡◌, length};
     ghost use Rattle.std.specs.Arc.{arc_value};
     ghost use Rattle.std.specs.Coded.{codes};
     ghost use Rattle.std.specs.List.{range_with_len};
@@ -58,9 +62,9 @@ impl Model for Part {
 
     ghost coded = { Prim.hlevel (codes, job_type.the_row.coded, groups_type.the_row.coded) };
 
-    ghost view = { λ p. record { job = arc_value p.job; size = p.size; section = p.section; sections = p.sections; handed = range_with_len p.first p.next; returned = marked p.first p.marks.items; gave_up = p.gave_up; groups = p.groups } };
+    ghost view = { λ p. record { job = arc_value p.job; size = p.size; section = p.section; sections = p.sections; handed = range_with_len p.first p.next; returned = marked p.first p.marks.items; given = marked p.first p.given.items; gave_up = p.gave_up; groups = p.groups } };
 
-    ghost invariant = { λ p. IsKept (arc_value p.job) p.size p.section p.sections p.first p.next p.marks.items p.back p.groups };
+    ghost invariant = { λ p. IsKept (arc_value p.job) p.size p.section p.sections p.first p.next p.marks.items p.back p.groups × (length p.given.items ≡ length p.marks.items) };
 }
 
 // Where a section begins, and the one before it ends.
@@ -72,13 +76,26 @@ fn morsel_cut(morsels: u32, sections: u32, section: u32) -> u32
     (u64::from(section) * u64::from(morsels) / u64::from(sections)) as u32
 }
 
-// Sets the marks of the morsels of some tickets.
-fn set_marks(marks: &mut [bool], first: u32, tickets: &[Ticket])
+// Sets the marks of the morsels of some tickets, or clears them.
+fn set_marks(marks: &mut [bool], first: u32, tickets: &[Ticket], mark: bool)
     requires { All (λ t. (first ≤ t.morsel) × (t.morsel - first < length marks.old)) tickets.now }
-    ensures { marks.new ≡ with_marks first marks.old (morsels_of tickets.now) }
+    ensures { marks.new ≡ with_marks mark first marks.old (morsels_of tickets.now) }
 {
     for place in 0..tickets.len() {
-        marks[(tickets[place].morsel() - first) as usize] = true;
+        marks[(tickets[place].morsel() - first) as usize] = mark;
+    }
+}
+
+// Whether the mark of a morsel is set.
+fn is_marked(marks: &[bool], first: u32, morsel: u32) -> bool
+    ensures { result ≡ has (marked first marks.now) morsel }
+{
+    if morsel < first {
+        return false;
+    }
+    match marks.get((morsel - first) as usize) {
+        Some(mark) => *mark,
+        None => false,
     }
 }
 
@@ -105,6 +122,7 @@ impl Part {
         let first = morsel_cut(morsels, sections, section);
         let end = morsel_cut(morsels, sections, section + 1);
         let marks = Vec::from_elem(alloc, false, (end - first) as usize)?;
+        let given = Vec::from_elem(alloc, false, (end - first) as usize)?;
         let groups = Groups::empty(alloc, &job)?;
         Ok(Part {
             alloc,
@@ -116,6 +134,7 @@ impl Part {
             next: 0,
             marks,
             back: 0,
+            given,
             gave_up: false,
             groups,
         })
@@ -184,10 +203,12 @@ impl Part {
     ///
     /// `NotHandedOut` where the part did not hand out each of the tickets, else `Doubled` where a morsel
     /// of theirs came back before, else `Memory` where a growth was refused. The part is as before, and
-    /// the partial comes back.
+    /// the partial comes back. Where each of the tickets is out, handed out and neither back nor given up,
+    /// it is `Memory` alone.
     pub fn give_back(&mut self, partial: Partial) -> Result<(), ReturnFault>
         requires one_job { All (λ t. AreOneJob t.job self.old.job) partial.tickets }
         ensures gives { GivesBack self.old partial result self.new }
+        ensures due { All (IsOutIn self.old) partial.tickets → IsUnrefused result }
         ensures ran { Ran self.old self.new }
     {
         if !self.are_handed_out(partial.tickets()) {
@@ -198,7 +219,18 @@ impl Part {
         }
         match partial.merge_into(&mut self.groups) {
             Ok(tickets) => {
-                set_marks(self.marks.as_mut_slice(), self.first, tickets.as_slice());
+                set_marks(
+                    self.marks.as_mut_slice(),
+                    self.first,
+                    tickets.as_slice(),
+                    true,
+                );
+                set_marks(
+                    self.given.as_mut_slice(),
+                    self.first,
+                    tickets.as_slice(),
+                    false,
+                );
                 self.back += tickets.len() as u32;
                 Ok(())
             }
@@ -225,13 +257,21 @@ impl Part {
     fn is_back(&self, morsel: u32) -> bool
         ensures { result ≡ has self.now.returned morsel }
     {
-        if morsel < self.first {
-            return false;
-        }
-        match self.marks.get((morsel - self.first) as usize) {
-            Some(mark) => *mark,
-            None => false,
-        }
+        is_marked(&self.marks, self.first, morsel)
+    }
+
+    /// Whether the ticket of a morsel was given up, and the morsel did not come back.
+    pub fn gave(&self, morsel: u32) -> bool
+        ensures { result ≡ has self.now.given morsel }
+    {
+        is_marked(&self.given, self.first, morsel)
+    }
+
+    // Whether a ticket is for a morsel that was handed out and did not come back.
+    fn is_awaited(&self, ticket: &Ticket) -> bool
+        ensures { result ≡ is_awaited self.now ticket.now }
+    {
+        self.is_handed_out(ticket) && !self.is_back(ticket.morsel())
     }
 
     // Does the morsel of a ticket that was handed out and did not come back, and takes its groups.
@@ -302,11 +342,16 @@ impl Part {
         Ok(())
     }
 
-    /// Gives a ticket up: no morsel is handed out any more.
-    pub fn give_up(&mut self, _ticket: Ticket)
-        ensures gives_up { GivesUp self.old self.new }
+    /// Gives a ticket up: no morsel is handed out any more. Where the part handed it out and its morsel did
+    /// not come back, the morsel is given up. It takes no memory.
+    pub fn give_up(&mut self, ticket: Ticket)
+        ensures gives_up { GivesUp ticket self.old self.new }
         ensures ran { Ran self.old self.new }
     {
+        if self.is_awaited(&ticket) {
+            let place = ticket.morsel() - self.first;
+            self.given[place as usize] = true;
+        }
         self.gave_up = true;
     }
 
@@ -346,11 +391,13 @@ impl Part {
             next: _,
             marks,
             back: _,
+            given,
             gave_up: _,
             groups,
         } = self;
         drop(job);
         drop(marks);
+        drop(given);
         groups
     }
 }

@@ -1,14 +1,13 @@
 // All parts of a job, each in a queue of its own.
 
-ghost use Rattle.std.specs.Prelude.{◌≡◌, ◌<◌, ◌≤◌, ◌^◌, true, false, [], length, All, IfOk};
+ghost use Rattle.std.specs.Prelude.{◌≡◌, ◌<◌, ◌≤◌, ◌^◌, ◌⊎◌, true, false, [], length, All, IfOk};
 ghost use Rattle.std.specs.Arc.{arc_value};
 ghost use Rattle.crossbeam_queue.specs.Passes.{view, IsPassOf, ruled_capacity};
 ghost use Rattle.ssb_job.specs.Kept.{AreOneJob, fact_rows};
-ghost use Rattle.ssb_pipeline.specs.Part.{Follows, IsLawfulPart, IsOpening, IsReached, Ran};
-ghost use Rattle.ssb_pipeline.specs.Rule.{knows, taker, putter};
+ghost use Rattle.ssb_pipeline.specs.Part.{AreOut, Follows, IsLawfulPart, IsOpening, IsReached, Ran};
+ghost use Rattle.ssb_pipeline.specs.Rule.{BringsOwn, knows, taker, putter};
 ghost use Rattle.ssb_pipeline.specs.Pass.{IsPartOf, IsPassOfParts, HoldsNone, KnowsNothing, known, knowing, newcomers};
 ghost use Rattle.ssb_pipeline.specs.Batch.{IsBatchOf};
-ghost use Rattle.ssb_pipeline.specs.Work.{IsMadeOf};
 ghost use Rattle.std.specs.Borrow.{sem};
 ghost use Rattle.ssb_pipeline.specs.Lending.{LendsPart};
 
@@ -111,8 +110,8 @@ impl Held {
 
 impl Parts {
     /// Takes the part of a section, numbered from 0, as soon as it is free; it may wait for other
-    /// passes. A core run leads to the part from what this pass saw of it, and from an opening part. It
-    /// takes no memory.
+    /// passes. A core run leads to the part from what this pass saw of it, and from an opening part; and
+    /// what is due to this pass is out: handed out, and neither back nor given up. It takes no memory.
     pub fn take<R: Wait>(&self, rt: &R, section: u32, pass: &mut PartsPass) -> Held
         requires section { section < length self.now.queues }
         requires pass { IsPassOfParts self.now pass.old }
@@ -123,6 +122,7 @@ impl Parts {
         ensures reached { IsReached result.part }
         ensures ran { Ran (known pass.old section).seen result.part }
         ensures follows { Follows result.part (known pass.old section).seen }
+        ensures due { AreOut result.part (known pass.old section).due }
         ensures view { pass.new ≡ knowing pass.old section (taker (known pass.old section) result.part) }
         ensures pass { IsPassOfParts self.now pass.new }
     {
@@ -139,6 +139,7 @@ impl Parts {
         ensures reached { IsReached result.part }
         ensures ran { Ran (known pass.old section).seen result.part }
         ensures follows { Follows result.part (known pass.old section).seen }
+        ensures due { AreOut result.part (known pass.old section).due }
         ensures view { pass.new ≡ knowing pass.old section (taker (known pass.old section) result.part) }
         ensures pass { IsPassOfParts self.now pass.new }
     {
@@ -151,13 +152,15 @@ impl Parts {
     }
 
     /// Puts a part back that this pass took; it may wait. The part was changed by its own calls alone: a
-    /// core run leads to it from what was taken. The next take of the section, by whichever pass, finds
-    /// it. It takes no memory.
+    /// core run leads to it from what was taken; and what came back or was given up meanwhile was due to
+    /// this pass, or handed out meanwhile. The next take of the section, by whichever pass, finds it. It
+    /// takes no memory.
     pub fn put<R: Wait>(&self, rt: &R, held: Held, pass: &mut PartsPass)
         requires section { held.section < length self.now.queues }
         requires pass { IsPassOfParts self.now pass.old }
         requires holds { (known pass.old held.section).holds ≡ true }
         requires ran { Ran (known pass.old held.section).seen held.part }
+        requires own { BringsOwn (known pass.old held.section) held.part }
         ensures view { pass.new ≡ knowing pass.old held.section (putter (known pass.old held.section) held.part) }
         ensures pass { IsPassOfParts self.now pass.new }
     {
@@ -188,19 +191,8 @@ impl Parts {
         let _rows = self.job.fact_rows();
     }
 
-    // The partial of a ticket of these parts' job; where a growth is refused, the ticket.
-    pub(crate) fn partial_of(&self, ticket: Ticket) -> Result<Partial, Ticket>
-        requires { AreOneJob ticket.job self.now.job }
-        ensures { IsMadeOf ticket result }
-    {
-        match Partial::of(self.alloc, &self.job, ticket) {
-            Ok(partial) => Ok(partial),
-            Err((ticket, _)) => Err(ticket),
-        }
-    }
-
     // The partial of a batch of tickets of these parts' job; where it can't be made, the tickets.
-    pub(crate) fn partial_of_all(&self, tickets: Vec<Ticket>) -> Result<Partial, Vec<Ticket>>
+    pub(crate) fn partial_of(&self, tickets: Vec<Ticket>) -> Result<Partial, Vec<Ticket>>
         requires { All (λ t. AreOneJob t.job self.now.job) tickets.items }
         ensures { IsBatchOf tickets.items result }
     {
@@ -212,6 +204,7 @@ impl Parts {
 
     // No tickets, with room for so many, or for none where a growth is refused; and for how many.
     pub(crate) fn room(&self, count: u32) -> (u32, Vec<Ticket>)
+        ensures room { (result.0 ≡ count) ⊎ (result.0 ≡ 0) }
         ensures none { result.1.items ≡ [] }
     {
         let mut tickets = Vec::new(self.alloc);
@@ -255,7 +248,7 @@ impl Parts {
         requires size { 0 < morsel_size }
         requires section { section < sections }
         ensures queue { IfOk result (λ r. IsPassOf r.0 r.1 × (ruled_capacity r.0 ≡ 1)) }
-        ensures knows { IfOk result (λ r. view r.1 ≡ knows false (view r.1).seen []) }
+        ensures knows { IfOk result (λ r. view r.1 ≡ knows false (view r.1).seen [] []) }
         ensures opening { IfOk result (λ r. IsOpening (arc_value job.now) morsel_size section sections (view r.1).seen) }
     {
         let part = Part::open(alloc, Arc::try_clone(job)?, morsel_size, section, sections)?;

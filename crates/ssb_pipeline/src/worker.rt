@@ -1,98 +1,16 @@
 // A worker: it goes round the sections, and does batch after batch of morsels.
 
-ghost use Rattle.std.specs.Prelude.{◌≡◌, ◌<◌, ℕ, List, true, length, slice_index_or, All, IfOk, IsFalse, IsTrue};
-ghost use Rattle.ssb_job.specs.Kept.{AreOneJob};
-ghost use Rattle.ssb_pipeline.specs.Part.{has};
-ghost use Rattle.ssb_pipeline.specs.Tickets.{TicketState};
+ghost use Rattle.std.specs.Prelude.{◌≡◌, ◌<◌, ℕ, length, slice_index_or, All, IfOk, IsFalse, IsTrue};
 ghost use Rattle.ssb_pipeline.specs.Pass.{HoldsNone, IsPassOfParts, PassState, known};
-ghost use Rattle.ssb_pipeline.specs.Batch.{BringsAll, IsBatchOf, IsMore, IsOut, IsReturnedBatch};
-ghost use Rattle.ssb_pipeline.specs.Work.{Brings, IsExhausted, IsMade, IsMadeOf, IsReady, IsReturned, IsRound, IsWorked, StaysReady, TakesBack};
+ghost use Rattle.ssb_pipeline.specs.Batch.{IsMore};
+ghost use Rattle.ssb_pipeline.specs.Work.{IsExhausted, IsReady, IsRound, IsWorked, StaysReady};
 
-use crate::fault::ReturnFault;
 use crate::gate::Gate;
-use crate::hold::{bring_whole, get_tickets};
-use crate::part::Part;
-use crate::partial::Partial;
+use crate::hold::{bring_back, get_tickets};
 use crate::parts::{Parts, PartsPass};
-use crate::ticket::Ticket;
 use std::sync::Wait;
 use std::thread;
 use std::thread::Threads;
-
-// Takes the partial of a morsel that was handed out in an earlier hold, or notes that its ticket is
-// given up, in a hold of its own.
-fn bring_back<R: Wait>(
-    rt: &R,
-    parts: &Parts,
-    section: u32,
-    pass: &mut PartsPass,
-    made: Result<Partial, Ticket>,
-    morsel: u32,
-)
-    requires ready { IsReady parts.now section pass.old }
-    requires made { IsMade parts.now morsel made }
-    requires handed { has (known pass.old section).seen.handed morsel ≡ true }
-    ensures ready { StaysReady parts.now section pass.old pass.new }
-    ensures brings { Brings morsel (known pass.old section) (known pass.new section) }
-{
-    let mut held = parts.take(rt, section, pass);
-    take_back(held.part(), made);
-    parts.put(rt, held, pass);
-}
-
-// A part takes a partial, or notes that its ticket is given up.
-fn take_back(part: &mut Part, made: Result<Partial, Ticket>)
-    requires { IsReturned part.old made }
-    ensures { (t : TicketState) → IsMadeOf t made → TakesBack t.morsel part.old part.new }
-{
-    match made {
-        Ok(partial) => match part.give_back(partial) {
-            Ok(()) => {}
-            Err(ReturnFault::Memory(partial)) => part.give_up(partial.into_ticket()),
-            Err(fault) => drop(fault),
-        },
-        Err(ticket) => part.give_up(ticket),
-    }
-}
-
-// Tickets of a refused batch come back one by one, each in a hold of its own.
-fn bring_each<R: Wait>(
-    rt: &R,
-    parts: &Parts,
-    section: u32,
-    pass: &mut PartsPass,
-    tickets: Vec<Ticket>,
-)
-    requires ready { IsReady parts.now section pass.old }
-    requires out { All (IsOut (known pass.old section).seen) tickets.items }
-    ensures ready { StaysReady parts.now section pass.old pass.new }
-    ensures brings { BringsAll tickets.items (known pass.old section) (known pass.new section) }
-{
-    let mut tickets = tickets;
-    while let Some(ticket) = tickets.pop() {
-        let morsel = ticket.morsel();
-        let made = parts.partial_of(ticket);
-        bring_back(rt, parts, section, pass, made, morsel);
-    }
-}
-
-// A batch comes back: as one, and where a morsel of it is back already, ticket by ticket.
-fn bring_batch<R: Wait>(
-    rt: &R,
-    parts: &Parts,
-    section: u32,
-    pass: &mut PartsPass,
-    made: Result<Partial, Vec<Ticket>>,
-)
-    requires ready { IsReady parts.now section pass.old }
-    requires made { IsReturnedBatch (known pass.old section).seen made }
-    ensures ready { StaysReady parts.now section pass.old pass.new }
-    ensures brings { (ts : List TicketState) → IsBatchOf ts made → BringsAll ts (known pass.old section) (known pass.new section) }
-{
-    if let Some(tickets) = bring_whole(rt, parts, section, pass, made) {
-        bring_each(rt, parts, section, pass, tickets);
-    }
-}
 
 // Up to so many morsels of the section, if there is one left.
 fn turn<R: Wait, G: Gate>(
@@ -117,8 +35,8 @@ fn turn<R: Wait, G: Gate>(
     for place in 0..tickets.len() {
         gate.before_probe(tickets[place].morsel());
     }
-    let made = parts.partial_of_all(tickets);
-    bring_batch(rt, parts, section, pass, made);
+    let made = parts.partial_of(tickets);
+    bring_back(rt, parts, section, pass, made);
     true
 }
 

@@ -41,7 +41,7 @@ impl Settings {
 
     /// Settings of these numbers, with one morsel at a time; none where one is outside its range.
     pub fn new(workers: u32, morsel_size: u32, parts: u32) -> Option<Settings>
-        ensures { MatchOption result (AreInRange workers morsel_size parts → ⊥) (λ s. (s.workers ≡ workers) × (s.morsel_size ≡ morsel_size) × (s.parts ≡ parts)) }
+        ensures given { MatchOption result (AreInRange workers morsel_size parts → ⊥) (λ s. (s.workers ≡ workers) × (s.morsel_size ≡ morsel_size) × (s.parts ≡ parts)) }
         ensures batch { IfSome result (λ s. s.batch ≡ 1) }
     {
         if workers == 0 || workers > Settings::MAX_WORKERS {
@@ -68,7 +68,18 @@ impl Settings {
         if batch == 0 || batch > Settings::MAX_BATCH {
             return None;
         }
-        Some(Settings { batch, ..self })
+        let Settings {
+            workers,
+            morsel_size,
+            parts,
+            ..
+        } = self;
+        Some(Settings {
+            workers,
+            morsel_size,
+            parts,
+            batch,
+        })
     }
 
     /// Settings of the numbers that are given, and the defaults; none where one is outside its range.

@@ -1,5 +1,5 @@
 use Rattle.std.proofs.Common.{◌∙◌, ap, subst, arith}
-use Rattle.ssb_pipeline.specs.Part.{Ran}
+use Rattle.ssb_pipeline.specs.Part.{AreOut, Ran}
 use Rattle.ssb_pipeline.specs.Rule.{Knows, taker}
 use Rattle.ssb_pipeline.proofs.Moves.{takes}
 use Rattle.ssb_pipeline.proofs.RunFacts.{ran-follows}
@@ -16,7 +16,10 @@ pub returns-in-Some-pop_as-clause-reached : goal.returns-in-Some-pop_as-clause-r
 returns-in-Some-pop_as-clause-reached g c = c.in-Some-pop_as.ensures.rule.2
 
 pub returns-in-Some-pop_as-clause-ran : goal.returns-in-Some-pop_as-clause-ran
-returns-in-Some-pop_as-clause-ran g c = subst (λ (v : Knows). Ran v.seen c.in-Some-pop_as.part) c.loop.invariant.view c.in-Some-pop_as.ensures.rule.3
+returns-in-Some-pop_as-clause-ran g c = subst (λ (v : Knows). Ran v.seen c.in-Some-pop_as.part) c.loop.invariant.view c.in-Some-pop_as.ensures.rule.3.ran
+
+pub returns-in-Some-pop_as-clause-due : goal.returns-in-Some-pop_as-clause-due
+returns-in-Some-pop_as-clause-due g c = subst (λ (v : Knows). AreOut c.in-Some-pop_as.part v.due) c.loop.invariant.view c.in-Some-pop_as.ensures.rule.3.due
 
 pub returns-in-Some-pop_as-clause-follows : goal.returns-in-Some-pop_as-clause-follows
 returns-in-Some-pop_as-clause-follows g c = ran-follows _ _ (returns-in-Some-pop_as-clause-ran g c)

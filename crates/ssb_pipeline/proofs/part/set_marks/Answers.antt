@@ -1,4 +1,4 @@
-use Rattle.std.proofs.Common.{◌∙◌, ◌-◌, take, sym, ap, true}
+use Rattle.std.proofs.Common.{◌∙◌, ◌-◌, take, sym, ap}
 use Rattle.std.specs.Prelude.{slice_set}
 use Rattle.std.proofs.lemmas.List.{take_all}
 use Rattle.ssb_pipeline.specs.Marks.{with_marks}
@@ -13,9 +13,10 @@ loop-place-preserved c =
     let place = c.loop-place.place in
     let t = c.index-tickets-place.result in
     let first = c.args.first in
+    let b = c.args.mark in
     let is = morsels_of (take place ts) in
-    ap (λ marks. slice_set marks (c.morsel.result - first) true) c.loop-place.invariant ∙ ap (λ i. slice_set (with_marks first c.args.marks.now is) (i - first) true) c.morsel.ensures
-    ∙ sym (ap (with_marks first c.args.marks.now) (one-further ts place t c.loop-place-test.true c.index-tickets-place.is) ∙ with-last first c.args.marks.now is t.morsel)
+    ap (λ marks. slice_set marks (c.morsel.result - first) b) c.loop-place.invariant ∙ ap (λ i. slice_set (with_marks b first c.args.marks.now is) (i - first) b) c.morsel.ensures
+    ∙ sym (ap (with_marks b first c.args.marks.now) (one-further ts place t c.loop-place-test.true c.index-tickets-place.is) ∙ with-last b first c.args.marks.now is t.morsel)
 
 pub returns : goal.returns
-returns c = c.loop-place.invariant ∙ ap (λ ts. with_marks c.args.first c.args.marks.now (morsels_of ts)) (take_all c.loop-place.place c.args.tickets.now c.loop-place-test.false)
+returns c = c.loop-place.invariant ∙ ap (λ ts. with_marks c.args.mark c.args.first c.args.marks.now (morsels_of ts)) (take_all c.loop-place.place c.args.tickets.now c.loop-place-test.false)

@@ -12,7 +12,7 @@ pub returns-then-self-clause-hands : goal.returns-then-self-clause-hands
 returns-then-self-clause-hands c =
     let p = c.self.inside in
     let none_left : p.next ≡ length p.marks.items → (i : ℕ) → has (ours c.args.self.now) i ≡ true → has c.args.self.now.handed i ≡ true =
-    λ e. subst (λ (q : PartState). (i : ℕ) → has (ours q) i ≡ true → has q.handed i ≡ true) c.self.view_is (all-handed (arc_value p.job) p.size p.section p.sections p.first p.next p.back p.marks.items p.gave_up p.groups c.self.invariant e) in
+    λ e. subst (λ (q : PartState). (i : ℕ) → has (ours q) i ≡ true → has q.handed i ≡ true) c.self.view_is (all-handed (arc_value p.job) p.size p.section p.sections p.first p.next p.back p.marks.items p.groups c.self.invariant.0 e) in
     record {
       same = refl;
       ended = elim c.then-self.branch [
@@ -25,21 +25,21 @@ pub returns-then-self-clause-ran : goal.returns-then-self-clause-ran
 returns-then-self-clause-ran c = ran_self c.args.self.now
 
 pub overflow_add-self-inside : goal.overflow_add-self-inside
-overflow_add-self-inside c = let f = c.self.invariant.fits in let b = c.self.invariant.bound in omega (arith, f, b)
+overflow_add-self-inside c = let f = c.self.invariant.0.fits in let b = c.self.invariant.0.bound in omega (arith, f, b)
 
 pub overflow_add-self : goal.overflow_add-self
 overflow_add-self c =
-    let lt : c.self.inside.next < length c.self.inside.marks.items = elim (eq-or-lt_of_le c.self.invariant.fits) [ inl e ↦ absurd (c.if-self-len.false (let n = c.len.ensures in omega (arith, e, n))) | inr l ↦ l ] in
-    let b = c.self.invariant.bound in
+    let lt : c.self.inside.next < length c.self.inside.marks.items = elim (eq-or-lt_of_le c.self.invariant.0.fits) [ inl e ↦ absurd (c.if-self-len.false (let n = c.len.ensures in omega (arith, e, n))) | inr l ↦ l ] in
+    let b = c.self.invariant.0.bound in
     omega (arith, lt, b)
 
 pub returns-clause-hands : goal.returns-clause-hands
 returns-clause-hands c =
     let p = c.self.inside in
     let j = arc_value p.job in
-    let lt : p.next < length p.marks.items = elim (eq-or-lt_of_le c.self.invariant.fits) [ inl e ↦ absurd (c.if-self-len.false (let n = c.len.ensures in omega (arith, e, n))) | inr l ↦ l ] in
-    let hands = hands-next j p.size p.section p.sections p.first p.next p.back p.marks.items p.gave_up p.groups c.self.invariant lt c.if-self.false in
-    let after = state j p.size p.section p.sections p.first (p.next + 1) p.marks.items p.gave_up p.groups in
+    let lt : p.next < length p.marks.items = elim (eq-or-lt_of_le c.self.invariant.0.fits) [ inl e ↦ absurd (c.if-self-len.false (let n = c.len.ensures in omega (arith, e, n))) | inr l ↦ l ] in
+    let hands = hands-next j p.size p.section p.sections p.first p.next p.back p.marks.items p.given.items p.gave_up p.groups c.self.invariant.0 lt c.if-self.false in
+    let after = state j p.size p.section p.sections p.first (p.next + 1) p.marks.items p.given.items p.gave_up p.groups in
     let ticket = c.ticket_for-ticket.ensures in
     record {
       hands = subst (λ (t : TicketState). Hands t.morsel c.args.self.now after) (sym ticket) (subst (λ (q : PartState). Hands (p.first + p.next) q after) c.self.view_is hands);
@@ -52,5 +52,5 @@ returns-clause-ran c = ran_one (hand c.ticket_for-ticket.result.morsel) _ _ (ret
 pub invariant_of-self : goal.invariant_of-self
 invariant_of-self c =
     let p = c.self.inside in
-    let lt : p.next < length p.marks.items = elim (eq-or-lt_of_le c.self.invariant.fits) [ inl e ↦ absurd (c.if-self-len.false (let n = c.len.ensures in omega (arith, e, n))) | inr l ↦ l ] in
-    handed-kept (arc_value p.job) p.size p.section p.sections p.first p.next (p.next + 1) p.back p.marks.items p.groups c.self.invariant (omega arith) (omega (arith, lt))
+    let lt : p.next < length p.marks.items = elim (eq-or-lt_of_le c.self.invariant.0.fits) [ inl e ↦ absurd (c.if-self-len.false (let n = c.len.ensures in omega (arith, e, n))) | inr l ↦ l ] in
+    (handed-kept (arc_value p.job) p.size p.section p.sections p.first p.next (p.next + 1) p.back p.marks.items p.groups c.self.invariant.0 (omega arith) (omega (arith, lt)), c.self.invariant.1)

@@ -19,14 +19,16 @@ invariant_of-result c =
     let free : (i : ℕ) → slice_get c.in_ok-marks.marks.items i ≡ Some true → ⊥ = free-all _ c.in_ok-marks.marks.items (c.in_ok-marks.ensures.items_if_clones_equal (λ b e. e)) in
     let rows : fact_rows j < 2 ^ 32 = subst (λ r. r < 2 ^ 32) counted c.fact_rows.type_inv in
     let g = c.in_ok-groups.ensures in
-    opens j c.args.morsel_size c.args.section c.args.sections c.morsel_cut-first.result c.morsel_cut-end.result c.in_ok-marks.marks.items c.in_ok-groups.groups (omega (arith, section)) begins ends many free c.morsel_cut-end.type_inv rows g.stands (g.job ∙ c.deref-2.ensures) g.counted
+    let both : length c.in_ok-given.given.items ≡ length c.in_ok-marks.marks.items = sym c.in_ok-given.given.ok.0 ∙ c.in_ok-given.ensures.len ∙ sym c.in_ok-marks.ensures.len ∙ c.in_ok-marks.marks.ok.0 in
+    (opens j c.args.morsel_size c.args.section c.args.sections c.morsel_cut-first.result c.morsel_cut-end.result c.in_ok-marks.marks.items c.in_ok-groups.groups (omega (arith, section)) begins ends many free c.morsel_cut-end.type_inv rows g.stands (g.job ∙ c.deref-2.ensures) g.counted, both)
 
 pub returns-clause-opening : goal.returns-clause-opening
 returns-clause-opening c =
     let free : (i : ℕ) → slice_get c.in_ok-marks.marks.items i ≡ Some true → ⊥ = free-all _ c.in_ok-marks.marks.items (c.in_ok-marks.ensures.items_if_clones_equal (λ b e. e)) in
+    let none : (i : ℕ) → slice_get c.in_ok-given.given.items i ≡ Some true → ⊥ = free-all _ c.in_ok-given.given.items (c.in_ok-given.ensures.items_if_clones_equal (λ b e. e)) in
     let g = c.in_ok-groups.ensures in
-    record { job = refl; size = refl; section = refl; sections = refl; handed = refl; returned = none-marked c.morsel_cut-first.result c.in_ok-marks.marks.items free; gave_up = refl; one_job = g.job ∙ c.deref-2.ensures; stands = g.stands }
+    record { job = refl; size = refl; section = refl; sections = refl; handed = refl; returned = none-marked c.morsel_cut-first.result c.in_ok-marks.marks.items free; given = none-marked c.morsel_cut-first.result c.in_ok-given.given.items none; gave_up = refl; one_job = g.job ∙ c.deref-2.ensures; stands = g.stands }
 
 pub returns-clause-lawful : goal.returns-clause-lawful
 returns-clause-lawful c =
-    lawful-of (arc_value c.args.job) c.args.morsel_size c.args.section c.args.sections c.morsel_cut-first.result 0 0 c.in_ok-marks.marks.items false c.in_ok-groups.groups (invariant_of-result c)
+    lawful-of (arc_value c.args.job) c.args.morsel_size c.args.section c.args.sections c.morsel_cut-first.result 0 0 c.in_ok-marks.marks.items c.in_ok-given.given.items false c.in_ok-groups.groups (invariant_of-result c).0

@@ -13,7 +13,7 @@ pub returns-clause-queue : goal.returns-clause-queue
 returns-clause-queue g c = IfOk-weaker c.open_one.result _ _ (λ r h. (h.0, h.1)) c.open_one.ensures
 
 pub returns-clause-knows : goal.returns-clause-knows
-returns-clause-knows g c = IfOk-weaker c.open_one.result _ _ (λ r h. h.2 ∙ ap (λ (v : Knows). knows false v.seen []) (sym h.2)) c.open_one.ensures
+returns-clause-knows g c = IfOk-weaker c.open_one.result _ _ (λ r h. h.2 ∙ ap (λ (v : Knows). knows false v.seen [] []) (sym h.2)) c.open_one.ensures
 
 pub returns-clause-opening : goal.returns-clause-opening
 returns-clause-opening g c =

@@ -1,6 +1,6 @@
 use Rattle.std.proofs.Common.{◌≡◌, ◌<◌, true, sym, ◌∙◌, ap, subst, refl, arith}
 use Rattle.std.proofs.lemmas.List.Elements.{All-set}
-use Rattle.ssb_pipeline.specs.Rule.{Knows, putter}
+use Rattle.ssb_pipeline.specs.Rule.{BringsOwn, Knows, putter}
 use Rattle.ssb_pipeline.specs.Part.{Ran}
 use Rattle.ssb_pipeline.specs.Pass.{queue_name, pass_name, IsAtRest, IsSingle}
 use Rattle.ssb_pipeline.proofs.Passes.{image_at, each_at, in_image, known_in, now_knows, still_pass}
@@ -50,3 +50,8 @@ pub put_one-requires-clause-ran : goal.put_one-requires-clause-ran
 put_one-requires-clause-ran g c =
     let in_passes = in_image pass_name c.pass.inside.passes.items _ c.args.held.section (ap (λ p. p.queues) c.pass.view_is ∙ c.requires.pass.queues) c.requires.section in
     subst (λ (v : Knows). Ran v.seen c.args.held.part) (known_in c.pass.inside.passes.items c.args.pass.now c.args.held.section c.index_mut.result.now c.pass.view_is in_passes c.index_mut.ensures.value) c.requires.ran
+
+pub put_one-requires-clause-own : goal.put_one-requires-clause-own
+put_one-requires-clause-own g c =
+    let in_passes = in_image pass_name c.pass.inside.passes.items _ c.args.held.section (ap (λ p. p.queues) c.pass.view_is ∙ c.requires.pass.queues) c.requires.section in
+    subst (λ (v : Knows). BringsOwn v c.args.held.part) (known_in c.pass.inside.passes.items c.args.pass.now c.args.held.section c.index_mut.result.now c.pass.view_is in_passes c.index_mut.ensures.value) c.requires.own

@@ -1,7 +1,7 @@
 use Rattle.std.proofs.Common.{◌<◌, sym, ◌∙◌, ap, subst, refl, arith}
 use Rattle.std.proofs.lemmas.List.Elements.{All-set}
 use Rattle.ssb_pipeline.specs.Rule.{Knows, taker}
-use Rattle.ssb_pipeline.specs.Part.{Follows, Ran}
+use Rattle.ssb_pipeline.specs.Part.{AreOut, Follows, Ran}
 use Rattle.ssb_pipeline.specs.Pass.{queue_name, pass_name, IsAtRest}
 use Rattle.ssb_pipeline.proofs.Passes.{each_at, image_at, in_image, known_in, later-part, now_knows, still_pass}
 use Rattle.ssb_pipeline.proofs.parts.Parts.take_from.Goals as goal
@@ -51,3 +51,9 @@ pub returns-clause-part : goal.returns-clause-part
 returns-clause-part g c =
     let in_views = subst (λ n. c.args.section < n) (sym c.requires.pass.count) c.requires.section in
     later-part c.args.self.now c.args.section _ _ (c.requires.pass.each c.args.section in_views).part (returns-clause-follows g c)
+
+pub returns-clause-due : goal.returns-clause-due
+returns-clause-due g c =
+    let in_passes = in_image pass_name c.pass.inside.passes.items _ c.args.section (ap (λ p. p.queues) c.pass.view_is ∙ c.requires.pass.queues) c.requires.section in
+    let knew = known_in c.pass.inside.passes.items c.args.pass.now c.args.section c.index_mut.result.now c.pass.view_is in_passes c.index_mut.ensures.value in
+    subst (λ (v : Knows). AreOut c.take_one-part.result v.due) (sym knew) c.take_one-part.ensures.due

@@ -137,15 +137,7 @@ fn print_own_time<R: Files + Clock + Print + Threads + Wait + Sync + AllocGlobal
             let by = alone(morsel_size.as_str());
             print_least(rt, folder.as_str(), path.as_str(), by, times.as_str())
         }
-        [
-            folder,
-            path,
-            morsel_size,
-            times,
-            count,
-            parts,
-            batch,
-        ] => {
+        [folder, path, morsel_size, times, count, parts, batch] => {
             let by = workers(
                 count.as_str(),
                 morsel_size.as_str(),

@@ -216,10 +216,10 @@ due-got batch ts v w g = pairs ts (λ k there. ap (λ l. has l k) g.due ∙ righ
     right (x ∷ xs) ys k there = tail-has x (xs ++ ys) k (right xs ys k there)
 
     pairs : (us : List TicketState) → ((k : ℕ) → has (morsels_of us) k ≡ true → has w.due k ≡ true) → All (IsTicketOf w.seen) us → All (IsDueTo w) us
-    pairs [] due of = All-nil (IsDueTo w)
-    pairs (u ∷ us) due of =
-        All-cons (IsDueTo w) u us (record { of = All-head (IsTicketOf w.seen) u us of; due = due u.morsel (head-has u.morsel (morsels_of us)) })
-        (pairs us (λ k there. due k (tail-has u.morsel (morsels_of us) k there)) (All-tail (IsTicketOf w.seen) u us of))
+    pairs [] due are = All-nil (IsDueTo w)
+    pairs (u ∷ us) due are =
+        All-cons (IsDueTo w) u us (record { of = All-head (IsTicketOf w.seen) u us are; due = due u.morsel (head-has u.morsel (morsels_of us)) })
+        (pairs us (λ k there. due k (tail-has u.morsel (morsels_of us) k there)) (All-tail (IsTicketOf w.seen) u us are))
 
 -- ---- giving up
 

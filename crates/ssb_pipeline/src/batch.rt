@@ -32,6 +32,7 @@ fn are_alike(first: &Ticket, rest: &[Ticket]) -> bool
     rest.iter().all(|ticket| is_alike(first, ticket))
 }
 
+// Whether one of some tickets is for this morsel.
 fn has_morsel(tickets: &[Ticket], morsel: u32) -> bool
     ensures { result ≡ list_any (λ t. nat_eq morsel t.morsel) tickets.now }
 {

@@ -18,7 +18,7 @@
 //! - `specs/Pass.antt`, `Lending.antt`, `src/parts.rt`, `proofs/Passes.antt`: `Parts`, a queue for each
 //!   section; `PartsPass`, what a worker knows of each; `Held`, a part that was taken
 //! - `specs/Work.antt`, `Batch.antt`, `src/hold.rt`, `worker.rt`, `gate.rt`, `proofs/Holds.antt`,
-//!   `Batches.antt`, `Bringing.antt`, `Rounds.antt`: `work`: one worker, which takes, probes and brings
+//!   `Batches.antt`, `Rounds.antt`: `work`: one worker, which takes, probes and brings
 //!   back; `run_batches` and `run_workers`: one in a thread for each pass; what a hold leaves its pass
 //!   with; `Gate`, where a test can hold a worker up
 //! - `specs/Finish.antt`, `src/finishing.rt`, `proofs/FinishFacts.antt`: `finish`: every part is taken,
@@ -31,12 +31,13 @@
 //! - `proofs/Cuts.antt`, `MorselFacts.antt`: cut points that rise; where morsels and sections are cut
 //! - `proofs/BatchFacts.antt`, `PartialFacts.antt`, `Probing.antt`: tickets that make a batch; the groups
 //!   over their morsels, row by row
-//! - `proofs/MarkFacts.antt`, `PartFacts.antt`, `Due.antt`, `OpeningFacts.antt`, `WorkFacts.antt`,
-//!   `SweepFacts.antt`: marks and what they stand for; what a part keeps, at its opening, at each call,
+//! - `proofs/Bringing.antt`: a partial of one ticket, which a sweep brings back
+//! - `proofs/MarkFacts.antt`, `GivenFacts.antt`, `PartFacts.antt`, `Due.antt`, `OpeningFacts.antt`,
+//!   `WorkFacts.antt`, `SweepFacts.antt`: marks and what they stand for; what a part keeps, at its opening, at each call,
 //!   worked off and in a sweep
 //! - `proofs/Later.antt`: a later state of a part, after each event
-//! - `proofs/SetFacts.antt`, `RunFacts.antt`, `EveryRun.antt`: lists of different numbers as sets; core
-//!   runs, and those from an opening part
+//! - `proofs/SetFacts.antt`, `Numbers.antt`, `RunFacts.antt`, `EveryRun.antt`: lists of numbers as sets;
+//!   core runs, and those from an opening part
 //! - `specs/Probed.antt`: for the contracts inside: what probing rows of the fact table adds to groups
 //!
 //! A morsel goes this way: `Part::hand_out` gives the ticket of the least one that was not handed out,
@@ -45,7 +46,9 @@
 //! whole or not at all. A worker (`work`) takes the part of its own section from its queue, gets
 //! tickets, puts the part back, probes while it holds no part, takes the part again and gives the
 //! partial back; once the section has no ticket left it goes on to the next, in a circle. Where memory
-//! is refused it gives its tickets up, and the part hands out no other. `Part::work_off` goes this way
+//! is refused it gives its tickets up, and the part hands out no other. What it was handed, and is neither
+//! back nor given up, is due to its pass: the rule of the queue says that it is out in the part, so that
+//! its return is refused for want of memory alone. `Part::work_off` goes this way
 //! with morsel after morsel in the caller's thread, until no ticket comes. `Part::sweep` does what is
 //! left of a section, also what was handed out and did not come back; `finish` calls it of each part
 //! that no ticket was given up of.

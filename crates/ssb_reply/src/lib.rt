@@ -23,6 +23,4 @@ pub mod settings;
 pub use fault_line::{MEMORY_LINE, load_line, run_line, words_line};
 pub use law::{loaded_tables_fit, one_reply};
 pub use run_fault::RunFault;
-pub use settings::{
-    DEFAULT_BATCH, DEFAULT_MORSEL_SIZE, DEFAULT_PARTS, DEFAULT_WORKERS, Settings,
-};
+pub use settings::{DEFAULT_BATCH, DEFAULT_MORSEL_SIZE, DEFAULT_PARTS, DEFAULT_WORKERS, Settings};

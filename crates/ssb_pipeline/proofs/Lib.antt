@@ -23,6 +23,7 @@ pub mod PartialFacts
 pub mod Passes
 pub mod Probing
 pub mod RangeFacts
+pub mod Replays
 pub mod Rounds
 pub mod RunFacts
 pub mod SetFacts

@@ -11,3 +11,4 @@ pub mod Lending
 pub mod Work
 pub mod Batch
 pub mod Finish
+pub mod Replay

@@ -55,6 +55,7 @@
 #![tactic(auto)]
 
 mod batch;
+mod calls;
 mod fault;
 mod finishing;
 mod gate;
@@ -69,6 +70,7 @@ mod ticket;
 mod worker;
 
 pub use batch::BatchFault;
+pub use calls::{Call, Reply, replay};
 pub use fault::ReturnFault;
 pub use finishing::finish;
 pub use gate::{Gate, NoGate};

@@ -13,6 +13,8 @@
 //!   at a time: narrowed first, then probed
 //! - `src/part.rt`, `fault.rt`: `Part`: one section of the work, with `hand_out`, `give_back`,
 //!   `give_up`, `work_off` and `sweep`; why a partial is not taken
+//! - `specs/Replay.antt`, `src/calls.rt`, `proofs/Replays.antt`: `replay`: lists of calls of a part and a
+//!   twin, with the reply that each gets
 //! - `specs/Rule.antt`, `src/line.rt`, `proofs/Moves.antt`: the rule of a part's queue: what holds
 //!   between any two steps of the passes that use it; the queue, and each step, which keeps the rule
 //! - `specs/Pass.antt`, `Lending.antt`, `src/parts.rt`, `proofs/Passes.antt`: `Parts`, a queue for each
@@ -31,7 +33,7 @@
 //! - `proofs/Cuts.antt`, `MorselFacts.antt`: cut points that rise; where morsels and sections are cut
 //! - `proofs/BatchFacts.antt`, `PartialFacts.antt`, `Probing.antt`: tickets that make a batch; the groups
 //!   over their morsels, row by row
-//! - `proofs/Bringing.antt`: a partial of one ticket, which a sweep brings back
+//! - `proofs/Bringing.antt`: a partial of one ticket, which a sweep or a call of a list brings back
 //! - `proofs/MarkFacts.antt`, `GivenFacts.antt`, `PartFacts.antt`, `Due.antt`, `OpeningFacts.antt`,
 //!   `WorkFacts.antt`, `SweepFacts.antt`: marks and what they stand for; what a part keeps, at its opening, at each call,
 //!   worked off and in a sweep

@@ -98,7 +98,26 @@ fn undivided<F: Read + Seek>(alloc: Global) -> Division<F>
     (ENDLESS, Vec::new(alloc))
 }
 
-// The division of a regular file.
+// The division of a regular file into so many sections; none where a handle for one of them can't be had.
+fn divided_into<R: Files + AllocGlobal>(
+    rt: &R,
+    path: &str,
+    known: &Metadata,
+    count: u64,
+) -> Result<Option<Division<R::File>>, AllocError>
+    ensures unread { IfOk result (λ made. IfSome made (λ d. AreUnread d.1.items)) }
+    ensures divided { IfOk result (λ made. IfSome made (λ d. IsDivided ⟦<R::File as Seek>⟧.stream_position (d.0 ∷ sizes_of d.1.items) (handles_of d.1.items))) }
+{
+    let spans = spans_of(rt.alloc(), known.len(), count)?;
+    let first = spans[0].size;
+    match sections_anew(rt, path, known, &spans[1..])? {
+        Some(later) => Ok(Some((first, later))),
+        None => Ok(None),
+    }
+}
+
+// The division of a regular file into as many sections as asked for, or, where so many handles can't be
+// had, into half as many, and so on.
 fn divide<R: Files + AllocGlobal>(
     rt: &R,
     path: &str,
@@ -109,12 +128,14 @@ fn divide<R: Files + AllocGlobal>(
     ensures divided { IfOk result (λ d. IsDivided ⟦<R::File as Seek>⟧.stream_position (d.0 ∷ sizes_of d.1.items) (handles_of d.1.items)) }
     ensures alone { count ≤ 1 → IfOk result (λ d. vec_len d.1 ≡ 0) }
 {
-    let spans = spans_of(rt.alloc(), known.len(), count)?;
-    let first = spans[0].size;
-    match sections_anew(rt, path, known, &spans[1..])? {
-        Some(later) => Ok((first, later)),
-        None => Ok(undivided(rt.alloc())),
+    let mut sections = count;
+    while sections > 1 {
+        if let Some(division) = divided_into(rt, path, known, sections)? {
+            return Ok(division);
+        }
+        sections /= 2;
     }
+    Ok(undivided(rt.alloc()))
 }
 
 // The division of any file. One that is no regular file can't be divided.
@@ -138,8 +159,12 @@ fn division_of<R: Files + AllocGlobal>(
 /// asked for, where it is a regular file of more than 16 MB, and one otherwise. The last goes to the
 /// file's end, wherever that is when it is read.
 ///
-/// The first is read through the handle given. The others have new ones; where one of these can't be
-/// had, or is of another file, since the path names another one now, the handle given has all bytes.
+/// The first is read through the handle given. The others have new ones. Where so many can't be had,
+/// there are half as many sections, and so on; where the path names another file now, the handle given
+/// has all bytes.
+///
+/// Where handles tell at which byte they stand, each of the others stands at the first byte of its
+/// section. A system's file tells none: that it was moved there is the system's word.
 ///
 /// # Errors
 ///

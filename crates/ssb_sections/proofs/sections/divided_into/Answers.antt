@@ -4,7 +4,7 @@ use Rattle.std.specs.Io.Take.{take_limit}
 use Rattle.ssb_sections.specs.Sections.{StandAt, handles_of}
 use Rattle.ssb_sections.specs.declared.spans.Span.{Span}
 use Rattle.ssb_sections.proofs.SpanFacts.{first-and-others, later-ranges, none-later, some-range}
-use Rattle.ssb_sections.proofs.sections.divide.Goals as goal
+use Rattle.ssb_sections.proofs.sections.divided_into.Goals as goal
 
 pub returns-in-Some-clause-divided : goal.returns-in-Some-clause-divided
 returns-in-Some-clause-divided g c =
@@ -22,15 +22,6 @@ returns-in-Some-clause-divided g c =
 
 pub returns-in-Some-clause-unread : goal.returns-in-Some-clause-unread
 returns-in-Some-clause-unread g c = rw c.in-Some.is at c.in_ok-later.ensures.unread
-
-pub returns-in-Some-clause-alone : goal.returns-in-Some-clause-alone
-returns-in-Some-clause-alone g c = λ few.
-    let spans = c.in_ok-spans.spans in
-    let whole = c.in_ok-spans.ensures.whole (inr few) in
-    let sizes = rw (c.in-Some.is, c.deref.ensures.value) at c.in_ok-later.ensures.sizes in
-    let none = none-later spans.items _ (omega (arith, whole, spans.ok.0)) sizes in
-    let same = length-map c.in-Some.later.items (λ s. take_limit s.begun.value) in
-    omega (arith, none, same, c.in-Some.later.ok.0)
 
 pub index-requires : goal.index-requires
 index-requires g c = let some = some-range c.len.result c.in_ok-spans.spans.items c.in_ok-spans.ensures.spans in omega (arith, some, c.in_ok-spans.spans.ok.0)

@@ -3,6 +3,7 @@
 use ssb_load::FileFault;
 use ssb_records::LoadFault;
 use ssb_reply::RunFault;
+use ssb_rows::AnswerFault;
 use std::alloc::AllocError;
 
 /// How a trial ended that came to its end.
@@ -62,5 +63,11 @@ impl From<RunFault> for Stop {
             RunFault::Memory => Stop::Memory,
             _ => Stop::Wrong,
         }
+    }
+}
+
+impl From<AnswerFault> for Stop {
+    fn from(fault: AnswerFault) -> Stop {
+        Stop::from(RunFault::from(fault))
     }
 }

@@ -1,4 +1,4 @@
-// The small tables. Their files lie in memory, so that all that is refused is the engine's own.
+// The small tables, and a query over them.
 
 ghost use Rattle.std.specs.Prelude.{◌≡◌, [], IfOk};
 ghost use Rattle.std.specs.List.{All};
@@ -42,13 +42,23 @@ pub(crate) fn sources(alloc: Global) -> Result<Vec<In<&'static [u8]>>, AllocErro
     Ok(vec![in alloc; In::new(FACTS), In::new(DATES), In::new(SUPPLIERS)]?)
 }
 
-/// The job of the query over the small tables.
-pub(crate) fn small_job(alloc: Global) -> Result<Arc<Job, Global>, Stop> {
-    let catalog = Catalog::read(alloc, CATALOG)?;
-    let mut sources = sources(alloc)?;
+/// The job of a query over the tables of a catalog.
+pub(crate) fn job_over(
+    alloc: Global,
+    catalog: &[u8],
+    sources: Vec<In<&[u8]>>,
+    text: &str,
+) -> Result<Arc<Job, Global>, Stop> {
+    let mut sources = sources;
+    let catalog = Catalog::read(alloc, catalog)?;
     if sources.len() != catalog.tables().len() {
         return Err(Stop::Wrong);
     }
     let tables = load_all(alloc, &catalog, &mut sources, PIECE_SIZE)?;
-    Ok(job_of_text(alloc, &catalog, tables, REVENUE)?)
+    Ok(job_of_text(alloc, &catalog, tables, text)?)
+}
+
+/// The job of the query over the small tables.
+pub(crate) fn small_job(alloc: Global) -> Result<Arc<Job, Global>, Stop> {
+    job_over(alloc, CATALOG, sources(alloc)?, REVENUE)
 }

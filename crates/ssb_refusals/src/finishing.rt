@@ -1,14 +1,22 @@
 // What finishing asks for where all of its one part came back: nothing.
 
-ghost use Rattle.std.specs.Prelude.{◌≡◌, ◌<◌, length};
+ghost use Rattle.std.specs.Prelude.{◌≡◌, ◌<◌, IfOk, length};
+ghost use Rattle.std.specs.Arc.{arc_value};
+ghost use Rattle.ssb_groups.specs.Stands.{Stands};
+ghost use Rattle.ssb_job.specs.Kept.{AreOneJob};
 ghost use Rattle.ssb_pipeline.specs.Pass.{HoldsNone, IsPassOfParts};
+ghost use Rattle.ssb_reply.specs.Reply.{seen_rows};
 
 use crate::ends::{Done, Stop};
 use crate::files::small_job;
-use crate::sums::{ALL, hold};
+use ssb_answer::answer_of_groups;
+use ssb_groups::Groups;
+use ssb_job::Job;
 use ssb_pipeline::{NoGate, Parts, PartsPass, finish, work};
+use ssb_rows::{Out, write_answer};
 use std::alloc::Global;
-use std::sync::Wait;
+use std::io::Write;
+use std::sync::{Arc, Wait};
 
 // Whether all four morsels of the one part were handed out, and came back.
 fn is_all_back<R: Wait>(rt: &R, parts: &Parts, pass: &mut PartsPass) -> bool
@@ -25,35 +33,41 @@ fn is_all_back<R: Wait>(rt: &R, parts: &Parts, pass: &mut PartsPass) -> bool
     back
 }
 
-// Finishes a part, of which all came back or a ticket was given up for want of memory.
-fn finish_part<R: Wait>(
-    rt: &R,
-    alloc: Global,
-    parts: Parts,
-    pass: &mut PartsPass,
-) -> Result<Done, Stop>
+// The groups of parts that are finished. Where all came back before, no refusal may come.
+fn finished<R: Wait>(rt: &R, parts: Parts, pass: &mut PartsPass) -> Result<Groups, Stop>
     requires some { 0 < length parts.queues }
     requires size { 0 < parts.size }
     requires pass { IsPassOfParts parts pass.old }
     requires none { HoldsNone pass.old }
+    ensures stands { IfOk result (λ g. Stands g (seen_rows parts.job)) }
+    ensures job { IfOk result (λ g. AreOneJob g.job parts.job) }
 {
     let back = is_all_back(rt, &parts, pass);
     match finish(rt, parts, pass) {
-        Ok(groups) if back => {
-            let held = hold(alloc, &groups, &ALL);
-            drop(groups);
-            held?;
-            Ok(Done::AtOnce)
-        }
-        Err(_) if !back => Err(Stop::Memory),
-        _ => Err(Stop::Wrong),
+        Ok(groups) => Ok(groups),
+        Err(_) => Err(if back { Stop::Wrong } else { Stop::Memory }),
     }
 }
 
-/// A worker brings all morsels of one part back, in the caller's thread, and the part is finished.
-pub(crate) fn finish_all_back<R: Wait>(rt: &R, alloc: Global) -> Result<Done, Stop> {
-    let job = small_job(alloc)?;
-    let (parts, mut passes) = Parts::open(rt, alloc, job, 2, 1, 1)?;
+// The groups of the job's one part, which a worker in the caller's thread brings back.
+fn groups_of<R: Wait>(rt: &R, alloc: Global, job: &Arc<Job, Global>) -> Result<Groups, Stop>
+    ensures stands { IfOk result (λ g. Stands g (seen_rows (arc_value job.now))) }
+    ensures job { IfOk result (λ g. AreOneJob g.job (arc_value job.now)) }
+{
+    let (parts, mut passes) = Parts::open(rt, alloc, Arc::try_clone(job)?, 2, 1, 1)?;
     work(rt, &parts, 0, &mut passes[0], 1, &NoGate);
-    finish_part(rt, alloc, parts, &mut passes[0])
+    finished(rt, parts, &mut passes[0])
+}
+
+/// A run over one part in the caller's thread: a worker brings all of it back, and then it is finished.
+pub(crate) fn finish_all_back<R: Wait, W: Write + Drop>(
+    rt: &R,
+    alloc: Global,
+    writer: W,
+) -> Result<Done, Stop> {
+    let job = small_job(alloc)?;
+    let groups = groups_of(rt, alloc, &job)?;
+    let answer = answer_of_groups(alloc, &job, groups)?;
+    write_answer(&answer, &mut Out::new(writer))?;
+    Ok(Done::Written)
 }

@@ -7,22 +7,21 @@ ghost use Rattle.std.specs.List.{All};
 ghost use Rattle.ssb_job.specs.Kept.{AreOneJob};
 
 use crate::ends::{Done, Stop};
-use crate::files::small_job;
-use crate::sums::{ALL, FIRST_FOUR, FIRST_TWO, LAST_THREE, hold};
+use crate::numbers::{are_counts, numbers_job};
 use ssb_groups::Groups;
 use ssb_job::Job;
 use ssb_pipeline::{Part, Partial, ReturnFault, Ticket};
 use std::alloc::{AllocError, Global};
 use std::sync::Arc;
 
-// How many morsels of two rows the seven rows are.
-const MORSELS: u32 = 4;
+// The numbers are four morsels of as many rows.
+const MORSEL_SIZE: u32 = 10;
 
-// A part of all morsels of two rows.
+// A part of all morsels.
 fn whole_part(alloc: Global, job: &Arc<Job, Global>) -> Result<Part, AllocError>
     ensures { IfOk result (λ p. AreOneJob p.job (arc_value job.now)) }
 {
-    Part::open(alloc, Arc::try_clone(job)?, 2, 0, 1)
+    Part::open(alloc, Arc::try_clone(job)?, MORSEL_SIZE, 0, 1)
 }
 
 // The partial of a part's next ticket.
@@ -72,7 +71,7 @@ fn give_all_back(alloc: Global, job: &Job, part: &mut Part) -> Result<Done, Stop
     requires { AreOneJob part.old.job job.now }
 {
     let mut done = Done::AtOnce;
-    for _ in 0..MORSELS {
+    for _ in 0..4 {
         let partial = next_partial(alloc, job, part)?;
         done = done.and(give_one_back(part, partial)?);
     }
@@ -81,17 +80,17 @@ fn give_all_back(alloc: Global, job: &Job, part: &mut Part) -> Result<Done, Stop
 
 /// Each morsel is given back to its part.
 pub(crate) fn give_back(alloc: Global) -> Result<Done, Stop> {
-    let job = small_job(alloc)?;
+    let job = numbers_job(alloc)?;
     let mut part = whole_part(alloc, &job)?;
     let done = give_all_back(alloc, &job, &mut part)?;
     drop(job);
     let groups = part.into_groups();
-    hold(alloc, &groups, &ALL)?;
+    are_counts(alloc, &groups, 40, 1, 40)?;
     drop(groups);
     Ok(done)
 }
 
-// The groups of one of two sections, each of one morsel of four rows.
+// The groups of one of two sections, each of two morsels.
 fn groups_of_section(
     alloc: Global,
     job: &Arc<Job, Global>,
@@ -100,44 +99,47 @@ fn groups_of_section(
     requires { section < 2 }
     ensures { IfOk result (λ g. AreOneJob g.job (arc_value job.now)) }
 {
-    let mut part = Part::open(alloc, Arc::try_clone(job)?, 4, section, 2)?;
+    let mut part = Part::open(alloc, Arc::try_clone(job)?, MORSEL_SIZE, section, 2)?;
     part.work_off()?;
     Ok(part.into_groups())
 }
 
-// Merges the groups of the first section, which were refused; both stand as before.
-fn merge_again(alloc: Global, groups: &mut Groups, first: Groups) -> Result<Done, Stop>
-    requires { AreOneJob groups.old.job first.job }
+// Merges the groups of the second section, which were refused; both stand as before.
+fn merge_again(alloc: Global, groups: &mut Groups, second: Groups) -> Result<Done, Stop>
+    requires { AreOneJob groups.old.job second.job }
 {
-    hold(alloc, groups, &LAST_THREE)?;
-    hold(alloc, &first, &FIRST_FOUR)?;
-    match groups.merge(first) {
+    are_counts(alloc, groups, 20, 1, 20)?;
+    are_counts(alloc, &second, 20, 21, 40)?;
+    if groups.counted().checked_add(second.counted()).is_none() {
+        return Err(Stop::Wrong);
+    }
+    match groups.merge(second) {
         Ok(()) => Ok(Done::Again),
         Err(_) => Err(Stop::Wrong),
     }
 }
 
-// Merges the groups of the first section; where that is refused, once more.
-fn merge(alloc: Global, groups: &mut Groups, first: Groups) -> Result<Done, Stop>
-    requires { AreOneJob groups.old.job first.job }
+// Merges the groups of the second section into those of the first; where that is refused, once more.
+fn merge(alloc: Global, groups: &mut Groups, second: Groups) -> Result<Done, Stop>
+    requires { AreOneJob groups.old.job second.job }
 {
-    if groups.counted().checked_add(first.counted()).is_none() {
+    if groups.counted().checked_add(second.counted()).is_none() {
         return Err(Stop::Wrong);
     }
-    match groups.merge(first) {
+    match groups.merge(second) {
         Ok(()) => Ok(Done::AtOnce),
-        Err((first, _)) => merge_again(alloc, groups, first),
+        Err((second, _)) => merge_again(alloc, groups, second),
     }
 }
 
-/// The groups of two sections are merged: those of the first, most of them new, into those of the second.
+/// The groups of two sections become one.
 pub(crate) fn merge_sections(alloc: Global) -> Result<Done, Stop> {
-    let job = small_job(alloc)?;
-    let first = groups_of_section(alloc, &job, 0)?;
-    let mut groups = groups_of_section(alloc, &job, 1)?;
+    let job = numbers_job(alloc)?;
+    let mut groups = groups_of_section(alloc, &job, 0)?;
+    let second = groups_of_section(alloc, &job, 1)?;
     drop(job);
-    let done = merge(alloc, &mut groups, first)?;
-    hold(alloc, &groups, &ALL)?;
+    let done = merge(alloc, &mut groups, second)?;
+    are_counts(alloc, &groups, 40, 1, 40)?;
     drop(groups);
     Ok(done)
 }
@@ -184,12 +186,12 @@ fn bring_first_back(alloc: Global, job: &Job, part: &mut Part) -> Result<Done, S
 
 /// The groups of a ticket's morsel are made, and the part that handed it out takes them.
 pub(crate) fn partial_of_ticket(alloc: Global) -> Result<Done, Stop> {
-    let job = small_job(alloc)?;
+    let job = numbers_job(alloc)?;
     let mut part = whole_part(alloc, &job)?;
     let done = bring_first_back(alloc, &job, &mut part)?;
     drop(job);
     let groups = part.into_groups();
-    hold(alloc, &groups, &FIRST_TWO)?;
+    are_counts(alloc, &groups, 10, 1, 10)?;
     drop(groups);
     Ok(done)
 }

@@ -1,28 +1,26 @@
-//! What `tests/run_refusals.py` runs while it refuses one growth after the other: trials over the small
-//! tables, which lie in memory. The words name trials:
+//! What `tests/run_refusals.py` runs while it refuses one growth after the other: trials, over tables that
+//! lie in memory. The words name them:
 //!
-//! - `alone`: a run in the caller's thread
-//! - `pieces`: the same, in pieces of 8 bytes
-//! - `threads`: a run by two workers over two parts, two morsels at a time
-//! - `sections`: the same, with the fact table's bytes in two sections
-//! - `finish`: the groups of one part of which all came back, finished
-//! - `give_back`: the groups of morsels, given back to their part
-//! - `merge`: the groups of two sections, merged
-//! - `partial`: the groups of a ticket's morsel
+//! - `alone`: a run over the small tables, in the caller's thread
+//! - `pieces`: the same, read in pieces of 8 bytes
+//! - `threads`: the same by two workers over two parts, two morsels at a time
+//! - `sections`: the same, with the fact table in two sections
+//! - `finish`: the same by one worker over one part, of which all came back before it is finished
+//! - `give_back`: a part takes the groups of its morsels
+//! - `merge`: the groups of two sections become one
+//! - `partial`: a ticket becomes the groups of its morsel
 //!
-//! A run prints the rows of the answer. Each other trial prints `done`, or `done again` where what it tries
-//! was refused, all stood as before, and the second try succeeded. In their place comes `Memory` where a
-//! growth was refused that is none of these, and `wrong` where something came that may not come. The
-//! status is 1 where nothing could be printed, and 2 where a word names no trial.
+//! The first five print the rows of the answer. The others print `done`, or `done again` where the call was
+//! refused, all stood as before, and the same call then succeeded. `Memory` comes in place of these where
+//! another growth was refused, and `wrong` where something came that may not come. The status is 1 where
+//! nothing could be printed, and 2 where a word names no trial.
 //!
 //! # Files
 //!
-//! - `src/files.rt`: the small tables, their readers, and the job of a query over them
 //! - `src/ends.rt`: how a trial ends
-//! - `src/runs.rt`: the whole path, from the bytes of the tables to the rows
-//! - `src/sums.rt`: which sums groups hold
-//! - `src/finishing.rt`: the trial of `finish`
-//! - `src/layers.rt`: the trials of the calls that hand back what they were given
+//! - `src/files.rt`, `numbers.rt`: the small tables and their query; a table whose rows are 40 groups
+//! - `src/runs.rt`, `finishing.rt`: the trials that print rows; that of finishing
+//! - `src/layers.rt`: those of calls that hand back what they were given
 //! - `src/main.rt`: the words of the command line, and what is printed
 #![tactic(auto)]
 
@@ -30,8 +28,8 @@ mod ends;
 mod files;
 mod finishing;
 mod layers;
+mod numbers;
 mod runs;
-mod sums;
 
 use ends::{Done, Stop};
 use finishing::finish_all_back;
@@ -75,7 +73,7 @@ fn act<R: Print + Threads + Wait + Sync + AllocGlobal>(rt: &R, word: &str) -> u8
         "pieces" => run_in_pieces(rt.alloc(), io::writer(rt)),
         "threads" => run_by_workers(rt, rt.alloc(), io::writer(rt)),
         "sections" => run_over_sections(rt, rt.alloc(), io::writer(rt)),
-        "finish" => finish_all_back(rt, rt.alloc()),
+        "finish" => finish_all_back(rt, rt.alloc(), io::writer(rt)),
         "give_back" => give_back(rt.alloc()),
         "merge" => merge_sections(rt.alloc()),
         "partial" => partial_of_ticket(rt.alloc()),

@@ -18,8 +18,8 @@ use std::alloc::Global;
 use std::io::Write;
 use std::sync::{Arc, Wait};
 
-// Whether all four morsels of the one part were handed out, and came back.
-fn is_all_back<R: Wait>(rt: &R, parts: &Parts, pass: &mut PartsPass) -> bool
+// How many morsels of the one part were handed out, and how many came back.
+fn counts<R: Wait>(rt: &R, parts: &Parts, pass: &mut PartsPass) -> (u32, u32)
     requires section { 0 < length parts.now.queues }
     requires pass { IsPassOfParts parts.now pass.old }
     requires none { HoldsNone pass.old }
@@ -28,12 +28,12 @@ fn is_all_back<R: Wait>(rt: &R, parts: &Parts, pass: &mut PartsPass) -> bool
 {
     let mut held = parts.take(rt, 0, pass);
     let part = held.part();
-    let back = part.handed() == 4 && part.returned() == 4;
+    let counts = (part.handed(), part.returned());
     parts.put(rt, held, pass);
-    back
+    counts
 }
 
-// The groups of parts that are finished. Where all came back before, no refusal may come.
+// The groups of the one part, finished. Where all four morsels came back before, no refusal may come.
 fn finished<R: Wait>(rt: &R, parts: Parts, pass: &mut PartsPass) -> Result<Groups, Stop>
     requires some { 0 < length parts.queues }
     requires size { 0 < parts.size }
@@ -42,24 +42,38 @@ fn finished<R: Wait>(rt: &R, parts: Parts, pass: &mut PartsPass) -> Result<Group
     ensures stands { IfOk result (λ g. Stands g (seen_rows parts.job)) }
     ensures job { IfOk result (λ g. AreOneJob g.job parts.job) }
 {
-    let back = is_all_back(rt, &parts, pass);
+    let counts = counts(rt, &parts, pass);
     match finish(rt, parts, pass) {
         Ok(groups) => Ok(groups),
-        Err(_) => Err(if back { Stop::Wrong } else { Stop::Memory }),
+        Err(_) if counts == (4, 4) => Err(Stop::Wrong),
+        Err(_) => Err(Stop::Memory),
     }
 }
 
-// The groups of the job's one part, which a worker in the caller's thread brings back.
+// The same after a worker in the caller's thread.
+fn worked<R: Wait>(rt: &R, parts: Parts, pass: &mut PartsPass) -> Result<Groups, Stop>
+    requires some { 0 < length parts.queues }
+    requires size { 0 < parts.size }
+    requires pass { IsPassOfParts parts pass.old }
+    requires none { HoldsNone pass.old }
+    ensures stands { IfOk result (λ g. Stands g (seen_rows parts.job)) }
+    ensures job { IfOk result (λ g. AreOneJob g.job parts.job) }
+{
+    work(rt, &parts, 0, pass, 1, &NoGate);
+    finished(rt, parts, pass)
+}
+
+// The groups over all that a job keeps, by one part.
 fn groups_of<R: Wait>(rt: &R, alloc: Global, job: &Arc<Job, Global>) -> Result<Groups, Stop>
     ensures stands { IfOk result (λ g. Stands g (seen_rows (arc_value job.now))) }
     ensures job { IfOk result (λ g. AreOneJob g.job (arc_value job.now)) }
 {
-    let (parts, mut passes) = Parts::open(rt, alloc, Arc::try_clone(job)?, 2, 1, 1)?;
-    work(rt, &parts, 0, &mut passes[0], 1, &NoGate);
-    finished(rt, parts, &mut passes[0])
+    let shared = Arc::try_clone(job)?;
+    let (parts, mut passes) = Parts::open(rt, alloc, shared, 2, 1, 1)?;
+    worked(rt, parts, &mut passes[0])
 }
 
-/// A run over one part in the caller's thread: a worker brings all of it back, and then it is finished.
+/// A run in the caller's thread: a worker brings all of one part back, and then it is finished.
 pub(crate) fn finish_all_back<R: Wait, W: Write + Drop>(
     rt: &R,
     alloc: Global,

@@ -82,8 +82,11 @@ fn act<R: Print + Threads + Wait + Sync + AllocGlobal>(rt: &R, word: &str) -> u8
     print_end(rt, ended)
 }
 
-// Tries what each word names in turn, up to one that fails.
+// Tries what each word behind the program's name names, up to one that fails.
 fn act_on<R: Print + Threads + Wait + Sync + AllocGlobal>(rt: &R, given: &[String]) -> u8 {
+    let [_, given @ ..] = given else {
+        return 0;
+    };
     for word in given {
         let status = act(rt, word.as_str());
         if status != 0 {
@@ -93,10 +96,10 @@ fn act_on<R: Print + Threads + Wait + Sync + AllocGlobal>(rt: &R, given: &[Strin
     0
 }
 
-// The words behind the program's name; an error where memory was refused.
+// The words of the command line; an error where memory was refused.
 fn words<R: Env + AllocGlobal>(rt: &R) -> io::Result<Vec<String>> {
     let given = env::args(rt)?;
-    let collected: Result<Vec<String>, AllocError> = given.skip(1).collect(rt.alloc());
+    let collected: Result<Vec<String>, AllocError> = given.collect(rt.alloc());
     Ok(collected?)
 }
 

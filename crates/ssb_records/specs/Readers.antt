@@ -6,7 +6,7 @@ use Rattle.ssb_records.specs.declared.reader.In.{In}
 
 -- a source is made of a reader, and nothing was read of it so far
 pub record IsMadeOf {R : Type 0} {read : Read R} (reader : R) (s : In R read) : Type 0 where
-  pub reader : s.begun.value ≡ reader
+  pub begun : s.begun.value ≡ reader
   pub given : s.given.items ≡ []
   pub failed : s.failed.items ≡ []
   pub ended : s.ended.items ≡ []

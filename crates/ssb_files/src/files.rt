@@ -234,9 +234,10 @@ pub fn open_all<R: Files + AllocGlobal>(
     ensures sections { IfOk result (λ files. AreOpened ⟦<R::File as Seek>⟧.stream_position catalog.now files.items) }
     ensures fault { IfErr result IsOpenFault }
 {
-    let handles = open_each(rt, data, catalog)?;
+    let mut handles = open_each(rt, data, catalog)?;
     let mut files = Vec::new(rt.alloc());
-    for (table, file) in catalog.tables().iter().zip(handles) {
+    for table in catalog.tables() {
+        let file = handles.remove(0);
         if let Err(AllocError) = add_file(rt, data, table, workers, file, &mut files) {
             drop(files);
             return Err(ProgramFault::Memory);

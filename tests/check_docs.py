@@ -23,7 +23,7 @@ CATALOG = ROOT / "examples" / "ssb.catalog"
 MOST_WORDS = 21_000
 
 # What no limit of the product stands in: what only tests and measures, and the texts of the benchmark's queries.
-NO_LIMITS = {"ssb_tests", "ssb_bench", "ssb_benchmark"}
+NO_LIMITS = {"ssb_tests", "ssb_refusals", "ssb_bench", "ssb_benchmark"}
 
 QUOTED = re.compile(r"`([^`]+)`")
 ITEM = re.compile(r"[A-Za-z_][\w]*")

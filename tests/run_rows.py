@@ -25,6 +25,13 @@ SECONDS = 120
 # The folder of a row's files, below the one that the program runs in.
 DATA = "d"
 
+# The limits of the system that a row may set, with the letter of each in the shell's `ulimit`.
+LIMITS = {"stack": "s", "open_files": "n"}
+
+# What stands behind a command for each standard output that a row may ask for. A short one is a file that
+# takes 512 bytes.
+OUTPUTS = {"": "", "closed": " >&-", "full": " >/dev/full", "short": " >short"}
+
 # Each key of a row, with what it is where the row leaves it out.
 DEFAULTS = {
     "shows": "",
@@ -34,6 +41,7 @@ DEFAULTS = {
     "options": [],
     "settings": {},
     "pipe": None,
+    "limits": {},
     "words": None,
     "standard_output": "",
     "output": "",
@@ -62,8 +70,11 @@ def read_row(path):
     for option, values in row["settings"].items():
         if not values or not all(isinstance(value, str) for value in values):
             raise BadRow(f"{option} has no list of texts")
-    if row["standard_output"] not in ("", "closed", "full"):
-        raise BadRow("standard_output is closed or full, or left out")
+    if row["standard_output"] not in OUTPUTS:
+        raise BadRow("standard_output is closed, full or short, or left out")
+    for name, limit in row["limits"].items():
+        if name not in LIMITS or not isinstance(limit, int):
+            raise BadRow(f"no limit: {name} {limit!r}")
     return row
 
 
@@ -127,6 +138,8 @@ def change_file(path, content):
         return
     if content == {"folder": True}:
         path.mkdir()
+    elif isinstance(content, dict) and set(content) == {"link"}:
+        path.symlink_to(content["link"])
     else:
         path.write_bytes(content_bytes(content))
 
@@ -182,17 +195,29 @@ def as_pipe(path):
         whole.replace(path)
 
 
-def run(row, choice, program, folder):
+def shell_of(row, limits):
+    """The words of a shell that goes over to the program behind them, none where none is needed."""
+    steps = [f"ulimit -{LIMITS[name]} {limit}" for name, limit in limits.items()]
+    if row["standard_output"] == "short":
+        # Else the system ends the program by a signal.
+        steps += ["trap '' XFSZ", "ulimit -f 1"]
+    if not steps and not row["standard_output"]:
+        return []
+    steps.append(f'exec "$0" "$@"{OUTPUTS[row["standard_output"]]}')
+    return [b"/bin/sh", b"-c", " && ".join(steps).encode()]
+
+
+def run(row, choice, program, folder, limits=None):
     """Runs the program: its status, and what it wrote on its two outputs."""
     command = [str(program).encode()] + words_of(row) + [word.encode() for word in choice]
-    if row["standard_output"] == "closed":
-        command = [b"/bin/sh", b"-c", b'exec "$0" "$@" >&-'] + command
-    if row["standard_output"] == "full":
-        command = [b"/bin/sh", b"-c", b'exec "$0" "$@" >/dev/full'] + command
     ended = subprocess.run(
-        command, cwd=folder, stdin=subprocess.DEVNULL, capture_output=True, timeout=SECONDS
+        shell_of(row, limits or {}) + command,
+        cwd=folder, stdin=subprocess.DEVNULL, capture_output=True, timeout=SECONDS,
     )
-    return ended.returncode, ended.stdout, ended.stderr
+    output = ended.stdout
+    if row["standard_output"] == "short":
+        output = (folder / "short").read_bytes()
+    return ended.returncode, output, ended.stderr
 
 
 def runs(row, program, folder):
@@ -203,6 +228,9 @@ def runs(row, program, folder):
             with as_pipe(folder / DATA / row["pipe"]):
                 ended = run(row, choice, program, folder)
             yield [*choice, f"{row['pipe']} through a pipe:"], ended
+        if row["limits"]:
+            limits = " ".join(f"{name} {limit}" for name, limit in row["limits"].items())
+            yield [*choice, f"under {limits}:"], run(row, choice, program, folder, row["limits"])
 
 
 def differences(row, status, output, error):

@@ -1,7 +1,8 @@
 // Reading a catalog, from what a source gives or from a reader.
 
-ghost use Rattle.std.specs.Prelude.{ℕ, List, IfErr, IfSome};
+ghost use Rattle.std.specs.Prelude.{IfErr, IfSome};
 ghost use Rattle.ssb_catalog.specs.CatalogReading.{IsCatalogFault, ReadsCatalog, ReadsFrom};
+ghost use Rattle.ssb_records.specs.Readers.{WasRead};
 ghost use Rattle.ssb_records.specs.Records.{records_of};
 
 use crate::catalog::Catalog;
@@ -19,7 +20,7 @@ impl Catalog {
     /// As of [`read_from`](Self::read_from).
     pub fn read<R: Read + Drop>(alloc: Global, source: R) -> Result<Catalog, LoadFault>
         ensures known { IfSome (R.remaining source) (λ bytes. ReadsCatalog (records_of bytes) result) }
-        ensures right { (bytes : List ℕ) × ReadsCatalog (records_of bytes) result }
+        ensures read { let source_of = ⟦<In<R> as Source>⟧ in WasRead source (λ before after. ReadsFrom source_of.given source_of.failures source_of.ends source_of.whole before after result) }
         ensures faults { IfErr result IsCatalogFault }
     {
         let mut source = In::new(source);

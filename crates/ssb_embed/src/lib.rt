@@ -5,8 +5,8 @@
 //!
 //! - `src/alone.rt`, `proofs/WorkedOff.antt`: `run_alone_from`: the whole path in the caller's thread,
 //!   with the same theorem; the groups of one part of all morsels, worked off
-//! - `src/readers.rt`, `bytes.rt`: `run` and `run_alone`: the same over readers; `answer_bytes`: over
-//!   files in memory
+//! - `src/readers.rt`, `bytes.rt`, `specs/Readers.antt`: `run` and `run_alone`: the same over readers, each
+//!   read as a source; `answer_bytes`: over files in memory
 //!
 //! The program needs none of it, so it is a crate of its own, off the program's path.
 #![tactic(auto)]

@@ -1,1 +1,2 @@
 mod OpenFacts
+mod ShownFacts

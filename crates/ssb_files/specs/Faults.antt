@@ -14,6 +14,7 @@ use Rattle.ssb_rows.specs.declared.fault.AnswerFault.TheVariants as answer
 use Rattle.ssb_reply.specs.FaultLine.{load_words, memory_words, run_words}
 use Rattle.ssb_reply.specs.declared.run_fault.RunFault.{RunFault}
 use Rattle.ssb_reply.specs.declared.run_fault.RunFault.TheVariants as run
+use Rattle.ssb_files.specs.Shown.{shown_path}
 use Rattle.ssb_files.specs.declared.fault.ProgramFault.{ProgramFault}
 use Rattle.ssb_files.specs.declared.fault.ProgramFault.TheVariants as program
 
@@ -91,7 +92,7 @@ name_told names run.Memory = []
 -- the words of the program's fault
 abbrev pub program_words : ProgramFault → List (List ℕ)
 program_words program.BadWords = codes "U1 BadWords" ∷ []
-program_words (program.CannotOpen path) = codes "F1 CannotOpen" ∷ string_bytes path ∷ []
+program_words (program.CannotOpen path) = codes "F1 CannotOpen" ∷ shown_path (string_bytes path) ∷ []
 program_words (program.Catalog fault) = load_words (codes "catalog") fault
 program_words (program.Run names fault) = run_words (name_told names.items fault) fault
 program_words program.Memory = memory_words

@@ -1,3 +1,4 @@
 pub mod Faults
 pub mod Files
 pub mod Opening
+pub mod Shown

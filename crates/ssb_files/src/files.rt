@@ -6,7 +6,7 @@ ghost use Rattle.ssb_catalog.specs.BuiltIn.{ssb_tables};
 ghost use Rattle.ssb_files.specs.Faults.{IsNoCatalog, IsNoQuery, IsOpenFault, IsQueryFault};
 ghost use Rattle.ssb_files.specs.Files.{longest_query, section_count};
 ghost use Rattle.ssb_files.specs.Opening.{AreOpened, AreSectionsOf, GainsTable};
-ghost use Rattle.ssb_sections.specs.Sections.{AreSizes, AreUnread, sizes_of};
+ghost use Rattle.ssb_sections.specs.Sections.{AreUnread};
 
 use crate::fault::ProgramFault;
 use ssb_catalog::{Catalog, TableDef};
@@ -14,7 +14,7 @@ use ssb_reply::RunFault;
 use ssb_sections::{Section, sections_of};
 use ssb_sql::SqlFault;
 use std::alloc::{AllocError, Global};
-use std::io::Read;
+use std::io::{Read, Seek};
 use std::rt::Files;
 use std::{fs, io};
 
@@ -144,60 +144,81 @@ fn section_count(table: &TableDef, workers: u32) -> u64
     }
 }
 
-fn open_sections<R: Files + AllocGlobal>(
-    rt: &R,
-    path: &str,
-    count: u64,
-) -> Result<Vec<Section<R::File>>, ProgramFault>
-    ensures unread { IfOk result (λ sections. AreUnread sections.items) }
-    ensures sizes { IfOk result (λ sections. AreSizes (sizes_of sections.items)) }
-    ensures alone { count ≤ 1 → IfOk result (λ sections. vec_len sections ≡ 1) }
-    ensures fault { IfErr result IsOpenFault }
-{
-    let file = open(rt, path)?;
-    Ok(sections_of(rt, path, file, count)?)
-}
-
+// A handle for the file of a table.
 fn open_table<R: Files + AllocGlobal>(
     rt: &R,
     data: &str,
     table: &TableDef,
-    workers: u32,
-) -> Result<Vec<Section<R::File>>, ProgramFault>
-    ensures unread { IfOk result (λ sections. AreUnread sections.items) }
-    ensures sections { IfOk result (λ sections. AreSectionsOf table.now (sizes_of sections.items)) }
-    ensures fault { IfErr result IsOpenFault }
+) -> Result<R::File, ProgramFault>
+    ensures { IfErr result IsOpenFault }
 {
     let path = path_of(rt.alloc(), data, table.name())?;
-    let count = section_count(table, workers);
-    let opened = open_sections(rt, path.as_str(), count);
+    let opened = open(rt, path.as_str());
     drop(path);
     opened
 }
 
-// Opens the file of a table, and puts it behind the files.
+// A handle for the file of each table, in the catalog's order.
+fn open_each<R: Files + AllocGlobal>(
+    rt: &R,
+    data: &str,
+    catalog: &Catalog,
+) -> Result<Vec<R::File>, ProgramFault>
+    ensures count { IfOk result (λ files. vec_len files ≡ length catalog.now) }
+    ensures fault { IfErr result IsOpenFault }
+{
+    let mut files = Vec::new(rt.alloc());
+    for table in catalog.tables() {
+        let file = open_table(rt, data, table)?;
+        let Ok(()) = files.push(file) else {
+            return Err(ProgramFault::Memory);
+        };
+    }
+    Ok(files)
+}
+
+// The sections of a table's file, which was just opened.
+fn divide<R: Files + AllocGlobal>(
+    rt: &R,
+    data: &str,
+    table: &TableDef,
+    workers: u32,
+    file: R::File,
+) -> Result<Vec<Section<R::File>>, AllocError>
+    ensures unread { IfOk result (λ sections. AreUnread sections.items) }
+    ensures sections { IfOk result (λ sections. AreSectionsOf ⟦<R::File as Seek>⟧.stream_position table.now sections.items) }
+{
+    let path = path_of(rt.alloc(), data, table.name())?;
+    let count = section_count(table, workers);
+    let sections = sections_of(rt, path.as_str(), file, count);
+    drop(path);
+    sections
+}
+
+// Puts the sections of a table's file behind those of other tables.
 fn add_file<R: Files + AllocGlobal>(
     rt: &R,
     data: &str,
     table: &TableDef,
     workers: u32,
+    file: R::File,
     files: &mut Vec<Vec<Section<R::File>>>,
-) -> Result<(), ProgramFault>
+) -> Result<(), AllocError>
     ensures added { IfOk result (λ u. vec_len files.new ≡ vec_len files.old + 1) }
     ensures unread { IfOk result (λ u. All (λ f. AreUnread f.items) files.old.items → All (λ f. AreUnread f.items) files.new.items) }
-    ensures sections { IfOk result (λ u. GainsTable table.now files.old.items files.new.items) }
-    ensures fault { IfErr result IsOpenFault }
+    ensures sections { IfOk result (λ u. GainsTable ⟦<R::File as Seek>⟧.stream_position table.now files.old.items files.new.items) }
 {
-    let sections = open_table(rt, data, table, workers)?;
+    let sections = divide(rt, data, table, workers, file)?;
     let Ok(()) = files.push(sections) else {
-        return Err(ProgramFault::Memory);
+        return Err(AllocError);
     };
     Ok(())
 }
 
 /// The files of the tables, in the catalog's order, each in sections of which nothing was read. The fact
-/// table's has four for each worker, where handles of its own can be had for each, so that each may be
-/// read by a thread of its own; each other file is one section.
+/// table's has four for each worker, so that each may be read by a thread of its own, and fewer where so
+/// many handles can't be had; each other file is one section. A handle for each table is had before the
+/// further ones.
 ///
 /// # Errors
 ///
@@ -210,14 +231,15 @@ pub fn open_all<R: Files + AllocGlobal>(
 ) -> Result<Vec<Vec<Section<R::File>>>, ProgramFault>
     ensures files { IfOk result (λ files. vec_len files ≡ length catalog.now) }
     ensures unread { IfOk result (λ files. All (λ f. AreUnread f.items) files.items) }
-    ensures sections { IfOk result (λ files. AreOpened catalog.now files.items) }
+    ensures sections { IfOk result (λ files. AreOpened ⟦<R::File as Seek>⟧.stream_position catalog.now files.items) }
     ensures fault { IfErr result IsOpenFault }
 {
+    let handles = open_each(rt, data, catalog)?;
     let mut files = Vec::new(rt.alloc());
-    for table in catalog.tables() {
-        if let Err(fault) = add_file(rt, data, table, workers, &mut files) {
+    for (table, file) in catalog.tables().iter().zip(handles) {
+        if let Err(AllocError) = add_file(rt, data, table, workers, file, &mut files) {
             drop(files);
-            return Err(fault);
+            return Err(ProgramFault::Memory);
         }
     }
     Ok(files)

@@ -7,10 +7,12 @@
 //!   sections
 //! - `src/fault.rt`, `report.rt`, `specs/Faults.antt`: the faults of the program; the line and status of
 //!   each
+//! - `src/paths.rt`, `specs/Shown.antt`: a path as a line shows it
 #![tactic(auto)]
 
 pub mod fault;
 mod files;
+mod paths;
 mod report;
 
 pub use fault::ProgramFault;

@@ -1,10 +1,12 @@
 // What is told of a fault: one line, and the status that the program ends with.
 
-ghost use Rattle.std.specs.Prelude.{◌≡◌, IfOk, string_bytes};
+ghost use Rattle.std.specs.Prelude.{◌≡◌, ◌∷◌, [], IfOk, codes, string_bytes};
 ghost use Rattle.ssb_reply.specs.FaultLine.{line_of};
+ghost use Rattle.ssb_files.specs.Shown.{shown_path};
 ghost use Rattle.ssb_files.specs.Faults.{program_words, name_told, load_status, sql_status, bind_status, answer_status, status, program_status};
 
 use crate::fault::ProgramFault;
+use crate::paths::shown_path;
 use ssb_judge::BindFault;
 use ssb_records::LoadFault;
 use ssb_reply::{MEMORY_LINE, RunFault, load_line, run_line, words_line};
@@ -101,7 +103,17 @@ fn name_in<'a>(names: &'a [String], fault: &RunFault) -> &'a str
     }
 }
 
-/// The line of the program's fault.
+// The line of a file that can't be opened.
+fn open_line(alloc: Global, path: &str) -> Result<String, AllocError>
+    ensures { IfOk result (λ line. string_bytes line ≡ line_of (codes "F1 CannotOpen" ∷ shown_path path.now ∷ [])) }
+{
+    let path = shown_path(alloc, path)?;
+    let line = words_line(alloc, &["F1 CannotOpen", path.as_str()]);
+    drop(path);
+    line
+}
+
+/// The line of the program's fault. Control characters of a path are shown escaped, so that it is one.
 ///
 /// # Errors
 ///
@@ -111,7 +123,7 @@ pub fn program_line(alloc: Global, fault: &ProgramFault) -> Result<String, Alloc
 {
     match fault {
         ProgramFault::BadWords => words_line(alloc, &["U1 BadWords"]),
-        ProgramFault::CannotOpen(path) => words_line(alloc, &["F1 CannotOpen", path.as_str()]),
+        ProgramFault::CannotOpen(path) => open_line(alloc, path.as_str()),
         ProgramFault::Catalog(fault) => load_line(alloc, "catalog", *fault),
         ProgramFault::Run { names, fault } => {
             run_line(alloc, name_in(names.as_slice(), fault), fault)

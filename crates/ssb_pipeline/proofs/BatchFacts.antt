@@ -43,13 +43,6 @@ batch-apart (t ∷ ts) e = by (list_all (is_alike t) ts) (has_twice (morsels_of 
     by true false h = refl
     by false b h = absurd (some-none _ h)
 
-pub batch-alike : (t : TicketState) (ts : List TicketState) → batch_fault (t ∷ ts) ≡ None → list_all (is_alike t) ts ≡ true
-batch-alike t ts e = by (list_all (is_alike t) ts) (has_twice (morsels_of (t ∷ ts))) e
-  where
-    by : (a b : Bool) → (if not a then Some fault.MixedTickets else (if b then Some fault.MorselTwice else None)) ≡ None → a ≡ true
-    by true b h = refl
-    by false b h = absurd (some-none _ h)
-
 lacks-all : (i : ℕ) (is : List ℕ) → has is i ≡ false → AllByRecursion (λ y. nat_eq i y ≡ false) is
 lacks-all i [] h = tt
 lacks-all i (x ∷ is) h = (neither-left (nat_eq i x) (has is i) h, lacks-all i is (neither-right (nat_eq i x) (has is i) h))

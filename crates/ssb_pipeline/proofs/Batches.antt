@@ -7,7 +7,7 @@ use Rattle.std.proofs.lemmas.Bool.{eqb-true, false_from_ne_true}
 use Rattle.std.proofs.lemmas.List.{append-nil, map-append}
 use Rattle.std.proofs.lemmas.List.Elements.{All-cons, All-head, All-nil, All-push, All-tail, All-weaker, filter-append}
 use Rattle.std.proofs.lemmas.List.Sorted.{list_any-IsPermutation}
-use Rattle.ssb_pipeline.specs.Batch.{BringsBatch, GetsTickets, HandsBatch, IsBatchOf, IsBatchWith, IsDueTo, Settles, without_all}
+use Rattle.ssb_pipeline.specs.Batch.{BringsBatch, GetsTickets, HandsBatch, IsBatchWith, IsDueTo, Settles, without_all}
 use Rattle.ssb_pipeline.specs.Part as event
 use Rattle.ssb_pipeline.specs.Part.{AreOut, Follows, GivesBack, GivesUp, HandsNext, HandsNone, IsLawfulPart, IsOut, IsOutIn, IsReached, IsTaken, IsTicketOf, IsUnrefused, PartState, Ran, Returns, Runs, handed_between, has, is_awaited, is_handed_out, is_open}
 use Rattle.ssb_pipeline.specs.Rule.{BringsOwn, Knows, putter, taker}
@@ -319,11 +319,6 @@ backs-settle (i ∷ is) p q r =
 -- a batch was taken
 pub taken-settles : (x : PartialState) (ts : List TicketState) (p q : PartState) → x.tickets ≡ ts → IsTaken x p q → Settles (morsels_of ts) p q
 taken-settles x ts p q is taken = backs-settle (morsels_of ts) p q (subst (λ us. Runs (map event.back (morsels_of us)) p q) is taken.returns)
-
--- two names of one batch
-pub same-batch : (made : Result PartialState (Vec TicketState Global)) (ts us : List TicketState) → IsBatchOf ts made → IsBatchOf us made → ts ≡ us
-same-batch (Ok x) ts us a b = sym a ∙ b
-same-batch (Err x) ts us a b = sym a ∙ b
 
 -- ---- nothing that is out is refused
 

@@ -22,6 +22,7 @@
 //! - `specs/Giving.antt`, `CutShort.antt`, `Settled.antt`: what a read of a source did and what the
 //!   source gave; where a read failed, and which records came before; that a reader's bytes are given in
 //!   their order, and all of them once its end was met
+//! - `specs/Readers.antt`: a reader of std, read as a source
 //!
 //! A file's bytes go this way: a `Source` gives them, `Pieces` cuts them behind line feeds, `csv` reads
 //! the records of a piece, and an `Intake` takes these one by one. The loops are thin and generic in the

@@ -1,10 +1,10 @@
 -- Where a file is cut, and the ranges that come of it.
-use Rattle.std.proofs.Common.{◌≡◌, ◌∙◌, ◌≤◌, ◌<◌, ◌+◌, ◌-◌, ◌*◌, ◌/◌, ◌++◌, [], ◌∷◌, ℕ, suc, List, length, length-append, map, take, drop, get_or, refl, sym, ap, subst, arith}
+use Rattle.std.proofs.Common.{◌≡◌, ◌∙◌, ◌≤◌, ◌<◌, ◌+◌, ◌-◌, ◌*◌, ◌/◌, ◌++◌, [], ◌∷◌, ℕ, suc, List, Option, Some, length, length-append, map, take, drop, get_or, refl, sym, ap, subst, arith}
 use Rattle.std.proofs.Math.Seq.{take-length}
 use Rattle.std.proofs.Math.Nat.{suc-mul, mul-le-mul_right, mul-div-le}
 use Rattle.std.proofs.lemmas.List.{take_more, map-append}
 use Rattle.std.proofs.lemmas.Nat.{le-div}
-use Rattle.ssb_sections.specs.Sections.{AreSizes, AreSpans, Reach, endless}
+use Rattle.ssb_sections.specs.Sections.{AreSpans, IsDivided, Reach, StandAt, TellPlaces, endless}
 use Rattle.ssb_sections.specs.declared.spans.Span.{Span}
 
 -- a range has a byte at least, where there is one for each
@@ -46,12 +46,23 @@ none-later (s ∷ t ∷ ts) sizes one same = absurd (omega (arith, one))
 pub some-range : (len : ℕ) (spans : List Span) → AreSpans len spans → 0 < length spans
 some-range len spans are = let count = ap length are.all ∙ length-append are.before (are.last ∷ []) in omega (arith, count)
 
-pub one-size : AreSizes (endless ∷ [])
-one-size =
+pub one-size : {F : Type 0} (place : F → Option ℕ) → IsDivided place (endless ∷ []) []
+one-size place =
     let span : Span = record { start = 0; size = endless } in
     record {
       len = 0;
       spans = span ∷ [];
       ranges = record { before = []; last = span; all = refl; reach = refl; in_file = λ some. some; no_end = refl };
       same = refl;
+      stand = λ tells. refl;
     }
+
+-- one handle more stands at its range
+pub stand-more : {F : Type 0} (place : F → Option ℕ) (spans : List Span) (k : ℕ) (d : Span) (files : List F) (file : F) → k < length spans → (TellPlaces place → place file ≡ Some (get_or spans k d).start)
+    → StandAt place (take k spans) files → StandAt place (take (k + 1) spans) (files ++ file ∷ [])
+stand-more place spans k d files file below at stand = λ tells.
+    rw (take_more spans k d below, map-append (λ s. Some s.start) (take k spans) (get_or spans k d ∷ []), map-append place files (file ∷ []), at tells, stand tells) refl
+
+pub later-ranges : (spans : List Span) → 0 < length spans → take (length spans - 1) (drop 1 spans) ≡ drop 1 spans
+later-ranges [] some = refl
+later-ranges (s ∷ ss) some = ap (λ n. take n ss) (omega arith) ∙ take-length ss

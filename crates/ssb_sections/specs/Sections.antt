@@ -1,8 +1,8 @@
 -- Which ranges of bytes the sections of a file have.
 -- Source: own.
-use Rattle.std.specs.Prelude.{◌≡◌, ◌+◌, ◌<◌, ◌≤◌, ◌++◌, ◌⊎◌, [], ◌∷◌, ℕ, List, map}
+use Rattle.std.specs.Prelude.{◌≡◌, ◌+◌, ◌<◌, ◌≤◌, ◌++◌, ◌⊎◌, [], ◌∷◌, ℕ, List, map, drop, Option, Some, IsSome}
 use Rattle.std.specs.List.{All}
-use Rattle.std.specs.Io.Take.{take_limit}
+use Rattle.std.specs.Io.Take.{take_inner, take_limit}
 use Rattle.std.specs.declared.io.traits.Read.{Ghosts as Read}
 use Rattle.std.specs.declared.io.traits.Take.{Take}
 use Rattle.ssb_records.specs.declared.reader.In.{In}
@@ -34,16 +34,34 @@ pub record AreSpans (len : ℕ) (spans : List Span) : Type 0 where
 abbrev pub StaysWhole : ℕ → ℕ → Type 0
 StaysWhole len count = (len ≤ largest_whole) ⊎ (count ≤ 1)
 
--- sections have the sizes of the ranges of a file
-pub record AreSizes (sizes : List ℕ) : Type 0 where
+-- how many bytes each of these sections may give
+abbrev pub sizes_of : {F : Type 0} {read : Read (Take F)} → List (In (Take F) read) → List ℕ
+sizes_of sections = map (λ s. take_limit s.begun.value) sections
+
+-- the handles of these sections, as they were before any read
+abbrev pub handles_of : {F : Type 0} {read : Read (Take F)} → List (In (Take F) read) → List F
+handles_of sections = map (λ s. take_inner s.begun.value) sections
+
+-- every handle tells at which byte it stands
+abbrev pub TellPlaces : {F : Type 0} → (F → Option ℕ) → Type 0
+TellPlaces place = (file : _) → IsSome (place file)
+
+-- each handle stands at the first byte of its range, where handles tell their places; that a system's file was moved there is the system's word
+abbrev pub StandAt : {F : Type 0} → (F → Option ℕ) → List Span → List F → Type 0
+StandAt place spans files = TellPlaces place → map place files ≡ map (λ s. Some s.start) spans
+
+-- A file is divided into the ranges of some length, by how many bytes each section may give, and by the handles of all sections but the first, whose handle
+-- was there before.
+pub record IsDivided {F : Type 0} (place : F → Option ℕ) (sizes : List ℕ) (later : List F) : Type 0 where
   pub len : ℕ
   pub spans : List Span
   pub ranges : AreSpans len spans
   pub same : sizes ≡ map (λ s. s.size) spans
+  pub stand : StandAt place (drop 1 spans) later
 
--- how many bytes each of these sections may give
-abbrev pub sizes_of : {F : Type 0} {read : Read (Take F)} → List (In (Take F) read) → List ℕ
-sizes_of sections = map (λ s. take_limit s.begun.value) sections
+-- these sections are those of a file
+abbrev pub AreSections : {F : Type 0} {read : Read (Take F)} → (F → Option ℕ) → List (In (Take F) read) → Type 0
+AreSections place sections = IsDivided place (sizes_of sections) (drop 1 (handles_of sections))
 
 -- nothing was read of any of these sections
 abbrev pub AreUnread : {F : Type 0} {read : Read (Take F)} → List (In (Take F) read) → Type 0

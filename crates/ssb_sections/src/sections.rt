@@ -1,9 +1,9 @@
 // The sections of a file: ranges of its bytes, each read through a handle of its own.
 
-ghost use Rattle.std.specs.Prelude.{◌≡◌, ◌≤◌, [], ◌∷◌, Some, IfOk, IfSome, IsTrue, map, vec_len};
+ghost use Rattle.std.specs.Prelude.{◌≡◌, ◌≤◌, [], ◌∷◌, Some, IfOk, IfSome, IsTrue, map, slice_get, vec_len};
 ghost use Rattle.std.specs.Fs.{metadata_len};
 ghost use Rattle.std.specs.Io.Take.{take_inner, take_limit};
-ghost use Rattle.ssb_sections.specs.Sections.{AreSizes, AreUnread, sizes_of};
+ghost use Rattle.ssb_sections.specs.Sections.{AreSections, AreUnread, IsDivided, StandAt, TellPlaces, handles_of, sizes_of};
 
 use crate::spans::{ENDLESS, Span, spans_of};
 use ssb_records::In;
@@ -33,7 +33,7 @@ fn section_here<F: Read>(file: F, size: u64) -> Section<F>
 fn section_at<F: Read + Seek + Drop>(file: F, span: Span) -> Option<Section<F>>
     ensures unread { IfSome result (λ section. section.given.items ≡ []) }
     ensures size { IfSome result (λ section. take_limit section.begun.value ≡ span.size) }
-    ensures place { IfSome (F.stream_position file) (λ _. IfSome result (λ section. F.stream_position (take_inner section.begun.value) ≡ Some span.start)) }
+    ensures place { TellPlaces F.stream_position → IfSome result (λ section. F.stream_position (take_inner section.begun.value) ≡ Some span.start) }
 {
     let mut file = file;
     match file.seek(SeekFrom::Start(span.start)) {
@@ -58,6 +58,7 @@ fn section_anew<R: Files>(
 ) -> Option<Section<R::File>>
     ensures unread { IfSome result (λ section. section.given.items ≡ []) }
     ensures size { IfSome result (λ section. take_limit section.begun.value ≡ span.size) }
+    ensures place { TellPlaces ⟦<R::File as Seek>⟧.stream_position → IfSome result (λ section. ⟦<R::File as Seek>⟧.stream_position (take_inner section.begun.value) ≡ Some span.start) }
 {
     let Ok(file) = fs::open(rt, path) else {
         return None;
@@ -77,6 +78,7 @@ fn sections_anew<R: Files + AllocGlobal>(
 ) -> Result<Option<Vec<Section<R::File>>>, AllocError>
     ensures unread { IfOk result (λ made. IfSome made (λ sections. AreUnread sections.items)) }
     ensures sizes { IfOk result (λ made. IfSome made (λ sections. sizes_of sections.items ≡ map (λ s. s.size) spans.now)) }
+    ensures stand { IfOk result (λ made. IfSome made (λ sections. StandAt ⟦<R::File as Seek>⟧.stream_position spans.now (handles_of sections.items))) }
 {
     let mut sections = Vec::new(rt.alloc());
     for span in spans {
@@ -89,14 +91,33 @@ fn sections_anew<R: Files + AllocGlobal>(
 }
 
 // All bytes in the first section.
-fn undivided<F: Read>(alloc: Global) -> Division<F>
+fn undivided<F: Read + Seek>(alloc: Global) -> Division<F>
     ensures alone { result.1.items ≡ [] }
-    ensures sizes { AreSizes (result.0 ∷ sizes_of result.1.items) }
+    ensures divided { IsDivided F.stream_position (result.0 ∷ sizes_of result.1.items) (handles_of result.1.items) }
 {
     (ENDLESS, Vec::new(alloc))
 }
 
-// The division of a regular file.
+// The division of a regular file into so many sections; none where a handle for one of them can't be had.
+fn divided_into<R: Files + AllocGlobal>(
+    rt: &R,
+    path: &str,
+    known: &Metadata,
+    count: u64,
+) -> Result<Option<Division<R::File>>, AllocError>
+    ensures unread { IfOk result (λ made. IfSome made (λ d. AreUnread d.1.items)) }
+    ensures divided { IfOk result (λ made. IfSome made (λ d. IsDivided ⟦<R::File as Seek>⟧.stream_position (d.0 ∷ sizes_of d.1.items) (handles_of d.1.items))) }
+{
+    let spans = spans_of(rt.alloc(), known.len(), count)?;
+    let first = spans[0].size;
+    match sections_anew(rt, path, known, &spans[1..])? {
+        Some(later) => Ok(Some((first, later))),
+        None => Ok(None),
+    }
+}
+
+// The division of a regular file into as many sections as asked for, or, where so many handles can't be
+// had, into half as many, and so on.
 fn divide<R: Files + AllocGlobal>(
     rt: &R,
     path: &str,
@@ -104,15 +125,17 @@ fn divide<R: Files + AllocGlobal>(
     count: u64,
 ) -> Result<Division<R::File>, AllocError>
     ensures unread { IfOk result (λ d. AreUnread d.1.items) }
-    ensures sizes { IfOk result (λ d. AreSizes (d.0 ∷ sizes_of d.1.items)) }
+    ensures divided { IfOk result (λ d. IsDivided ⟦<R::File as Seek>⟧.stream_position (d.0 ∷ sizes_of d.1.items) (handles_of d.1.items)) }
     ensures alone { count ≤ 1 → IfOk result (λ d. vec_len d.1 ≡ 0) }
 {
-    let spans = spans_of(rt.alloc(), known.len(), count)?;
-    let first = spans[0].size;
-    match sections_anew(rt, path, known, &spans[1..])? {
-        Some(later) => Ok((first, later)),
-        None => Ok(undivided(rt.alloc())),
+    let mut sections = count;
+    while sections > 1 {
+        if let Some(division) = divided_into(rt, path, known, sections)? {
+            return Ok(division);
+        }
+        sections /= 2;
     }
+    Ok(undivided(rt.alloc()))
 }
 
 // The division of any file. One that is no regular file can't be divided.
@@ -123,7 +146,7 @@ fn division_of<R: Files + AllocGlobal>(
     count: u64,
 ) -> Result<Division<R::File>, AllocError>
     ensures unread { IfOk result (λ d. AreUnread d.1.items) }
-    ensures sizes { IfOk result (λ d. AreSizes (d.0 ∷ sizes_of d.1.items)) }
+    ensures divided { IfOk result (λ d. IsDivided ⟦<R::File as Seek>⟧.stream_position (d.0 ∷ sizes_of d.1.items) (handles_of d.1.items)) }
     ensures alone { count ≤ 1 → IfOk result (λ d. vec_len d.1 ≡ 0) }
 {
     match file.metadata() {
@@ -136,8 +159,12 @@ fn division_of<R: Files + AllocGlobal>(
 /// asked for, where it is a regular file of more than 16 MB, and one otherwise. The last goes to the
 /// file's end, wherever that is when it is read.
 ///
-/// The first is read through the handle given. The others have new ones; where one of these can't be
-/// had, or is of another file, since the path names another one now, the handle given has all bytes.
+/// The first is read through the handle given. The others have new ones. Where so many can't be had,
+/// there are half as many sections, and so on; where the path names another file now, the handle given
+/// has all bytes.
+///
+/// Where handles tell at which byte they stand, each of the others stands at the first byte of its
+/// section. A system's file tells none: that it was moved there is the system's word.
 ///
 /// # Errors
 ///
@@ -149,7 +176,8 @@ pub fn sections_of<R: Files + AllocGlobal>(
     count: u64,
 ) -> Result<Vec<Section<R::File>>, AllocError>
     ensures unread { IfOk result (λ sections. AreUnread sections.items) }
-    ensures sizes { IfOk result (λ sections. AreSizes (sizes_of sections.items)) }
+    ensures sections { IfOk result (λ sections. AreSections ⟦<R::File as Seek>⟧.stream_position sections.items) }
+    ensures first { IfOk result (λ sections. slice_get (handles_of sections.items) 0 ≡ Some file) }
     ensures alone { count ≤ 1 → IfOk result (λ sections. vec_len sections ≡ 1) }
 {
     let (first, later) = division_of(rt, path, &file, count)?;

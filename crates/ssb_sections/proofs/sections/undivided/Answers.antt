@@ -1,5 +1,5 @@
 use Rattle.ssb_sections.proofs.SpanFacts.{one-size}
 use Rattle.ssb_sections.proofs.sections.undivided.Goals as goal
 
-pub returns-clause-sizes : goal.returns-clause-sizes
-returns-clause-sizes g c = rw c.new.ensures.items one-size
+pub returns-clause-divided : goal.returns-clause-divided
+returns-clause-divided g c = rw c.new.ensures.items (one-size _)

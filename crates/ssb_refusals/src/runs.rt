@@ -1,0 +1,116 @@
+// The whole path, from the bytes of the small tables to the rows of the answer.
+
+use crate::ends::{Done, Stop};
+use crate::files::{CATALOG, DATES, FACTS, REVENUE, SUPPLIERS, readers, sources};
+use ssb_answer::run_from;
+use ssb_catalog::Catalog;
+use ssb_embed::{run, run_alone, run_alone_from};
+use ssb_lanes::Joined;
+use ssb_pipeline::NoGate;
+use ssb_records::In;
+use ssb_reply::Settings;
+use ssb_rows::Out;
+use std::alloc::{AllocError, Global};
+use std::io::Write;
+use std::sync::Wait;
+use std::thread::Threads;
+
+// How many rows a morsel has: the seven rows are four morsels.
+const MORSEL_SIZE: u32 = 2;
+
+// How many bytes are read at once where pieces are small: less than a line has.
+const SMALL_PIECE: usize = 8;
+
+// Where the fact table's bytes are cut in two, in the middle of a line.
+const CUT: usize = 100;
+
+/// A run in the caller's thread.
+pub(crate) fn run_by_caller<W: Write + Drop>(alloc: Global, writer: W) -> Result<Done, Stop> {
+    let catalog = Catalog::read(alloc, CATALOG)?;
+    let readers = readers(alloc)?;
+    if readers.len() != catalog.tables().len() {
+        return Err(Stop::Wrong);
+    }
+    let mut out = Out::new(writer);
+    run_alone(alloc, catalog, readers, REVENUE, MORSEL_SIZE, &mut out)?;
+    Ok(Done::Written)
+}
+
+/// A run in the caller's thread, which reads the catalog and the tables in small pieces.
+pub(crate) fn run_in_pieces<W: Write + Drop>(alloc: Global, writer: W) -> Result<Done, Stop> {
+    let catalog = Catalog::read_in_pieces(alloc, &mut In::new(CATALOG), SMALL_PIECE)?;
+    let mut sources = sources(alloc)?;
+    if sources.len() != catalog.tables().len() {
+        return Err(Stop::Wrong);
+    }
+    let mut out = Out::new(writer);
+    run_alone_from(
+        alloc,
+        catalog,
+        &mut sources,
+        REVENUE,
+        MORSEL_SIZE,
+        SMALL_PIECE,
+        &mut out,
+    )?;
+    Ok(Done::Written)
+}
+
+// Two workers, who take up to two morsels at a time from two parts.
+fn settings() -> Result<Settings, Stop> {
+    let settings = Settings::new(2, MORSEL_SIZE, 2).ok_or(Stop::Wrong)?;
+    settings.with_batch(2).ok_or(Stop::Wrong)
+}
+
+/// A run by workers in threads.
+pub(crate) fn run_by_workers<R: Threads + Wait + Sync, W: Write + Drop>(
+    rt: &R,
+    alloc: Global,
+    writer: W,
+) -> Result<Done, Stop> {
+    let settings = settings()?;
+    let catalog = Catalog::read(alloc, CATALOG)?;
+    let readers = readers(alloc)?;
+    if readers.len() != catalog.tables().len() {
+        return Err(Stop::Wrong);
+    }
+    let mut out = Out::new(writer);
+    run(
+        rt, alloc, catalog, readers, REVENUE, settings, &NoGate, &mut out,
+    )?;
+    Ok(Done::Written)
+}
+
+// The tables as sources that are joined, the fact table's of its two sections.
+fn joined(alloc: Global) -> Result<Vec<Joined<In<&'static [u8]>>>, AllocError> {
+    let facts = vec![in alloc; In::new(&FACTS[..CUT]), In::new(&FACTS[CUT..])]?;
+    let dates = vec![in alloc; In::new(DATES)]?;
+    let suppliers = vec![in alloc; In::new(SUPPLIERS)]?;
+    Joined::of_each(alloc, vec![in alloc; facts, dates, suppliers]?)
+}
+
+/// The same, with the fact table's bytes in two sections, each of which a thread reads.
+pub(crate) fn run_over_sections<R: Threads + Wait + Sync, W: Write + Drop>(
+    rt: &R,
+    alloc: Global,
+    writer: W,
+) -> Result<Done, Stop> {
+    let settings = settings()?;
+    let catalog = Catalog::read(alloc, CATALOG)?;
+    let mut sources = joined(alloc)?;
+    if sources.len() != catalog.tables().len() {
+        return Err(Stop::Wrong);
+    }
+    let mut out = Out::new(writer);
+    run_from(
+        rt,
+        alloc,
+        catalog,
+        &mut sources,
+        REVENUE,
+        settings,
+        &NoGate,
+        &mut out,
+    )?;
+    Ok(Done::Written)
+}

@@ -4,7 +4,7 @@
 //! # Files
 //!
 //! - `src/program.rt`: the order of work: words, files, a run or a check, one line and a status
-//! - `src/main.rt`: the program, over the system's handle
+//! - `src/main.rt`: the program, over the system's handle, on a stack of its own
 //!
 //! Beside it stands a run that the gate makes of the built program: its words in `args`, its files in
 //! `data/` and what it must print in `stdout`. A crate that is a program is linked whole at each check,
@@ -15,7 +15,25 @@ mod program;
 
 use program::status_of_program;
 use std::process::ExitCode;
+use std::thread;
+use std::thread::Builder;
 
+// The stack of the thread that does the work, in bytes. A text nests 64 deep, and reading it takes some 9,000
+// bytes for each step down, binding it some 4,000.
+const STACK_SIZE: usize = 2_097_152;
+
+// The work is done in a thread whose stack has room for the deepest text, however small the limit that the
+// program was started under; in the first thread where no other can be made.
 fn main(rt: HostRuntime) -> ExitCode {
-    ExitCode::from(status_of_program(&rt))
+    let acted = thread::scope(thread::scope_env(), &rt, |scope| {
+        let thread = Builder::new().stack_size(STACK_SIZE);
+        match thread.spawn_scoped(scope, || status_of_program(&rt)) {
+            Ok(acting) => Some(acting.join(&rt)),
+            Err(_) => None,
+        }
+    });
+    match acted {
+        Some(status) => ExitCode::from(status),
+        None => ExitCode::from(status_of_program(&rt)),
+    }
 }

@@ -21,12 +21,8 @@ use std::fs::File;
 use std::io::{BufWriter, Write};
 use std::rt::{Env, Files};
 use std::sync::Wait;
-use std::thread::{Builder, Threads};
-use std::{env, io, thread};
-
-// The stack of the thread that does the work, in bytes. A text nests 64 deep, and reading it takes some 9,000
-// bytes for each step down, binding it some 4,000.
-const STACK_SIZE: usize = 2_097_152;
+use std::thread::Threads;
+use std::{env, io};
 
 // What the words ask of a run.
 #[derive(Clone, Copy)]
@@ -343,24 +339,6 @@ fn act<R: Files<File = File> + Print + Env + AllocGlobal + Threads + Wait + Sync
     acted
 }
 
-// Does what the words ask in a thread whose stack has room for the deepest text, however small the limit
-// that the program was started under; in this thread where no other can be made.
-fn act_on_own_stack<R: Files<File = File> + Print + Env + AllocGlobal + Threads + Wait + Sync>(
-    rt: &R,
-) -> Result<(), ProgramFault> {
-    let acted = thread::scope(thread::scope_env(), rt, |scope| {
-        let thread = Builder::new().stack_size(STACK_SIZE);
-        match thread.spawn_scoped(scope, || act(rt)) {
-            Ok(acting) => Some(acting.join(rt)),
-            Err(_) => None,
-        }
-    });
-    match acted {
-        Some(acted) => acted,
-        None => act(rt),
-    }
-}
-
 // The line of a fault on the error output, and the status, which is that of memory where the line
 // could not be made. A line that can't be printed is lost.
 fn tell<R: Eprint + AllocGlobal>(rt: &R, fault: &ProgramFault) -> u8
@@ -384,7 +362,7 @@ pub(crate) fn status_of_program<
 >(rt: &R) -> u8
     ensures { IsStatus result }
 {
-    match act_on_own_stack(rt) {
+    match act(rt) {
         Ok(()) => 0,
         Err(fault) => {
             let status = tell(rt, &fault);

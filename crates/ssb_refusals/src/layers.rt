@@ -24,15 +24,24 @@ fn whole_part(alloc: Global, job: &Arc<Job, Global>) -> Result<Part, AllocError>
     Part::open(alloc, Arc::try_clone(job)?, MORSEL_SIZE, 0, 1)
 }
 
+// A part's next ticket.
+fn next_ticket(part: &mut Part) -> Result<Ticket, Stop>
+    ensures job { AreOneJob part.new.job part.old.job }
+    ensures ticket { IfOk result (λ t. AreOneJob t.job part.old.job) }
+{
+    match part.hand_out() {
+        Some(ticket) => Ok(ticket),
+        None => Err(Stop::Wrong),
+    }
+}
+
 // The partial of a part's next ticket.
 fn next_partial(alloc: Global, job: &Job, part: &mut Part) -> Result<Partial, Stop>
     requires { AreOneJob part.old.job job.now }
     ensures job { AreOneJob part.new.job job.now }
     ensures partial { IfOk result (λ p. All (λ t. AreOneJob t.job job.now) p.tickets) }
 {
-    let Some(ticket) = part.hand_out() else {
-        return Err(Stop::Wrong);
-    };
+    let ticket = next_ticket(part)?;
     match Partial::of(alloc, job, ticket) {
         Ok(partial) => Ok(partial),
         Err(_) => Err(Stop::Memory),
@@ -173,9 +182,7 @@ fn partial_of(alloc: Global, job: &Job, ticket: Ticket) -> Result<(Partial, Done
 fn bring_first_back(alloc: Global, job: &Job, part: &mut Part) -> Result<Done, Stop>
     requires { AreOneJob part.old.job job.now }
 {
-    let Some(ticket) = part.hand_out() else {
-        return Err(Stop::Wrong);
-    };
+    let ticket = next_ticket(part)?;
     let (partial, done) = partial_of(alloc, job, ticket)?;
     match part.give_back(partial) {
         Ok(()) => Ok(done),

@@ -11,7 +11,7 @@ use ssb_records::In;
 use ssb_reply::Settings;
 use ssb_rows::Out;
 use std::alloc::{AllocError, Global};
-use std::io::Write;
+use std::io::{Read, Write};
 use std::sync::Wait;
 use std::thread::Threads;
 
@@ -89,15 +89,16 @@ fn joined(alloc: Global) -> Result<Vec<Joined<In<&'static [u8]>>>, AllocError> {
     Joined::of_each(alloc, vec![in alloc; facts, dates, suppliers]?)
 }
 
-/// The same, with the fact table's bytes in two sections, each of which a thread reads.
-pub(crate) fn run_over_sections<R: Threads + Wait + Sync, W: Write + Drop>(
+// A run by workers over such sources.
+fn run_joined<R: Threads + Wait + Sync, F: Read + Drop + Send, W: Write + Drop>(
     rt: &R,
     alloc: Global,
+    sources: Vec<Joined<In<F>>>,
     writer: W,
 ) -> Result<Done, Stop> {
+    let mut sources = sources;
     let settings = settings()?;
     let catalog = Catalog::read(alloc, CATALOG)?;
-    let mut sources = joined(alloc)?;
     if sources.len() != catalog.tables().len() {
         return Err(Stop::Wrong);
     }
@@ -113,4 +114,14 @@ pub(crate) fn run_over_sections<R: Threads + Wait + Sync, W: Write + Drop>(
         &mut out,
     )?;
     Ok(Done::Written)
+}
+
+/// The same, with the fact table's bytes in two sections, each of which a thread reads.
+pub(crate) fn run_over_sections<R: Threads + Wait + Sync, W: Write + Drop>(
+    rt: &R,
+    alloc: Global,
+    writer: W,
+) -> Result<Done, Stop> {
+    let sources = joined(alloc)?;
+    run_joined(rt, alloc, sources, writer)
 }

@@ -37,12 +37,6 @@ first-and-others (s ∷ ss) d first sizes some is same =
     let others : take (suc (length ss) - 1) ss ≡ ss = ap (λ n. take n ss) (omega arith) ∙ take-length ss in
     ap (λ t. t.size ∷ sizes) is ∙ ap (λ ns. s.size ∷ ns) (same ∙ ap (map (λ t. t.size)) others)
 
--- no others of one range
-pub none-later : (spans : List Span) (sizes : List ℕ) → length spans ≡ 1 → sizes ≡ map (λ s. s.size) (take (length spans - 1) (drop 1 spans)) → length sizes ≡ 0
-none-later [] sizes one same = absurd (omega (arith, one))
-none-later (s ∷ []) sizes one same = let n : length (s ∷ []) - 1 ≡ 0 = omega arith in ap length same ∙ ap (λ n. length (map (λ (t : Span). t.size) (take n []))) n
-none-later (s ∷ t ∷ ts) sizes one same = absurd (omega (arith, one))
-
 pub some-range : (len : ℕ) (spans : List Span) → AreSpans len spans → 0 < length spans
 some-range len spans are = let count = ap length are.all ∙ length-append are.before (are.last ∷ []) in omega (arith, count)
 

@@ -1,9 +1,7 @@
-use Rattle.std.proofs.Common.{List, arith, inr, subst}
-use Rattle.std.proofs.lemmas.List.{length-map}
-use Rattle.std.specs.Io.Take.{take_limit}
+use Rattle.std.proofs.Common.{List, arith, subst}
 use Rattle.ssb_sections.specs.Sections.{StandAt, handles_of}
 use Rattle.ssb_sections.specs.declared.spans.Span.{Span}
-use Rattle.ssb_sections.proofs.SpanFacts.{first-and-others, later-ranges, none-later, some-range}
+use Rattle.ssb_sections.proofs.SpanFacts.{first-and-others, later-ranges, some-range}
 use Rattle.ssb_sections.proofs.sections.divided_into.Goals as goal
 
 pub returns-in-Some-clause-divided : goal.returns-in-Some-clause-divided

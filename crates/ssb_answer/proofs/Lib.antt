@@ -1,4 +1,7 @@
 pub mod Asking
+mod Fresh
+mod InMemory
 mod Keyed
 pub mod Running
+mod WorkedOff
 pub mod WrittenBack

@@ -1,20 +1,26 @@
 //! Answers: the whole path of a query, from the bytes of files to the bytes of the answer.
 //!
-//! [`run_from`] loads the tables, reads and binds the query, runs it over threads and writes its rows;
-//! `specs/Reply.antt` of `ssb_reply` says what it owes.
-//!
-//! # Files
-//!
-//! - `src/whole.rt`, `proofs/Asking.antt`, `Running.antt`: `run_from`: the whole path, by workers, and
-//!   its theorem; `write_answered`, by which every run ends: rows are written, a fault is passed on;
-//!   what a text asks of loaded tables; what a run promises, by where it ends
-//! - `src/grouping.rt`, `proofs/WrittenBack.antt`: the groups over all that a job keeps: by workers, a
-//!   part for each section; the first of the passes that the workers wrote back
-//! - `specs/Asking.antt`, `Writing.antt`: the answer of a text over loaded tables; what is written of it
+//! - Offers: [`run`] and [`run_alone`] over readers, [`run_from`] and [`run_alone_from`] over sources,
+//!   [`answer_bytes`] over files in memory; [`Settings`], [`RunFault`], [`Gate`]; [`rows`],
+//!   [`write_answer`], [`Answer`], [`Sink`], [`Out`].
+//! - Callers: the program, by `run_from`; embedders.
+//! - Files: `whole`, `grouping`: by workers; `alone`: in the caller's thread; `readers`, `bytes`.
+//! - Definitions: `Asking`, `Writing`, `Readers`; the reply that a run owes is handed on from the crate
+//!   below.
 #![tactic(auto)]
 
+mod alone;
+mod bytes;
 mod grouping;
+mod readers;
 mod whole;
 
+pub use alone::{answer_job, run_alone_from};
+pub use bytes::answer_bytes;
+pub use readers::{run, run_alone};
+pub use ssb_lanes::Joined;
+pub use ssb_load::{In, Source};
 pub use ssb_pipeline::{Gate, NoGate};
+pub use ssb_reply::{RunFault, Settings, run_line};
+pub use ssb_rows::{Answer, AnswerFault, AnswerRow, Out, Sink, SinkFault, rows, write_answer};
 pub use whole::{answer_of_groups, answer_shared, job_of_text, query_of, run_from, write_answered};

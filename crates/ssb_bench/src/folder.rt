@@ -3,8 +3,7 @@
 ghost use Rattle.std.specs.Prelude.{◌≡◌, IfSome, length, vec_len};
 
 use ssb_catalog::{Catalog, TableDef};
-use ssb_lanes::Joined;
-use ssb_sections::{Section, sections_of};
+use ssb_lanes::{Joined, Section, sections_of};
 use std::alloc::Global;
 use std::fs;
 use std::rt::Files;

@@ -1,8 +1,7 @@
 // A query's own time: the answer of its job, whose tables are loaded and whose indexes are built once.
 
 use crate::job::{job_in, micros_since};
-use ssb_answer::{NoGate, answer_shared};
-use ssb_embed::answer_job;
+use ssb_answer::{NoGate, answer_job, answer_shared};
 use ssb_job::Job;
 use ssb_reply::Settings;
 use ssb_rows::{Answer, AnswerFault};

@@ -8,7 +8,7 @@ use Rattle.ssb_trees.proofs.Turns.{goes, turned}
 use Rattle.ssb_sql.specs.declared.select.Output.{Output}
 use Rattle.ssb_query.specs.declared.query.Origin.{Origin}
 use Rattle.ssb_bind.specs.Binding.{and_aggregate, and_last, operand_of, operands_of, BindsHaving}
-use Rattle.ssb_judge.specs.Bound.{having_aggregates, operand_aggregate}
+use Rattle.ssb_bind.specs.Bound.{having_aggregates, operand_aggregate}
 use Rattle.ssb_bind.specs.Query.{form}
 use Rattle.ssb_bind.specs.declared.bind_having.Outputs.{Outputs}
 

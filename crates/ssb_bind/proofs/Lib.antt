@@ -1,3 +1,6 @@
+pub mod Counting
+pub mod Finding
 pub mod Having
+pub mod Least
 pub mod Meaning
 pub mod Relation

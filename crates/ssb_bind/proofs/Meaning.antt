@@ -11,25 +11,25 @@ use Rattle.ssb_sql.specs.declared.select.Select.{Select}
 use Rattle.ssb_trees.specs.Conditions.{Filter}
 use Rattle.ssb_trees.specs.Lists.{concat}
 use Rattle.ssb_bind.specs.Binding.{BindsHaving, bound_from, groups_of, IsBound}
-use Rattle.ssb_judge.specs.Bound.{aggregates_of, bound_where, having_aggregates}
-use Rattle.ssb_judge.specs.Columns.{table_number, table_numbers, columns_for, bound_name, fit_of, the_one, is_wrong, is_wrong_fit}
+use Rattle.ssb_bind.specs.Bound.{aggregates_of, bound_where, having_aggregates}
+use Rattle.ssb_bind.specs.Columns.{table_number, table_numbers, columns_for, bound_name, fit_of, the_one, is_wrong, is_wrong_fit}
 use Rattle.ssb_bind.specs.Binding.{Keeps}
-use Rattle.ssb_judge.specs.Faults.{Judges, first_of, with, when, faults, least_fault, wrong_name, too_many, Says, unknown_table, not_grouped, is_ungrouped, bad_order, fault_of}
+use Rattle.ssb_bind.specs.Faults.{Judges, first_of, with, when, faults, least_fault, wrong_name, too_many, Says, unknown_table, not_grouped, is_ungrouped, bad_order, fault_of}
 use Rattle.ssb_bind.specs.Meaning.{Means, BindsTo}
-use Rattle.ssb_judge.specs.Names.{column_names, filter_names, own_columns}
+use Rattle.ssb_bind.specs.Names.{column_names, filter_names, own_columns}
 use Rattle.ssb_bind.specs.Query.{IsQueryOf}
 use Rattle.ssb_query.specs.Star.{IsStar, is_joined, unjoined_from}
-use Rattle.ssb_judge.specs.Rules.{rules_in}
+use Rattle.ssb_bind.specs.Rules.{rules_in}
 use Rattle.ssb_query.specs.Tables.{fact_place}
 use Rattle.ssb_query.specs.declared.column.BoundColumn.{BoundColumn}
-use Rattle.ssb_judge.specs.declared.fault.BindFault.{BindFault}
-use Rattle.ssb_judge.specs.declared.fault.BindFault.TheVariants as fault
-use Rattle.ssb_judge.specs.declared.fault.TooMany.{TooMany}
-use Rattle.ssb_judge.specs.declared.fault.TooMany.TheVariants as many
-use Rattle.ssb_judge.specs.declared.fit.Wrong.TheVariants as wrong
+use Rattle.ssb_bind.specs.declared.fault.BindFault.{BindFault}
+use Rattle.ssb_bind.specs.declared.fault.BindFault.TheVariants as fault
+use Rattle.ssb_bind.specs.declared.fault.TooMany.{TooMany}
+use Rattle.ssb_bind.specs.declared.fault.TooMany.TheVariants as many
+use Rattle.ssb_bind.specs.declared.fit.Wrong.TheVariants as wrong
 use Rattle.ssb_query.specs.declared.query.QueryParts.{QueryParts}
 use Rattle.ssb_query.specs.declared.query.Origin.{Origin}
-use Rattle.ssb_judge.proofs.Finding.{none_both}
+use Rattle.ssb_bind.proofs.Finding.{none_both}
 use Rattle.ssb_bind.proofs.Relation.{all_numbers, each_item, each_order, each_table, having_is}
 
 -- where none applies, none of the list does

@@ -17,11 +17,11 @@ use Rattle.ssb_trees.specs.Lists.{concat}
 use Rattle.ssb_trees.specs.declared.operand.Operand.{Operand}
 use Rattle.ssb_trees.specs.declared.operand.Operand.TheVariants as operand
 use Rattle.ssb_bind.specs.Binding.{bound_items, operands_of, BindsHaving, origin_of}
-use Rattle.ssb_judge.specs.Bound.{aggregate_of, aggregates_of, bound_aggregate, bound_where, group_place, having_aggregates, is_aggregate, operand_aggregate}
-use Rattle.ssb_judge.specs.Columns.{bound_name, fit_of, table_number, the_one}
-use Rattle.ssb_judge.specs.Faults.{is_ungrouped, unknown_table}
-use Rattle.ssb_judge.specs.Names.{filter_names, operand_names, own_columns}
-use Rattle.ssb_judge.specs.Orders.{bad_from, bound_order, fits_one, places_for}
+use Rattle.ssb_bind.specs.Bound.{aggregate_of, aggregates_of, bound_aggregate, bound_where, group_place, having_aggregates, is_aggregate, operand_aggregate}
+use Rattle.ssb_bind.specs.Columns.{bound_name, fit_of, table_number, the_one}
+use Rattle.ssb_bind.specs.Faults.{is_ungrouped, unknown_table}
+use Rattle.ssb_bind.specs.Names.{filter_names, operand_names, own_columns}
+use Rattle.ssb_bind.specs.Orders.{bad_from, bound_order, fits_one, places_for}
 use Rattle.ssb_bind.specs.Query.{aggregate_number, Each, having_numbers, MeansHaving, IsItem, IsOrder, IsQueryOf, operand_number, Shows, StandsFor}
 use Rattle.ssb_query.specs.Tables.{fact_place}
 use Rattle.ssb_query.specs.declared.column.BoundColumn.{BoundColumn}

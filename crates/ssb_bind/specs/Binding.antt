@@ -9,14 +9,14 @@ use Rattle.ssb_sql.specs.declared.select.Select.{Select}
 use Rattle.ssb_trees.specs.Conditions.{Filter, mapped_operand, operands}
 use Rattle.ssb_trees.specs.declared.aggregate.Aggregate.{Aggregate}
 use Rattle.ssb_trees.specs.declared.operand.Operand.{Operand}
-use Rattle.ssb_judge.specs.Bound.{bound_where, aggregates_of, group_place, having_aggregates, is_aggregate, operand_aggregate}
-use Rattle.ssb_judge.specs.Columns.{bound_name}
-use Rattle.ssb_judge.specs.Orders.{bound_order, name_of_item}
+use Rattle.ssb_bind.specs.Bound.{bound_where, aggregates_of, group_place, having_aggregates, is_aggregate, operand_aggregate}
+use Rattle.ssb_bind.specs.Columns.{bound_name}
+use Rattle.ssb_bind.specs.Orders.{bound_order, name_of_item}
 use Rattle.ssb_bind.specs.Query.{form}
-use Rattle.ssb_judge.specs.Rules.{rules_in}
+use Rattle.ssb_bind.specs.Rules.{rules_in}
 use Rattle.ssb_query.specs.Tables.{fact_place}
 use Rattle.ssb_query.specs.declared.column.BoundColumn.{BoundColumn}
-use Rattle.ssb_judge.specs.declared.fault.BindFault.{BindFault}
+use Rattle.ssb_bind.specs.declared.fault.BindFault.{BindFault}
 use Rattle.ssb_query.specs.declared.query.BoundItem.{BoundItem}
 use Rattle.ssb_query.specs.declared.query.Origin.{Origin}
 use Rattle.ssb_query.specs.declared.query.Origin.TheVariants as origin

@@ -3,10 +3,10 @@
 use Rattle.std.specs.Prelude.{◌≡◌, [], ◌∷◌, List, None, Result, Ok, Err, All}
 use Rattle.ssb_catalog.specs.Shapes.{TableShape}
 use Rattle.ssb_sql.specs.declared.select.Select.{Select}
-use Rattle.ssb_judge.specs.Columns.{columns_for, bound_name}
-use Rattle.ssb_judge.specs.Faults.{least_fault, Says}
-use Rattle.ssb_judge.specs.Names.{column_names}
-use Rattle.ssb_judge.specs.declared.fault.BindFault.{BindFault}
+use Rattle.ssb_bind.specs.Columns.{columns_for, bound_name}
+use Rattle.ssb_bind.specs.Faults.{least_fault, Says}
+use Rattle.ssb_bind.specs.Names.{column_names}
+use Rattle.ssb_bind.specs.declared.fault.BindFault.{BindFault}
 use Rattle.ssb_bind.specs.Query.{IsQueryOf}
 use Rattle.ssb_query.specs.declared.query.QueryParts.{QueryParts}
 

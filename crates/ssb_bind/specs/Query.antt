@@ -12,10 +12,10 @@ use Rattle.ssb_trees.specs.Conditions.{Filter, mapped, operands}
 use Rattle.ssb_trees.specs.declared.condition.Condition.{Condition}
 use Rattle.ssb_trees.specs.declared.operand.Operand.{Operand}
 use Rattle.ssb_trees.specs.declared.operand.Operand.TheVariants as operand
-use Rattle.ssb_judge.specs.Bound.{bound_where, aggregate_of, aggregates_of, group_place, having_aggregates}
-use Rattle.ssb_judge.specs.Columns.{bound_name, table_number}
-use Rattle.ssb_judge.specs.Orders.{name_of_item, places_for}
-use Rattle.ssb_judge.specs.Rules.{rules_in}
+use Rattle.ssb_bind.specs.Bound.{bound_where, aggregate_of, aggregates_of, group_place, having_aggregates}
+use Rattle.ssb_bind.specs.Columns.{bound_name, table_number}
+use Rattle.ssb_bind.specs.Orders.{name_of_item, places_for}
+use Rattle.ssb_bind.specs.Rules.{rules_in}
 use Rattle.ssb_query.specs.Tables.{fact_place}
 use Rattle.ssb_query.specs.declared.query.BoundItem.{BoundItem}
 use Rattle.ssb_query.specs.declared.query.BoundOrder.{BoundOrder}

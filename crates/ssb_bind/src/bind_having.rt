@@ -2,7 +2,7 @@
 
 ghost use Rattle.std.specs.Prelude.{◌≡◌, ◌++◌, IfOk, length};
 ghost use Rattle.ssb_bind.specs.Binding as binding;
-ghost use Rattle.ssb_judge.specs.Bound.{having_aggregates};
+ghost use Rattle.ssb_bind.specs.Bound.{having_aggregates};
 
 use crate::bind_select::{aggregate_of, origin_of};
 use crate::bind_trees::Scope;

@@ -2,16 +2,19 @@
 
 ghost use Rattle.std.specs.Prelude.{◌≡◌, IfOk, map};
 ghost use Rattle.ssb_bind.specs.Binding as binding;
-ghost use Rattle.ssb_judge.specs.Bound as spec;
-ghost use Rattle.ssb_judge.specs.Columns.{bound_name};
-ghost use Rattle.ssb_judge.specs.Orders.{name_of_item};
-ghost use Rattle.ssb_judge.specs.Rules.{rules_in};
+ghost use Rattle.ssb_bind.specs.Bound as spec;
+ghost use Rattle.ssb_bind.specs.Columns.{bound_name};
+ghost use Rattle.ssb_bind.specs.Orders.{name_of_item};
+ghost use Rattle.ssb_bind.specs.Rules.{rules_in};
 
 use crate::bind_having::bound_having;
 use crate::bind_trees::{Scope, bound_aggregate, bound_where};
+use crate::groups::group_place;
+use crate::orders::{bound_orders, name_of};
+use crate::output::is_aggregate;
+use crate::resolve::bound_name;
 use sqlite_items::Items;
 use ssb_catalog::{ColumnDef, TableDef};
-use ssb_judge::{bound_name, bound_orders, group_place, is_aggregate, name_of};
 use ssb_query::{BoundColumn, BoundItem, Origin, QueryParts, TableRules, fact_place};
 use ssb_sql::{ColumnName, Item, Output, Select};
 use ssb_terms::{Name, Rule};

@@ -6,8 +6,10 @@ ghost use Rattle.ssb_bind.specs.Meaning as spec;
 ghost use Rattle.ssb_query.specs.Star.{IsStar};
 
 use crate::bind_select::bound_query;
+use crate::fault::BindFault;
+use crate::judge::check;
+use crate::resolve::table_numbers;
 use ssb_catalog::{Catalog, TableDef};
-use ssb_judge::{BindFault, check, table_numbers};
 use ssb_query::{Query, QueryParts};
 use ssb_sql::Select;
 use std::alloc::Global;

@@ -1,11 +1,11 @@
 // Conditions and aggregates with a column in the place of each name.
 
 ghost use Rattle.std.specs.Prelude.{◌≡◌, IfOk};
-ghost use Rattle.ssb_judge.specs.Bound as spec;
-ghost use Rattle.ssb_judge.specs.Columns as columns;
+ghost use Rattle.ssb_bind.specs.Bound as spec;
+ghost use Rattle.ssb_bind.specs.Columns as columns;
 
+use crate::resolve::bound_name;
 use ssb_catalog::TableDef;
-use ssb_judge::bound_name;
 use ssb_query::{BoundColumn, BoundOperand};
 use ssb_sql::ColumnName;
 use ssb_trees::{Aggregate, Filter, Leaves, Operand};

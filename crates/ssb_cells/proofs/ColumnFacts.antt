@@ -1,11 +1,11 @@
 -- What a column's flags and values give as cells.
 use Rattle.std.proofs.Common.{◌≡◌, ℕ, zero, suc, Bool, true, false, List, [], ◌∷◌, ◌++◌, length, slice_get, None, Some, cond, refl, sym, ap, arith, ◌+◌, ◌<◌, get_or, true≢false, ◌∙◌, length-append}
 use Rattle.std.proofs.lemmas.Option.{get_or_from_slice_get, none-some, same_Some, slice_get_within}
-use Rattle.ssb_values.specs.Cell.{Cell, null, number, text}
+use Rattle.ssb_cells.specs.Cell.{Cell, null, number, text}
 use Rattle.ssb_terms.specs.declared.rule.ColType.TheVariants as kinds
-use Rattle.ssb_values.specs.Values.{cell_of, is_null_value}
-use Rattle.ssb_values.specs.declared.value.Value.{Value}
-use Rattle.ssb_values.specs.declared.value.Value.TheVariants as values
+use Rattle.ssb_cells.specs.Values.{cell_of, is_null_value}
+use Rattle.ssb_cells.specs.declared.value.Value.{Value}
+use Rattle.ssb_cells.specs.declared.value.Value.TheVariants as values
 use Rattle.ssb_cells.specs.declared.column.Stored.{Stored}
 use Rattle.ssb_cells.specs.declared.column.Stored.TheVariants as stored
 use Rattle.ssb_cells.specs.Codes.{cell_code, code_at, code_of, with_text, texts_of}

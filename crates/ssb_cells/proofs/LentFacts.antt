@@ -1,7 +1,7 @@
 -- What the slices that a column lends tell of its values.
 use Rattle.std.proofs.Common.{◌≡◌, ◌⊎◌, ◌↔◌, ◌∙◌, ◌<◌, ℕ, ℤ, suc, zero, Bool, true, false, List, [], ◌∷◌, Option, None, Some, inl, inr, refl, sym, ap, arith, length, slice_get}
 use Rattle.std.proofs.lemmas.Option.{none-some, same_Some, slice_get_within}
-use Rattle.ssb_values.specs.Cell.{Cell, null, number}
+use Rattle.ssb_cells.specs.Cell.{Cell, null, number}
 use Rattle.ssb_cells.specs.Codes.{code_at}
 use Rattle.ssb_cells.specs.Lent.{AreCodes, AreNulls, AreNumbers}
 use Rattle.ssb_packed.specs.Lent.{flag_at}

@@ -1,7 +1,7 @@
 -- The values of columns that stand one behind the other.
 use Rattle.std.proofs.Common.{◌≡◌, ◌∙◌, ◌++◌, ◌∷◌, [], ◌+◌, ◌≤◌, List, length, sym, ap, arith, length-append, append-nil, append_assoc}
 use Rattle.std.proofs.lemmas.List.Concat.{flat_map-append}
-use Rattle.ssb_values.specs.Cell.{Cell}
+use Rattle.ssb_cells.specs.Cell.{Cell}
 use Rattle.ssb_cells.specs.Tables.{Filled}
 use Rattle.ssb_cells.specs.Parts.{AreOfKind, values_of}
 use Rattle.ssb_terms.specs.declared.rule.ColType.{ColType}

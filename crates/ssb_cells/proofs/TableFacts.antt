@@ -1,6 +1,6 @@
 -- A table's columns and cells.
 use Rattle.std.proofs.Common.{◌≡◌, ℕ, ◌<◌, zero, suc, List, [], ◌∷◌, length, get_or, slice_get, Some, ap, ◌∙◌, arith}
-use Rattle.ssb_values.specs.Cell.{Cell}
+use Rattle.ssb_cells.specs.Cell.{Cell}
 use Rattle.ssb_cells.specs.Tables.{Filled, AreLong, cell_in_column, cell_at}
 
 -- each column of a table has so many values

@@ -1,7 +1,7 @@
 -- What a column stores once the values of another stand behind its own.
 -- For the contracts inside this crate.
 use Rattle.std.specs.Prelude.{◌≡◌, ℕ, ◌<◌, ◌≤◌, ◌+◌, List, [], ◌++◌, length, get_or, map, fold, ⊤}
-use Rattle.ssb_values.specs.Cell.{text}
+use Rattle.ssb_cells.specs.Cell.{text}
 use Rattle.ssb_cells.specs.Codes.{with_text}
 use Rattle.ssb_cells.specs.declared.column.Stored.{Stored}
 use Rattle.ssb_cells.specs.declared.column.Stored.TheVariants as stored

@@ -1,7 +1,7 @@
 -- What the slices that a column lends tell of its values.
 -- Source: own.
 use Rattle.std.specs.Prelude.{◌≡◌, ◌⊎◌, ◌↔◌, ℕ, ℤ, true, List, length, Some, slice_get}
-use Rattle.ssb_values.specs.Cell.{Cell, null, number}
+use Rattle.ssb_cells.specs.Cell.{Cell, null, number}
 use Rattle.ssb_cells.specs.Codes.{code_at}
 use Rattle.ssb_packed.specs.Lent.{flag_at}
 

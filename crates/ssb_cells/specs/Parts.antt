@@ -2,7 +2,7 @@
 -- For the contracts inside this crate.
 use Rattle.std.specs.Prelude.{◌≡◌, ◌≤◌, List, [], ◌∷◌, length, ⊤}
 use Rattle.std.specs.List.{flat_map}
-use Rattle.ssb_values.specs.Cell.{Cell}
+use Rattle.ssb_cells.specs.Cell.{Cell}
 use Rattle.ssb_cells.specs.Tables.{Filled}
 use Rattle.ssb_cells.specs.declared.parts.ColumnParts.TheInside.{Inside}
 use Rattle.ssb_terms.specs.declared.rule.ColType.{ColType}

@@ -3,17 +3,17 @@
 use Rattle.std.specs.Prelude.{◌≡◌, ℕ, ℤ, pos, Bool, false, List, [], ◌∷◌, ◌++◌, length, get_or, if◌then◌else◌, ◌≤◌, ◌<◌, ⊤}
 use Rattle.std.specs.List.{position_or_len}
 use Rattle.std.specs.Str.{bytes_eq}
-use Rattle.ssb_values.specs.Cell.{Cell, null, number, text}
+use Rattle.ssb_cells.specs.Cell.{Cell, null, number, text}
 use Rattle.ssb_cells.specs.Tables.{Filled}
 use Rattle.ssb_cells.specs.Codes.{texts_of, with_text}
-use Rattle.ssb_values.specs.Values.{cell_of}
+use Rattle.ssb_cells.specs.Values.{cell_of}
 use Rattle.ssb_terms.specs.declared.rule.ColType.{ColType}
 use Rattle.ssb_terms.specs.declared.rule.ColType.TheVariants as kinds
 use Rattle.ssb_cells.specs.declared.column.Column.TheInside.{Inside}
 use Rattle.ssb_cells.specs.declared.column.Stored.{Stored}
 use Rattle.ssb_cells.specs.declared.column.Stored.TheVariants as stored
-use Rattle.ssb_values.specs.declared.value.Value.{Value}
-use Rattle.ssb_values.specs.declared.value.Value.TheVariants as values
+use Rattle.ssb_cells.specs.declared.value.Value.{Value}
+use Rattle.ssb_cells.specs.declared.value.Value.TheVariants as values
 
 -- the values at the places that the flags leave, and nulls at the others
 abbrev pub cells_by : {X : Type 0} → (X → Cell) → List Bool → List X → List Cell

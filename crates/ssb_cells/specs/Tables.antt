@@ -2,7 +2,7 @@
 -- Source: own.
 use Rattle.std.specs.Prelude.{◌≡◌, ℕ, List, [], ◌∷◌, length, Option, Some, None, slice_get, ⊤}
 use Rattle.ssb_terms.specs.declared.rule.ColType.{ColType}
-use Rattle.ssb_values.specs.Cell.{Cell}
+use Rattle.ssb_cells.specs.Cell.{Cell}
 
 -- a column: its type, and its values in order
 pub record Filled : Type 0 where

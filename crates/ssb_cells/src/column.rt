@@ -2,7 +2,7 @@
 
 ghost use Rattle.std.specs.Prelude.{◌≡◌, ◌<◌, ◌≤◌, ◌+◌, ◌↔◌, ℕ, List, [], ◌∷◌, ◌++◌, length, Contains, OnOk, OnErr, IfOk, slice_get, None, Some, ◌==◌};
 ghost use Rattle.std.specs.Option.{IsSome};
-ghost use Rattle.ssb_values.specs.Cell.{Cell, null, text};
+ghost use Rattle.ssb_cells.specs.Cell.{Cell, null, text};
 ghost use Rattle.ssb_cells.specs.Tables.{Filled};
 ghost use Rattle.ssb_cells.specs.Codes.{code_at, code_of, texts_of};
 ghost use Rattle.ssb_cells.specs.Joined.{HasRoomFor, IsJoined};
@@ -10,14 +10,14 @@ ghost use Rattle.ssb_cells.specs.Lawful.{FitsType};
 ghost use Rattle.ssb_cells.specs.Lent.{AreCodes, AreNulls, AreNumbers};
 ghost use Rattle.ssb_packed.specs.Lent.{codes_in, numbers_in};
 ghost use Rattle.ssb_cells.specs.Stored.{HasRoom, IsWhole, filled, kind_of, number_in, with_value};
-ghost use Rattle.ssb_values.specs.Values.{cell_of};
+ghost use Rattle.ssb_cells.specs.Values.{cell_of};
 ghost use Rattle.ssb_cells.specs.declared.column.Stored.TheVariants as kept;
 ghost use Rattle.ssb_terms.specs.declared.rule.ColType.TheVariants as kinds;
 
 use crate::texts::Texts;
+use crate::value::Value;
 use ssb_packed::{CodeSlice, Nulls, NumberSlice, Numbers, Width};
 use ssb_terms::ColType;
-use ssb_values::Value;
 use std::alloc::{AllocError, Global};
 use std::marker::Model;
 

@@ -3,7 +3,7 @@
 ghost use Rattle.std.specs.Prelude.{◌≡◌, ◌<◌, ◌+◌, ◌≤◌, [], length, position, is_some, IfOk, OnOk, OnErr, slice_get, Some};
 ghost use Rattle.std.specs.List.{list_any, position_or_len};
 ghost use Rattle.std.specs.Str.{bytes_eq};
-ghost use Rattle.ssb_values.specs.Cell.{text};
+ghost use Rattle.ssb_cells.specs.Cell.{text};
 ghost use Rattle.ssb_cells.specs.Codes.{with_text};
 ghost use Rattle.ssb_cells.specs.Joined.{Recodes, with_texts};
 

@@ -2,10 +2,10 @@
 
 ghost use Rattle.std.specs.Prelude.{◌≡◌, ◌<◌, length, slice_get, vec_len, Some};
 ghost use Rattle.ssb_cells.specs.Tables.{rows_in, AreLong, cell_at};
-ghost use Rattle.ssb_values.specs.Values.{cell_of};
+ghost use Rattle.ssb_cells.specs.Values.{cell_of};
 
 use crate::column::Column;
-use ssb_values::Value;
+use crate::value::Value;
 use std::marker::Model;
 
 /// Columns of one length, at least one of them, seen as their list. Rows are numbered from 0 here,

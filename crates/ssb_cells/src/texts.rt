@@ -1,15 +1,15 @@
 // The texts of a column, as codes of a dictionary.
 
 ghost use Rattle.std.specs.Prelude.{◌≡◌, ◌<◌, ◌≤◌, ◌+◌, [], ◌∷◌, ◌++◌, length, get_or, OnOk, OnErr};
-ghost use Rattle.ssb_values.specs.Cell.{text};
+ghost use Rattle.ssb_cells.specs.Cell.{text};
 ghost use Rattle.ssb_cells.specs.Codes.{with_text};
 ghost use Rattle.ssb_cells.specs.Joined.{AreJoined};
 ghost use Rattle.ssb_cells.specs.Stored.{code_for};
-ghost use Rattle.ssb_values.specs.Values.{cell_of};
+ghost use Rattle.ssb_cells.specs.Values.{cell_of};
 
 use crate::dictionary::Dictionary;
+use crate::value::Value;
 use ssb_packed::{Codes, Width};
-use ssb_values::Value;
 use std::alloc::{AllocError, Global};
 
 /// The code of each value, and the texts that have one. Where a value is null, a 0 stands for it.

@@ -8,7 +8,7 @@ use Rattle.std.specs.declared.io.traits.Take.{Take}
 use Rattle.ssb_catalog.specs.Catalog.{is_fact}
 use Rattle.ssb_catalog.specs.Shapes.{TableShape}
 use Rattle.ssb_records.specs.declared.reader.In.{In}
-use Rattle.ssb_sections.specs.Sections.{AreSections}
+use Rattle.ssb_lanes.specs.Sections.{AreSections}
 
 -- sections are those of a table's file, and there is one where it is not the fact table
 abbrev pub AreSectionsOf : {F : Type 0} {read : Read (Take F)} → (F → Option ℕ) → TableShape → List (In (Take F) read) → Type 0

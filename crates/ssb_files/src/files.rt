@@ -6,12 +6,12 @@ ghost use Rattle.ssb_catalog.specs.BuiltIn.{ssb_tables};
 ghost use Rattle.ssb_files.specs.Faults.{IsNoCatalog, IsNoQuery, IsOpenFault, IsQueryFault};
 ghost use Rattle.ssb_files.specs.Files.{longest_query, section_count};
 ghost use Rattle.ssb_files.specs.Opening.{AreOpened, AreSectionsOf, GainsTable};
-ghost use Rattle.ssb_sections.specs.Sections.{AreUnread};
+ghost use Rattle.ssb_lanes.specs.Sections.{AreUnread};
 
 use crate::fault::ProgramFault;
 use ssb_catalog::{Catalog, TableDef};
+use ssb_lanes::{Section, sections_of};
 use ssb_reply::RunFault;
-use ssb_sections::{Section, sections_of};
 use ssb_sql::SqlFault;
 use std::alloc::{AllocError, Global};
 use std::io::{Read, Seek};

@@ -1,13 +1,10 @@
-//! What the program has of the system: the files that it opens, some of them in sections, and the line
-//! and the status that it tells a fault by.
+//! What the program has of the system: files that are opened, some in sections, and how it tells a fault.
 //!
-//! # Files
-//!
-//! - `src/files.rt`, `specs/Files.antt`, `Opening.antt`: files opened and read; those of the tables in
-//!   sections
-//! - `src/fault.rt`, `report.rt`, `specs/Faults.antt`: the faults of the program; the line and status of
-//!   each
-//! - `src/paths.rt`, `specs/Shown.antt`: a path as a line shows it
+//! - Offers: [`open_all`], [`catalog_of`] and [`read_query`]; [`ProgramFault`] with its line and status.
+//! - Callers: `ssb_cli`.
+//! - Apart: a program is linked whole at each check, so what has much to prove stands in libraries.
+//! - Files: `files`, `paths`, `fault`, `report`.
+//! - Definitions: `Files`, `Opening`, `Shown`, `Faults`.
 #![tactic(auto)]
 
 pub mod fault;
@@ -18,4 +15,4 @@ mod report;
 pub use fault::ProgramFault;
 pub use files::{catalog_of, names_of, open_all, read_query};
 pub use report::{OUT_OF_MEMORY, program_line, program_status_of};
-pub use ssb_sections::Section;
+pub use ssb_lanes::Section;

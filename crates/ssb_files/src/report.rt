@@ -7,7 +7,7 @@ ghost use Rattle.ssb_files.specs.Faults.{program_words, name_told, load_status, 
 
 use crate::fault::ProgramFault;
 use crate::paths::shown_path;
-use ssb_judge::BindFault;
+use ssb_bind::BindFault;
 use ssb_records::LoadFault;
 use ssb_reply::{MEMORY_LINE, RunFault, load_line, run_line, words_line};
 use ssb_rows::AnswerFault;

@@ -8,7 +8,7 @@ use Rattle.ssb_query.specs.Star.{IsStar}
 use Rattle.ssb_query.specs.Tables.{is_fact_table}
 use Rattle.ssb_query.specs.declared.column.BoundColumn.{BoundColumn}
 use Rattle.ssb_trees.specs.declared.aggregate.Aggregate.{Aggregate}
-use Rattle.ssb_values.specs.Cell.{Cell, null}
+use Rattle.ssb_cells.specs.Cell.{Cell, null}
 use Rattle.ssb_cells.specs.Tables.{rows_in, Columns}
 use Rattle.ssb_conditions.specs.Rows.{IsCombination}
 use Rattle.ssb_job.specs.Kept.{JobShape, from_tables, rows_of}

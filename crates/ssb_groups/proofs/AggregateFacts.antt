@@ -8,9 +8,9 @@ use Rattle.std.specs.declared.cmp.Ordering.TheVariants.{Less, Equal, Greater}
 use Rattle.std.proofs.lemmas.Bool.{eq-eqb, eqb-true}
 use Rattle.std.proofs.lemmas.Int.{ints}
 use Rattle.std.proofs.lemmas.List.{map-append}
-use Rattle.ssb_values.specs.Cell.{Cell, null, number, text}
-use Rattle.ssb_values.specs.Order.{cell_cmp}
-use Rattle.ssb_values.proofs.OrderLaws.{cell-same, cell_total}
+use Rattle.ssb_cells.specs.Cell.{Cell, null, number, text}
+use Rattle.ssb_cells.specs.Order.{cell_cmp}
+use Rattle.ssb_cells.proofs.OrderLaws.{cell-same, cell_total}
 use Rattle.ssb_job.specs.Kept.{JobShape}
 use Rattle.ssb_query.specs.declared.column.BoundColumn.{BoundColumn}
 use Rattle.ssb_trees.specs.declared.aggregate.Aggregate.{Aggregate}

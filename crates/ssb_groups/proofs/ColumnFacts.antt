@@ -7,7 +7,7 @@ use Rattle.std.proofs.lemmas.Bool.{ltb-true, ltb-false, lt-ltb, le-ltb}
 use Rattle.std.proofs.lemmas.Option.{same_Some, slice_get-map, slice_get_read, slice_get_within, slice_get_past, get_or_from_slice_get, slice_get-get_or}
 use Rattle.ssb_trees.proofs.Finding.{here}
 use Rattle.ssb_query.specs.declared.column.BoundColumn.{BoundColumn}
-use Rattle.ssb_values.specs.Cell.{Cell, null, number, text}
+use Rattle.ssb_cells.specs.Cell.{Cell, null, number, text}
 use Rattle.ssb_cells.specs.Codes.{code_of, texts_of}
 use Rattle.ssb_cells.specs.Tables.{Filled, rows_in, cell_in_column, Columns}
 use Rattle.ssb_cells.proofs.CodeFacts.{among, place-known}

@@ -4,7 +4,7 @@ use Rattle.std.proofs.Math.ListN.{set}
 use Rattle.std.proofs.lemmas.List.{get_or-map, length-map, map-set}
 use Rattle.std.proofs.lemmas.Option.{slice_get-get_or, slice_get-map}
 use Rattle.std.specs.Prelude.{option_map, slice_get}
-use Rattle.ssb_values.specs.Cell.{Cell}
+use Rattle.ssb_cells.specs.Cell.{Cell}
 use Rattle.ssb_cells.specs.Tables.{Columns}
 use Rattle.ssb_job.specs.Kept.{JobShape}
 use Rattle.ssb_query.specs.declared.column.BoundColumn.{BoundColumn}

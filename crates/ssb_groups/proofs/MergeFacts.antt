@@ -10,7 +10,7 @@ use Rattle.ssb_groups.specs.declared.key.GroupKey.{GroupKey}
 use Rattle.ssb_groups.specs.Rows.{Key, key_eq, SeenRow}
 use Rattle.ssb_groups.specs.Stands.{GroupMap, Stands, group}
 use Rattle.ssb_groups.specs.Joining.{FitEach, JoinsAt, JoinsEach, joinings_of, option_joined}
-use Rattle.ssb_values.specs.Cell.{Cell}
+use Rattle.ssb_cells.specs.Cell.{Cell}
 use Rattle.ssb_groups.specs.Aggregates.{totals}
 use Rattle.ssb_groups.specs.Entries.{AreEntries, AreTotals, Entry, entries_of, entry_of, totals_in}
 use Rattle.ssb_groups.specs.Keys.{IsKey, cells_in, key_columns}

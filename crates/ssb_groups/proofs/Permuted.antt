@@ -11,7 +11,7 @@ use Rattle.ssb_groups.specs.Aggregates.{agg, amount_of, arguments_at, cell_in, c
 use Rattle.ssb_groups.specs.Stands.{GroupMap, Stands, has_over, overflows, least_of, least, group, summary, EachRanged, AreRanged}
 use Rattle.ssb_groups.specs.Value.{Outcome, known}
 use Rattle.ssb_groups.proofs.AggregateFacts.{greater-assoc, greater-comm, lesser-assoc, lesser-comm}
-use Rattle.ssb_values.specs.Cell.{Cell, null, number}
+use Rattle.ssb_cells.specs.Cell.{Cell, null, number}
 use Rattle.ssb_query.specs.declared.column.BoundColumn.{BoundColumn}
 use Rattle.ssb_trees.specs.declared.aggregate.Aggregate.{Aggregate}
 use Rattle.ssb_trees.specs.declared.aggregate.Aggregate.TheVariants as aggregate

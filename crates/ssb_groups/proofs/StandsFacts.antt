@@ -3,7 +3,7 @@ use Rattle.std.proofs.Common.{◌≡◌, ℕ, ◌+◌, ◌^◌, ◌<◌, true, f
 use Rattle.std.specs.List.{IsDistinct}
 use Rattle.std.specs.Map.{lookup}
 use Rattle.ssb_job.specs.Kept.{JobShape}
-use Rattle.ssb_values.specs.Cell.{Cell}
+use Rattle.ssb_cells.specs.Cell.{Cell}
 use Rattle.ssb_groups.specs.Aggregates.{totals}
 use Rattle.ssb_groups.specs.Joining.{FitEach, joinings_of, option_joined}
 use Rattle.ssb_groups.specs.Rows.{Key, key_eq, SeenRow}

@@ -2,8 +2,8 @@
 -- Source: SQL-92, 6.5 <set function specification>; in which order MIN and MAX take values is said in ssb_cells' Order.
 use Rattle.std.specs.Prelude.{ℕ, ◌+◌, ◌==◌, ℤ, pos, ◌+ℤ◌, if◌then◌else◌, List, [], ◌∷◌, map, slice_get, unwrap_or}
 use Rattle.std.specs.Ordering.{min_by_ordering, max_by_ordering}
-use Rattle.ssb_values.specs.Cell.{Cell, null, number, text}
-use Rattle.ssb_values.specs.Order.{cell_cmp}
+use Rattle.ssb_cells.specs.Cell.{Cell, null, number, text}
+use Rattle.ssb_cells.specs.Order.{cell_cmp}
 use Rattle.ssb_query.specs.declared.column.BoundColumn.{BoundColumn}
 use Rattle.ssb_trees.specs.declared.aggregate.Aggregate.{Aggregate}
 use Rattle.ssb_trees.specs.declared.aggregate.Aggregate.TheVariants as aggregate

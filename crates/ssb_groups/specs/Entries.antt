@@ -1,7 +1,7 @@
 -- The entries of a table of groups: their keys and totals as they are kept, and what they stand for.
 -- For the contracts inside this crate.
 use Rattle.std.specs.Prelude.{⊤, List, [], ◌∷◌, map}
-use Rattle.ssb_values.specs.Cell.{Cell}
+use Rattle.ssb_cells.specs.Cell.{Cell}
 use Rattle.ssb_job.specs.Kept.{JobShape}
 use Rattle.ssb_groups.specs.Joining.{JoinsAt, JoinsEach, joinings_of, values_by}
 use Rattle.ssb_groups.specs.Keys.{AreKept, IsKey, cells_in, key_columns, spelt}

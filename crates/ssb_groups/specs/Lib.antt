@@ -10,3 +10,6 @@ pub mod Seen
 pub mod Stands
 pub mod Totals
 pub mod Value
+pub use Rattle.ssb_cells.specs.Values
+pub use Rattle.ssb_conditions.specs.Rows as CellRows
+pub use Rattle.ssb_job.specs.Kept

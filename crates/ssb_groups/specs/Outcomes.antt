@@ -1,7 +1,7 @@
 -- What a contract sees of the number of an expression.
 -- For the contracts inside this crate.
 use Rattle.std.specs.Prelude.{ℤ, ◌+ℤ◌, ◌-ℤ◌, ◌*ℤ◌, Option, None, Some, List}
-use Rattle.ssb_values.specs.Cell.{Cell, null, number}
+use Rattle.ssb_cells.specs.Cell.{Cell, null, number}
 use Rattle.ssb_groups.specs.Keys.{spelt_cell}
 use Rattle.ssb_groups.specs.Value.{Outcome, over, known}
 use Rattle.ssb_groups.specs.declared.kept.Kept.{Kept}

@@ -2,7 +2,7 @@
 -- Source: own; for the contracts inside this crate.
 use Rattle.std.specs.Prelude.{ℕ, ◌<◌, List, [], length, Option, None, Some, map, slice_get, unwrap_or, nat_lt, if◌then◌else◌, ⊤}
 use Rattle.ssb_query.specs.declared.column.BoundColumn.{BoundColumn}
-use Rattle.ssb_values.specs.Cell.{Cell, null}
+use Rattle.ssb_cells.specs.Cell.{Cell, null}
 use Rattle.ssb_cells.specs.Tables.{rows_in, Columns}
 use Rattle.ssb_job.specs.Kept.{JobShape}
 use Rattle.ssb_groups.specs.Keys.{kept_cell, values_in}

@@ -1,7 +1,7 @@
 -- A combination of rows as the aggregates see it.
 -- Source: SQL-92, 7.7 <group by clause>, 6.5 <set function specification>.
 use Rattle.std.specs.Prelude.{ℕ, ◌+◌, pos, List, map, slice_get, unwrap_or}
-use Rattle.ssb_values.specs.Cell.{Cell, number}
+use Rattle.ssb_cells.specs.Cell.{Cell, number}
 use Rattle.ssb_query.specs.declared.column.BoundColumn.{BoundColumn}
 use Rattle.ssb_trees.specs.declared.aggregate.Aggregate.TheVariants as aggregate
 use Rattle.ssb_conditions.specs.Rows.{column_value}

@@ -3,7 +3,7 @@
 use Rattle.std.specs.Prelude.{◌≡◌, ℕ, Bool, true, false, List, [], ◌∷◌, map, min, length, Option, None, Some, ⊤}
 use Rattle.std.specs.List.{filter, list_any, IsDistinct}
 use Rattle.std.specs.Map.{lookup}
-use Rattle.ssb_values.specs.Cell.{Cell, number}
+use Rattle.ssb_cells.specs.Cell.{Cell, number}
 use Rattle.ssb_query.specs.declared.column.BoundColumn.{BoundColumn}
 use Rattle.ssb_trees.specs.declared.aggregate.Aggregate.{Aggregate}
 use Rattle.ssb_job.specs.Kept.{JobShape}

@@ -1,5 +1,5 @@
 -- What an aggregate's value is, as callers see it.
-use Rattle.ssb_values.specs.Cell.{Cell, null, number, text}
+use Rattle.ssb_cells.specs.Cell.{Cell, null, number, text}
 use Rattle.ssb_groups.specs.declared.totals.Total.{Total}
 use Rattle.ssb_groups.specs.declared.totals.Total.TheVariants as total
 

@@ -1,7 +1,7 @@
 -- The value of an expression, in whole numbers of any size, cut to the range of an `int` at each column, number, sign and operation.
 -- Source: SQL-92, 6.12 <numeric value expression>, for nulls; the range, and that Over goes before null, are this project's own.
 use Rattle.std.specs.Prelude.{◌^◌, nat_lt, ℤ, pos, negsuc, ◌+ℤ◌, ◌-ℤ◌, ◌*ℤ◌, Bool, if◌then◌else◌, List, Option, None, Some, fold}
-use Rattle.ssb_values.specs.Cell.{Cell, null, number, text}
+use Rattle.ssb_cells.specs.Cell.{Cell, null, number, text}
 use Rattle.ssb_terms.specs.declared.operator.Adding.{Adding}
 use Rattle.ssb_terms.specs.declared.operator.Adding.TheVariants as adding
 use Rattle.ssb_query.specs.declared.column.BoundColumn.{BoundColumn}

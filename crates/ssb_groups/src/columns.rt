@@ -2,7 +2,7 @@
 // joined, and how both are spelt.
 
 ghost use Rattle.std.specs.Prelude.{◌≡◌, map, IfOk, OnOk};
-ghost use Rattle.ssb_values.specs.Values.{cell_of};
+ghost use Rattle.ssb_cells.specs.Values.{cell_of};
 ghost use Rattle.ssb_conditions.specs.Rows.{IsCombination};
 ghost use Rattle.ssb_job.specs.Kept.{from_tables};
 ghost use Rattle.ssb_groups.specs.Entries.{AreTotals, totals_in};
@@ -16,9 +16,8 @@ use crate::kept::{Kept, KeptTotal};
 use crate::key::GroupKey;
 use crate::place::{Place, cell_at_place, place_of, text_at_place};
 use crate::totals::{Total, Totals};
-use ssb_cells::Table;
+use ssb_cells::{Table, Value};
 use ssb_job::{Job, JoinedRow};
-use ssb_values::Value;
 use std::alloc::{AllocError, Global};
 use std::marker::Model;
 use std::snapshot::Snapshot;

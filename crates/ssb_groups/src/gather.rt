@@ -1,7 +1,7 @@
 // What the aggregates take of a row.
 
 ghost use Rattle.std.specs.Prelude.{◌≡◌, ◌∷◌, [], List, IfOk, IfSome};
-ghost use Rattle.ssb_values.specs.Cell.{Cell};
+ghost use Rattle.ssb_cells.specs.Cell.{Cell};
 ghost use Rattle.ssb_query.specs.declared.column.BoundColumn.{BoundColumn as AnyColumn};
 ghost use Rattle.ssb_trees.specs.declared.aggregate.Aggregate.TheVariants as aggregates;
 ghost use Rattle.ssb_trees.specs.declared.expr.Expr.{Expr as AnyExpr};

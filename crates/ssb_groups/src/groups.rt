@@ -1,7 +1,7 @@
 // The groups over the rows that were added.
 
 ghost use Rattle.std.specs.Prelude.{◌≡◌, ◌+◌, ◌<◌, ◌^◌, ◌∷◌, ◌++◌, [], List, length, map, Some, slice_get, IfErr, IfOk, OnOk, OnErr};
-ghost use Rattle.ssb_values.specs.Values.{cell_of};
+ghost use Rattle.ssb_cells.specs.Values.{cell_of};
 ghost use Rattle.ssb_conditions.specs.Rows.{IsCombination};
 ghost use Rattle.ssb_job.specs.Kept.{AreOneJob, from_tables};
 ghost use Rattle.ssb_groups.specs.Aggregates.{totals};
@@ -16,10 +16,10 @@ use crate::gather::{fact_of, gather};
 use crate::key::GroupKey;
 use crate::store::Store;
 use crate::totals::{Total, Totals};
+use ssb_cells::Value;
 use ssb_job::{Job, JoinedRow};
 use ssb_query::BoundColumn;
 use ssb_trees::Aggregate;
-use ssb_values::Value;
 use std::alloc::{AllocError, Global};
 use std::marker::Model;
 

@@ -4,7 +4,7 @@ ghost use Rattle.std.specs.Cmp.Lexicographic.{slice_cmp};
 ghost use Rattle.std.specs.Ordering.{nat_cmp};
 ghost use Rattle.std.specs.Prelude.{◌≡◌, ◌<◌, [], get_or, length};
 ghost use Rattle.ssb_cells.specs.Codes.{texts_of};
-ghost use Rattle.ssb_values.specs.Order.{cell_cmp};
+ghost use Rattle.ssb_cells.specs.Order.{cell_cmp};
 ghost use Rattle.ssb_groups.specs.Aggregates.{greater, lesser};
 ghost use Rattle.ssb_groups.specs.Joining.{AreOfPlace, FitsAdded, IsJoining, JoinsTotal, added, joining_of, place_alone, values_by};
 ghost use Rattle.ssb_groups.specs.Keys.{IsKept, kept_total, spelt_cell};

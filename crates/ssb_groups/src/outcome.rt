@@ -2,14 +2,14 @@
 
 ghost use Rattle.std.specs.Prelude.{◌≡◌, List, IfSome, pos};
 ghost use Rattle.ssb_groups.specs.Keys.{IsKept};
-ghost use Rattle.ssb_values.specs.Cell.{Cell};
-ghost use Rattle.ssb_values.specs.Values.{cell_of};
+ghost use Rattle.ssb_cells.specs.Cell.{Cell};
+ghost use Rattle.ssb_cells.specs.Values.{cell_of};
 ghost use Rattle.ssb_groups.specs.Outcomes.{checked_outcome, exact, kept_outcome, outcome_of};
 ghost use Rattle.ssb_groups.specs.Stands.{IsRanged};
 ghost use Rattle.ssb_groups.specs.Value.{apply, checked, column_number};
 
 use crate::kept::Kept;
-use ssb_values::Value;
+use ssb_cells::Value;
 
 /// What is done with two numbers.
 #[derive(Clone, Copy, PartialEq, Eq)]

@@ -7,11 +7,10 @@ ghost use Rattle.ssb_groups.specs.Keys.{kept_cell};
 ghost use Rattle.ssb_groups.specs.Places.{HasSomeRow, IsSomePlace, cell_at_place, place_of, values_at};
 
 use crate::kept::Kept;
-use ssb_cells::{Column, Table, numbers_have_no_text};
+use ssb_cells::{Column, Table, Value, numbers_have_no_text};
 use ssb_job::Job;
 use ssb_query::BoundColumn;
 use ssb_terms::ColType;
-use ssb_values::Value;
 
 /// Where a column stands.
 #[derive(Clone, Copy, PartialEq, Eq)]

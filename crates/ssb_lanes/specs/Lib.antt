@@ -7,3 +7,17 @@ pub mod Lane
 pub mod Lanes
 pub mod Moved
 pub mod Part
+pub mod Sections
+pub use Rattle.ssb_catalog.specs.Catalog
+pub use Rattle.ssb_load.specs.Files
+pub use Rattle.ssb_load.specs.Loading
+pub use Rattle.ssb_load.specs.Runs
+pub use Rattle.ssb_load.specs.Subject
+pub use Rattle.ssb_load.specs.TableIntake
+pub use Rattle.ssb_records.specs.CutShort
+pub use Rattle.ssb_records.specs.Giving
+pub use Rattle.ssb_records.specs.Intake
+pub use Rattle.ssb_records.specs.Lines
+pub use Rattle.ssb_records.specs.Records
+pub use Rattle.ssb_records.specs.declared.fault.LoadFault
+pub use Rattle.ssb_records.specs.declared.fault.RecordFault

@@ -4,12 +4,12 @@ use Rattle.std.proofs.lemmas.Grind.{common_steps}
 use Rattle.std.specs.Prelude.{is_none, unwrap_or}
 use Rattle.std.proofs.lemmas.Bool.{lt-ltb, ltb-true, ltb_from_iff}
 use Rattle.std.proofs.lemmas.Bool.Decides.{eqb_tells}
-use Rattle.ssb_values.specs.Cell.{null, number, text}
-use Rattle.ssb_values.specs.Values.{cell_of}
+use Rattle.ssb_cells.specs.Cell.{null, number, text}
+use Rattle.ssb_cells.specs.Values.{cell_of}
 use Rattle.ssb_terms.specs.declared.rule.ColType.{ColType}
 use Rattle.ssb_terms.specs.declared.rule.ColType.TheVariants as kinds
-use Rattle.ssb_values.specs.declared.value.Value.{Value}
-use Rattle.ssb_values.specs.declared.value.Value.TheVariants as values
+use Rattle.ssb_cells.specs.declared.value.Value.{Value}
+use Rattle.ssb_cells.specs.declared.value.Value.TheVariants as values
 use Rattle.ssb_load.specs.Loader.{fails_some, is_place, key_among, number_told}
 use Rattle.ssb_load.specs.Numbers.{number_of}
 use Rattle.ssb_records.specs.Records.{Fields, field, is_empty}

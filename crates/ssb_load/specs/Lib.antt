@@ -7,3 +7,16 @@ pub mod Runs
 pub mod Subject
 pub mod TableIntake
 pub mod Tables
+pub use Rattle.ssb_catalog.specs.BuiltIn
+pub use Rattle.ssb_catalog.specs.Catalog
+pub use Rattle.ssb_catalog.specs.CatalogReading
+pub use Rattle.ssb_catalog.specs.Shapes
+pub use Rattle.ssb_cells.specs.Lawful
+pub use Rattle.ssb_cells.specs.Tables as CellTables
+pub use Rattle.ssb_records.specs.CutShort
+pub use Rattle.ssb_records.specs.Giving
+pub use Rattle.ssb_records.specs.Readers
+pub use Rattle.ssb_records.specs.Records
+pub use Rattle.ssb_records.specs.declared.fault.LoadFault
+pub use Rattle.ssb_records.specs.declared.fault.RecordFault
+pub use Rattle.ssb_terms.specs.Roles

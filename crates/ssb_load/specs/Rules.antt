@@ -3,7 +3,7 @@
 use Rattle.std.specs.Prelude.{◌+◌, ◌∷◌, ◌&&◌, ◌||◌, ℕ, ℤ, pos, Bool, false, List, [], length, map, not, nat_lt, is_none, Option, Some, None, unwrap_or, if◌then◌else◌}
 use Rattle.std.specs.List.{list_any}
 use Rattle.std.specs.Ordering.{int_eq}
-use Rattle.ssb_values.specs.Cell.{Cell, null, number, text}
+use Rattle.ssb_cells.specs.Cell.{Cell, null, number, text}
 use Rattle.ssb_cells.specs.Tables.{Filled}
 use Rattle.ssb_terms.specs.declared.rule.ColType.{ColType}
 use Rattle.ssb_terms.specs.declared.rule.ColType.TheVariants as kinds

@@ -1,25 +1,12 @@
-//! The tables that files give.
+//! The tables that files give: each the table of its records, or the first faulty record's least fault.
 //!
-//! A catalog says what each column of a table takes; [`load`] gives the table of a file, or the first
-//! faulty record with the least fault that applies to it. [`load_from`] gives that of what a `Source`
-//! gives, and says so of any source, a file of the system among them.
-//!
-//! # Files
-//!
-//! - `src/table_intake.rt`, `specs/Subject.antt`: a table under construction, the `Intake` of its
-//!   records; the rules and the limit that these are judged by
-//! - `src/loader.rt`: one record more: its fields judged and stored in one pass
-//! - `src/judge.rt`: the exact fault of a record that did not pass, which ends the load
-//! - `src/number.rt`, `value.rt`: a field's number and value
-//! - `src/read_table.rt`: `load_from`, and `load` over a reader
-//! - `src/all_tables.rt`, `specs/Files.antt`, `Runs.antt`, `proofs/LoadingAll.antt`: `load_all`: the
-//!   tables of a catalog, each of its source, one after the other
-//! - `src/fault.rt`: `FileFault`: the table whose file is none, and why
-//! - `specs/Tables.antt`, `Rules.antt`, `Numbers.antt`: the table of records, or the first faulty record
-//!   with its least fault; what a column takes of a field; the number that a field spells
-//! - `specs/Loading.antt`: what loading a table answers, of records, of bytes and of a source
-//! - `specs/Loader.antt`, `TableIntake.antt`: for the contracts inside: what the loader holds after some
-//!   records, and what a table under construction stands for
+//! - Offers: [`Catalog`] and [`LoadFault`]; [`load`] over a reader, [`load_from`] over a [`Source`],
+//!   [`load_all`] for the tables of a catalog.
+//! - Callers: `ssb_lanes`, which loads a table's sections side by side; `ssb_answer`; embedders.
+//! - Files: `read_table`, `all_tables`; `table_intake`, a table on its way, by `loader`, `value`,
+//!   `number`, and `judge` where a record is faulty; `fault`.
+//! - Definitions: `Tables`, `Rules`, `Numbers`, `Loading`, `Files`, `Runs`: what loading answers;
+//!   `Subject`, `Loader`, `TableIntake`: for the contracts inside.
 #![tactic(auto)]
 
 mod all_tables;
@@ -35,4 +22,7 @@ pub use all_tables::load_all;
 pub use fault::FileFault;
 pub use judge::key_place;
 pub use read_table::{load, load_from, load_in_pieces, rules_at};
+pub use ssb_catalog::{Catalog, ColumnDef, TableDef};
+pub use ssb_records::{CatalogFault, In, LoadFault, PIECE_SIZE, RecordFault, Source, SourceFault};
+pub use ssb_terms::{Name, Role, Rule};
 pub use table_intake::TableIntake;

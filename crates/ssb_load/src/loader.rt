@@ -14,10 +14,9 @@ use crate::judge::refuse;
 use crate::number::number;
 use crate::value::value_of;
 use csv::ByteRecord;
-use ssb_cells::{Column, Table};
+use ssb_cells::{Column, Table, Value};
 use ssb_records::{LoadFault, field_text, is_all_text, is_wide};
 use ssb_terms::Rule;
-use ssb_values::Value;
 use std::alloc::{AllocError, Global};
 use std::collections::HashSet;
 

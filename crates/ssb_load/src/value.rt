@@ -2,14 +2,14 @@
 
 ghost use Rattle.std.specs.Prelude.{◌≡◌, ◌||◌, is_none, IfSome};
 ghost use Rattle.ssb_cells.specs.Lawful.{FitsType};
-ghost use Rattle.ssb_values.specs.Values.{cell_of};
+ghost use Rattle.ssb_cells.specs.Values.{cell_of};
 ghost use Rattle.ssb_load.specs.Rules.{cell_in};
 ghost use Rattle.ssb_load.specs.Loader.{fails};
 ghost use Rattle.ssb_load.specs.declared.value.Test.TheVariants as tests;
 
 use crate::number::number;
+use ssb_cells::Value;
 use ssb_terms::{ColType, Rule};
-use ssb_values::Value;
 
 const MAX_TEXT: usize = 4096;
 

@@ -1,21 +1,13 @@
-//! Numbers, codes and flags in few bytes.
+//! Numbers, codes and flags in few bytes: each list takes as many a value as its widest asks for.
 //!
-//! Each list is seen in contracts as what it holds alone: numbers, codes, flags. It keeps all of them in as
-//! few bytes each as the widest asks for, and widens all where one asks for more. What goes over many rows
-//! reads them through slices of that width ([`NumberSlice`], [`CodeSlice`], [`flag_at`]).
-//!
-//! # Files
-//!
-//! - `src/numbers.rt`, `specs/Narrow.antt`: `Numbers`: each in 1, 2, 4 or 8 bytes, widened where one
-//!   asks for more
-//! - `src/codes.rt`, `specs/Recoded.antt`: `Codes`, of texts: each kept as the number 128 below it;
-//!   others in their place by a table
-//! - `src/nulls.rt`, `specs/Flags.antt`, `proofs/FlagFacts.antt`: `Nulls`: no memory before the first
-//!   flag that is set, then a bit for each
-//! - `src/lent.rt`, `specs/Lent.antt`: the slices that are lent to code that goes over many rows:
-//!   numbers or codes in their width, and the words of flags
-//! - `src/width.rt`: in how many bytes numbers and codes are kept
-//! - `proofs/Loops.antt`: a list as far as a loop has come
+//! - Offers: [`Numbers`], [`Codes`] and [`Nulls`], seen in contracts as lists; [`NumberSlice`],
+//!   [`CodeSlice`] and [`flag_at`], by which code that goes over many rows reads them.
+//! - Callers: `ssb_cells`, which keeps columns in them; `ssb_conditions` and `ssb_job`, which read the
+//!   slices.
+//! - Apart: how many bytes a value takes is nobody else's matter, and its edits are tried over this
+//!   little alone.
+//! - Files: `numbers`, `codes`, `nulls`; `width`, of their values; `lent`, the slices.
+//! - Definitions: `Narrow`, `Recoded`, `Flags`, `Lent`.
 #![tactic(auto)]
 
 mod codes;

@@ -12,3 +12,6 @@ pub mod Work
 pub mod Batch
 pub mod Finish
 pub mod Replay
+pub use Rattle.ssb_groups.specs.Seen
+pub use Rattle.ssb_groups.specs.Stands
+pub use Rattle.ssb_job.specs.Kept

@@ -1,14 +1,12 @@
 //! Queries: what a text means over a catalog, its names bound to columns.
 //!
-//! A [`Query`] has the parts of a star query, and its tables form a star: `specs/Star.antt` says what
-//! that is. Binding makes it; joins, groups and rows are computed of it.
-//!
-//! # Files
-//!
-//! - `src/query.rt`: `Query` and its parts: columns in the place of names
-//! - `src/column.rt`: the columns that conditions and expressions are over; copies of conditions
-//! - `specs/Tables.antt`, `Star.antt`, `src/star.rt`: what a query keeps of its catalog; the star that
-//!   its tables form, and the first table that keeps them from it
+//! - Offers: [`Query`] and its parts, of which the tables form a star; [`BoundColumn`] and what is over
+//!   it.
+//! - Callers: `ssb_bind`, which makes queries; `ssb_conditions`, `ssb_job`, `ssb_groups` and `ssb_rows`,
+//!   which answer them; embedders through `ssb_bind`.
+//! - Apart: those that answer a query need not wait for the proofs of reading and binding one.
+//! - Files: `query`, `column`, `star`.
+//! - Definitions: `Star`, `Tables`.
 #![tactic(auto)]
 
 pub mod column;

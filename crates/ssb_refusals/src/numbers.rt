@@ -3,10 +3,10 @@
 
 use crate::ends::Stop;
 use crate::files::job_over;
+use ssb_cells::Value;
 use ssb_groups::{Group, Groups, Total};
 use ssb_job::Job;
 use ssb_records::In;
-use ssb_values::Value;
 use std::alloc::{AllocError, Global};
 use std::sync::Arc;
 

@@ -2,9 +2,8 @@
 
 use crate::ends::{Done, Stop};
 use crate::files::{CATALOG, DATES, FACTS, REVENUE, SUPPLIERS, readers, sources};
-use ssb_answer::run_from;
+use ssb_answer::{run, run_alone, run_alone_from, run_from};
 use ssb_catalog::Catalog;
-use ssb_embed::{run, run_alone, run_alone_from};
 use ssb_lanes::Joined;
 use ssb_pipeline::NoGate;
 use ssb_records::In;

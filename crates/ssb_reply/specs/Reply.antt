@@ -8,9 +8,9 @@ use Rattle.ssb_records.specs.declared.fault.LoadFault.TheVariants as load
 use Rattle.ssb_sql.specs.Spells.{IsRead, ReadsText}
 use Rattle.ssb_sql.specs.declared.fault.SqlFault.TheVariants as sql
 use Rattle.ssb_sql.specs.declared.select.Select.{Select}
-use Rattle.ssb_judge.specs.Faults.{least_fault}
+use Rattle.ssb_bind.specs.Faults.{least_fault}
 use Rattle.ssb_bind.specs.Meaning.{Means}
-use Rattle.ssb_judge.specs.declared.fault.BindFault.{BindFault}
+use Rattle.ssb_bind.specs.declared.fault.BindFault.{BindFault}
 use Rattle.ssb_query.specs.declared.query.QueryParts.{QueryParts}
 use Rattle.ssb_job.specs.Kept.{JobShape, kept}
 use Rattle.ssb_groups.specs.Rows.{SeenRow}

@@ -6,8 +6,8 @@ use Rattle.ssb_records.specs.declared.fault.LoadFault.{LoadFault}
 use Rattle.ssb_records.specs.declared.fault.LoadFault.TheVariants as load
 use Rattle.ssb_sql.specs.declared.fault.SqlFault.{SqlFault}
 use Rattle.ssb_sql.specs.declared.fault.SqlFault.TheVariants as sql
-use Rattle.ssb_judge.specs.declared.fault.BindFault.{BindFault}
-use Rattle.ssb_judge.specs.declared.fault.BindFault.TheVariants as bind
+use Rattle.ssb_bind.specs.declared.fault.BindFault.{BindFault}
+use Rattle.ssb_bind.specs.declared.fault.BindFault.TheVariants as bind
 use Rattle.ssb_rows.specs.declared.fault.AnswerFault.{AnswerFault}
 use Rattle.ssb_rows.specs.declared.fault.AnswerFault.TheVariants as answer
 use Rattle.ssb_reply.specs.declared.run_fault.RunFault.{RunFault}

@@ -5,7 +5,7 @@ ghost use Rattle.ssb_reply.specs.FaultLine.{answer_words, bind_words, line_of, l
 
 use crate::run_fault::RunFault;
 use itoa::Buffer;
-use ssb_judge::BindFault;
+use ssb_bind::BindFault;
 use ssb_records::LoadFault;
 use ssb_rows::AnswerFault;
 use ssb_sql::SqlFault;

@@ -1,18 +1,12 @@
-//! Replies: what a run owes for its files and its text, and how it tells it.
+//! Replies: what a run owes for its files and its text, and how it tells a fault.
 //!
-//! `specs/Reply.antt` has the reply by itself, from the bytes of files to the bytes of the answer or the
-//! one fault; `specs/Running.antt` what a run leaves of its sources and its writer. Here stand also the
-//! settings of a run, and the lines in which faults are told.
-//!
-//! # Files
-//!
-//! - `specs/Reply.antt`, `Running.antt`, `Settled.antt`: what a run owes for its files and its text,
-//!   what it leaves, and that this is one reply
-//! - `src/settings.rt`, `specs/Settings.antt`: `Settings`: how many workers, rows of a morsel and parts,
-//!   and how many morsels are taken at a time
-//! - `src/run_fault.rt`, `specs/Told.antt`: the faults of a run, and how those of its steps become one
-//! - `specs/FaultLine.antt`, `src/fault_line.rt`: the line of a fault
-//! - `src/law.rt`: laws: files and a text have one reply; loaded tables fit what a job asks for
+//! - Offers: [`Settings`] of a run, [`RunFault`], and [`run_line`], the line of a fault.
+//! - Callers: `ssb_answer`, whose runs owe the reply; `ssb_files`, which shows faults.
+//! - Apart: what a run owes is said where no run is known, and the program's lines are proved beside the
+//!   runs.
+//! - Files: `settings`, `run_fault`, `fault_line`, `law`.
+//! - Definitions: `Reply`, from the bytes of files to the bytes of the answer or the one fault;
+//!   `Running`, `Settled`, `Told`, `FaultLine`, `Settings`.
 #![tactic(auto)]
 
 pub mod fault_line;

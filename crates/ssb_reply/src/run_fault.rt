@@ -2,7 +2,7 @@
 
 ghost use Rattle.std.specs.Prelude.{◌≡◌};
 
-use ssb_judge::BindFault;
+use ssb_bind::BindFault;
 use ssb_load::FileFault;
 use ssb_records::LoadFault;
 use ssb_rows::AnswerFault;

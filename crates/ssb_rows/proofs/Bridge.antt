@@ -7,7 +7,7 @@ use Rattle.std.proofs.lemmas.Bool.{cases_Bool}
 use Rattle.std.proofs.lemmas.List.Sorted.{IsPermutation-map, IsPermutation-refl, IsPermutation-trans}
 use Rattle.std.specs.Prelude.{Ok, Err}
 use Rattle.ssb_groups.proofs.Bounds.{summary_is}
-use Rattle.ssb_values.specs.Truth.{is_true}
+use Rattle.ssb_cells.specs.Truth.{is_true}
 use Rattle.ssb_query.specs.declared.column.BoundColumn.{BoundColumn}
 use Rattle.ssb_query.specs.declared.query.QueryParts.{QueryParts}
 use Rattle.ssb_query.specs.declared.query.Origin.{Origin}

@@ -6,7 +6,7 @@ use Rattle.std.proofs.lemmas.Bool.{ltb-false, ltb-true, or_parts}
 use Rattle.std.proofs.lemmas.List.{drop_more, length-map}
 use Rattle.std.proofs.lemmas.Option.{slice_get-get_or, slice_get-map, slice_get_past}
 use Rattle.ssb_query.specs.declared.query.QueryParts.{QueryParts}
-use Rattle.ssb_values.specs.Cell.{Cell, null}
+use Rattle.ssb_cells.specs.Cell.{Cell, null}
 use Rattle.ssb_groups.specs.Totals.{total_cell}
 use Rattle.ssb_groups.specs.declared.totals.Total.{Total}
 use Rattle.ssb_rows.specs.Entries.{AddsRow, Entry, entry_beyond, entry_kept, entry_row, entry_rows, IsBeyondFault, IsFaultAt}

@@ -7,8 +7,8 @@ use Rattle.ssb_rows.specs.Writing.{IsPut, barred, Desk, Puts, Breaks, Writes, de
 use Rattle.ssb_rows.proofs.Written.{begins-front, grew-none, grew-both, puts-more, puts-began, begins-more, puts-end, puts-end_began}
 use Rattle.ssb_rows.specs.Text.{cell_text, line, text_of}
 use Rattle.ssb_rows.specs.Order.{Row}
-use Rattle.ssb_values.specs.Values.{owned_cell}
-use Rattle.ssb_values.specs.declared.owned.OwnedValue.{OwnedValue}
+use Rattle.ssb_cells.specs.Values.{owned_cell}
+use Rattle.ssb_cells.specs.declared.owned.OwnedValue.{OwnedValue}
 
 -- the text so far is put, and this is left of it
 pub record Going (old now : Desk) (text left : List ℕ) : Type 0 where

@@ -13,8 +13,8 @@ use Rattle.std.specs.Ordering.{is_lt, is_eq, ordering_then, ordering_reverse}
 use Rattle.std.specs.declared.cmp.Ordering.{Ordering}
 use Rattle.std.specs.declared.cmp.Ordering.TheVariants.{Less, Equal, Greater}
 use Rattle.std.proofs.lemmas.List.{get_or-map, length-map}
-use Rattle.ssb_values.specs.Order.{cell_cmp}
-use Rattle.ssb_values.proofs.OrderLaws.{cell-same, cell_total}
+use Rattle.ssb_cells.specs.Order.{cell_cmp}
+use Rattle.ssb_cells.proofs.OrderLaws.{cell-same, cell_total}
 use Rattle.ssb_rows.specs.Order.{Row, at, by_keys, row_cmp, IsOrdered}
 use Rattle.ssb_query.specs.declared.query.BoundOrder.{BoundOrder}
 

@@ -2,9 +2,9 @@
 -- For the contracts inside this crate.
 use Rattle.std.specs.Prelude.{◌≡◌, Bool, true, false, ⊤, List, [], ◌∷◌, ◌++◌, map, Option, None, Some}
 use Rattle.std.specs.List.{filter, list_any}
-use Rattle.ssb_values.specs.Cell.{Cell}
-use Rattle.ssb_values.specs.Truth.{is_true}
-use Rattle.ssb_values.specs.Values.{cell_of}
+use Rattle.ssb_cells.specs.Cell.{Cell}
+use Rattle.ssb_cells.specs.Truth.{is_true}
+use Rattle.ssb_cells.specs.Values.{cell_of}
 use Rattle.ssb_trees.specs.declared.operand.Operand.{Operand}
 use Rattle.ssb_trees.specs.declared.operand.Operand.TheVariants as operand
 use Rattle.ssb_conditions.specs.Holds.{Valuation, literal_cell}

@@ -5,3 +5,7 @@ pub mod Taking
 pub mod Text
 pub mod Titles
 pub mod Writing
+pub use Rattle.ssb_cells.specs.Cell
+pub use Rattle.ssb_cells.specs.Values
+pub use Rattle.ssb_groups.specs.Rows
+pub use Rattle.ssb_groups.specs.Stands

@@ -6,8 +6,8 @@ use Rattle.std.specs.Cmp.Lexicographic.{slice_cmp}
 use Rattle.std.specs.List.Sorted.{IsPermutation, IsSorted}
 use Rattle.std.specs.declared.cmp.Ordering.{Ordering}
 use Rattle.std.specs.declared.cmp.Ordering.TheVariants.{Equal}
-use Rattle.ssb_values.specs.Cell.{Cell, null}
-use Rattle.ssb_values.specs.Order.{cell_cmp}
+use Rattle.ssb_cells.specs.Cell.{Cell, null}
+use Rattle.ssb_cells.specs.Order.{cell_cmp}
 use Rattle.ssb_query.specs.declared.query.BoundOrder.{BoundOrder}
 
 -- the values of the select columns

@@ -3,10 +3,10 @@
 -- before one of a sum, that both go before HAVING, and that only the exact sum has a range, are this project's own.
 use Rattle.std.specs.Prelude.{◌≡◌, ℕ, Bool, true, false, not, List, [], ◌∷◌, map, length, Option, None, Some, Result, Ok, Err, slice_get, unwrap_or, ⊤, All}
 use Rattle.std.specs.List.{filter, list_any}
-use Rattle.ssb_values.specs.Cell.{Cell, null, number, text}
-use Rattle.ssb_values.specs.Truth.{is_true}
-use Rattle.ssb_values.specs.declared.truth.Truth.{Truth}
-use Rattle.ssb_values.specs.declared.truth.Truth.TheVariants.{True}
+use Rattle.ssb_cells.specs.Cell.{Cell, null, number, text}
+use Rattle.ssb_cells.specs.Truth.{is_true}
+use Rattle.ssb_cells.specs.declared.truth.Truth.{Truth}
+use Rattle.ssb_cells.specs.declared.truth.Truth.TheVariants.{True}
 use Rattle.ssb_trees.specs.Conditions.{Filter}
 use Rattle.ssb_trees.specs.declared.operand.Operand.{Operand}
 use Rattle.ssb_trees.specs.declared.operand.Operand.TheVariants as operand

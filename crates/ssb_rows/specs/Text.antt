@@ -3,7 +3,7 @@
 use Rattle.std.specs.Prelude.{ℕ, List, [], ◌∷◌, ◌++◌, map}
 use Rattle.std.specs.Fmt.{signed_decimal}
 use Rattle.std.specs.List.{join_with_byte}
-use Rattle.ssb_values.specs.Cell.{Cell, null, number, text}
+use Rattle.ssb_cells.specs.Cell.{Cell, null, number, text}
 use Rattle.ssb_rows.specs.Order.{Row}
 
 abbrev pub cell_text : Cell → List ℕ

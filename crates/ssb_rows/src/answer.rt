@@ -1,6 +1,6 @@
 // An answer: rows of values.
 
-use ssb_values::OwnedValue;
+use ssb_cells::OwnedValue;
 use std::marker::Model;
 
 /// The values of a row, from left to right, seen as their list.
@@ -18,8 +18,8 @@ impl Drop for AnswerRow {
 
 impl Model for AnswerRow {
     ghost use Rattle.std.specs.Prelude.{List, map};
-    ghost use Rattle.ssb_values.specs.Cell.{Cell};
-    ghost use Rattle.ssb_values.specs.Values.{owned_cell};
+    ghost use Rattle.ssb_cells.specs.Cell.{Cell};
+    ghost use Rattle.ssb_cells.specs.Values.{owned_cell};
 
     ghost Value = { List Cell };
 
@@ -28,7 +28,7 @@ impl Model for AnswerRow {
 
 impl AnswerRow {
     ghost use Rattle.std.specs.Prelude.{◌≡◌, map};
-    ghost use Rattle.ssb_values.specs.Values.{owned_cell};
+    ghost use Rattle.ssb_cells.specs.Values.{owned_cell};
 
     // The row of these values.
     pub(crate) fn new(fields: Vec<OwnedValue>) -> AnswerRow
@@ -52,7 +52,7 @@ pub struct Answer {
 
 impl Model for Answer {
     ghost use Rattle.std.specs.Prelude.{List};
-    ghost use Rattle.ssb_values.specs.Cell.{Cell};
+    ghost use Rattle.ssb_cells.specs.Cell.{Cell};
 
     ghost Value = { List (List Cell) };
 

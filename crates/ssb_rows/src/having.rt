@@ -4,11 +4,11 @@ ghost use Rattle.std.specs.Prelude.{◌≡◌, false};
 ghost use Rattle.ssb_rows.specs.Entries as spec;
 
 use crate::item::item_value;
+use ssb_cells::Value;
 use ssb_conditions::{Valuation, literal_value, truth_of};
 use ssb_groups::Group;
 use ssb_query::{Origin, QueryParts};
 use ssb_trees::Operand;
-use ssb_values::Value;
 
 // A group of which no aggregate leaves 64 bits, which gives the operands of HAVING their values.
 #[derive(Clone, Copy)]

@@ -2,16 +2,16 @@
 
 ghost use Rattle.std.specs.Prelude.{◌≡◌, true, false, map};
 ghost use Rattle.std.specs.List.{list_any};
-ghost use Rattle.ssb_values.specs.Cell as Cell;
-ghost use Rattle.ssb_values.specs.Values.{cell_of};
+ghost use Rattle.ssb_cells.specs.Cell as Cell;
+ghost use Rattle.ssb_cells.specs.Values.{cell_of};
 ghost use Rattle.ssb_groups.specs.Totals.{total_cell};
 ghost use Rattle.ssb_groups.specs.Value.{in_range};
 ghost use Rattle.ssb_rows.specs.Entries as spec;
 ghost use Rattle.ssb_rows.specs.Result.{at_or_null, is_beyond};
 
+use ssb_cells::Value;
 use ssb_groups::{Group, Total};
 use ssb_query::Origin;
-use ssb_values::Value;
 
 // A number that does not leave 64 bits.
 fn number_value<'a>(number: i128) -> Value<'a>

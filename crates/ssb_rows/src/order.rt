@@ -2,14 +2,14 @@
 
 ghost use Rattle.std.specs.Prelude.{◌≡◌, List, map};
 ghost use Rattle.std.specs.Cmp.Lexicographic.{slice_cmp};
-ghost use Rattle.ssb_values.specs.Order.{cell_cmp};
-ghost use Rattle.ssb_values.specs.Values.{cell_of, owned_cell};
+ghost use Rattle.ssb_cells.specs.Order.{cell_cmp};
+ghost use Rattle.ssb_cells.specs.Values.{cell_of, owned_cell};
 ghost use Rattle.ssb_rows.specs.Order.{Row, IsOrdered, at, by_key, row_cmp};
 ghost use Rattle.ssb_query.specs.declared.query.BoundOrder.{BoundOrder as AnyOrder};
 
 use crate::answer::AnswerRow;
+use ssb_cells::{OwnedValue, Value, sort_cmp};
 use ssb_query::BoundOrder;
-use ssb_values::{OwnedValue, Value, sort_cmp};
 use std::cmp::Ordering;
 
 // The value at a place, null where there is none.

@@ -13,9 +13,9 @@ use crate::fault::AnswerFault;
 use crate::having::is_kept;
 use crate::item::item_value;
 use crate::order::sort_rows;
+use ssb_cells::OwnedValue;
 use ssb_groups::{Group, Groups, Total, over_no_row};
 use ssb_query::{Query, QueryParts};
-use ssb_values::OwnedValue;
 use std::alloc::{AllocError, Global};
 
 // Whether the value of an aggregate leaves 64 bits.

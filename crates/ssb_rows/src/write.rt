@@ -1,7 +1,7 @@
 // Writing an answer.
 ghost use Rattle.std.specs.Prelude.{◌≡◌, ◌<◌, ◌++◌, ◌∷◌, [], IfErr, OnOk, OnErr, map};
 ghost use Rattle.ssb_rows.specs.Taking.{GrewAlike, IsBeginning};
-ghost use Rattle.ssb_values.specs.Values.{owned_cell};
+ghost use Rattle.ssb_cells.specs.Values.{owned_cell};
 ghost use Rattle.ssb_rows.specs.Text.{cell_text, fields_text, line, text_of};
 ghost use Rattle.ssb_rows.specs.Writing.{barred, Writes, desk};
 
@@ -11,7 +11,7 @@ use crate::page::Page;
 use crate::shown::shown;
 use crate::sink::{Sink, SinkFault};
 use itoa::Buffer;
-use ssb_values::OwnedValue;
+use ssb_cells::OwnedValue;
 
 fn put_field<W: Sink>(page: &mut Page, out: &mut W, field: &OwnedValue) -> Result<(), SinkFault>
     ensures { Writes result (desk (W.taken out.old) page.old (W.failures out.old) (W.contents out.old)) (desk (W.taken out.new) page.new (W.failures out.new) (W.contents out.new)) (cell_text (owned_cell field.now)) }

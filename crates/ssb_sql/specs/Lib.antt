@@ -13,3 +13,9 @@ pub mod Spells
 pub mod Steps
 pub mod Titles
 pub mod Told
+pub use Rattle.ssb_tokens.specs.Lexes
+pub use Rattle.ssb_tokens.specs.Reading
+pub use Rattle.ssb_tokens.specs.Tokens
+pub use Rattle.ssb_tokens.specs.declared.token.Token
+pub use Rattle.ssb_trees.specs.Conditions as TreeConditions
+pub use Rattle.ssb_trees.specs.Expressions as TreeExpressions

@@ -1,19 +1,12 @@
-//! Terms: the words that the other layers speak in.
+//! Terms: names, reserved words, literals, operators, and what a column takes.
 //!
-//! What a name of a table or column looks like, and which words are reserved, stands here for the
-//! catalog and the query language; the latter says again how each reserved word is written. So do the
-//! literals and operators that a query's text and its meaning share, and the rule of a column: its type
-//! and its role.
-//!
-//! # Files
-//!
-//! - `src/keyword.rt`, `specs/Keywords.antt`: `Keyword`: the reserved words, each with its letters
-//! - `src/name.rt`, `specs/Names.antt`: `Name`, what a name looks like
-//! - `src/text.rt`: `Text`: a text that is kept, of a literal or a name
-//! - `src/literal.rt`, `operator.rt`: `Literal`, and copies of literals; `Op`, a comparison; `Adding`,
-//!   `+` or `-` between terms
-//! - `src/rule.rt`, `specs/Roles.antt`: `ColType`, `Role` and `Rule`: what a column takes; which role is
-//!   a key's and which needs a value
+//! - Offers: [`Name`], [`Keyword`], [`Literal`], [`Text`], [`Op`], and the rule of a column: [`ColType`],
+//!   [`Role`], [`Rule`].
+//! - Callers: `ssb_catalog`, `ssb_tokens`, `ssb_trees` and those above; embedders find them in
+//!   `ssb_cells`, `ssb_load` and `ssb_sql`.
+//! - Apart: the catalog and the query language share these words, and neither needs the other.
+//! - Files: `keyword`, `name`, `text`, `literal`, `operator`, `rule`.
+//! - Definitions: `Keywords`, `Names`, `Roles`.
 #![tactic(auto)]
 
 pub mod keyword;

@@ -3,7 +3,7 @@
 use Rattle.std.specs.Prelude.{◌≡◌, ℕ, List, Some, ⊤}
 use Rattle.std.specs.Map.{lookup}
 use Rattle.std.specs.Str.{bytes_eq}
-use Rattle.ssb_benchmark.specs.Benchmark.{named_texts}
+use Rattle.ssb_words.specs.Benchmark.{named_texts}
 use Rattle.ssb_words.specs.declared.words.QuerySource.{QuerySource}
 use Rattle.ssb_words.specs.declared.words.QuerySource.TheVariants as query
 use Rattle.ssb_words.specs.declared.words.Task.{Task}

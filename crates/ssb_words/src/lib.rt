@@ -1,13 +1,15 @@
 //! The words of the command line: what they ask.
 //!
-//! Words that ask for help have its text as their answer, so the program prints it and knows nothing
-//! of how words are read.
-//!
-//! # Files
-//!
-//! - `src/words.rt`, `specs/Words.antt`: the words of the command line: `task_of`, and the text of help
+//! - Offers: [`task_of`], the task that words ask, or the text of help; [`text_named`], the benchmark's
+//!   thirteen queries by their names.
+//! - Callers: `ssb_cli`.
+//! - Apart: a program is linked whole at each check, so what has much to prove stands in libraries.
+//! - Files: `words`, `benchmark`.
+//! - Definitions: `Words`, `Benchmark`.
 #![tactic(auto)]
 
+mod benchmark;
 pub mod words;
 
+pub use benchmark::text_named;
 pub use words::{QuerySource, Task, WordsFault, task_of};

@@ -3,9 +3,9 @@
 ghost use Rattle.std.specs.Prelude.{IfOk, IfSome};
 ghost use Rattle.ssb_words.specs.Words.{AsksKnownQuery, IsFileOrBenchmark};
 
+use crate::benchmark::text_named;
 use clap::error::ErrorKind;
 use clap::{Arg, ArgAction, ArgMatches, Command, Error};
-use ssb_benchmark::text_named;
 use std::alloc::{AllocError, Global};
 
 /// Where a query's text comes from.

@@ -1,5 +1,5 @@
 use Rattle.std.proofs.Common.{◌≡◌, ◌++◌, drop}
-use Rattle.ssb_judge.specs.Bound.{aggregates_of}
+use Rattle.ssb_bind.specs.Bound.{aggregates_of}
 use Rattle.ssb_bind.proofs.bind_select.aggregates_of.Given as goal
 
 abbrev pub invariant-loop-item : goal.invariant-loop-item

@@ -1,5 +1,5 @@
 use Rattle.std.proofs.Common.{◌≡◌, ◌++◌, drop, map}
-use Rattle.ssb_judge.specs.Columns.{bound_name}
+use Rattle.ssb_bind.specs.Columns.{bound_name}
 use Rattle.ssb_bind.proofs.bind_select.bound_names.Given as goal
 
 abbrev pub invariant-loop-name : goal.invariant-loop-name

@@ -1,5 +1,5 @@
 use Rattle.std.proofs.Common.{◌≡◌, ◌++◌, drop}
-use Rattle.ssb_judge.specs.Rules.{rules_in}
+use Rattle.ssb_bind.specs.Rules.{rules_in}
 use Rattle.ssb_bind.proofs.bind_select.rules_in.Given as goal
 
 abbrev pub invariant-loop-table : goal.invariant-loop-table

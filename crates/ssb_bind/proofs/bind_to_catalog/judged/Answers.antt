@@ -1,5 +1,5 @@
 use Rattle.std.proofs.Common.{ap, ◌∙◌}
-use Rattle.ssb_judge.specs.Columns.{table_numbers}
+use Rattle.ssb_bind.specs.Columns.{table_numbers}
 use Rattle.ssb_bind.proofs.Meaning.{aggregates_are, answers}
 use Rattle.ssb_bind.proofs.bind_to_catalog.judged.Goals as goal
 

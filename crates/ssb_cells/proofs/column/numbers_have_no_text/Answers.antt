@@ -1,5 +1,5 @@
 use Rattle.std.proofs.Common.{◌≡◌, ◌∙◌, ℤ, Bool, true, false, List, [], ◌∷◌, refl, sym, ap}
-use Rattle.ssb_values.specs.Cell.{number}
+use Rattle.ssb_cells.specs.Cell.{number}
 use Rattle.ssb_cells.specs.Tables.{Filled}
 use Rattle.ssb_cells.specs.Codes.{texts_of}
 use Rattle.ssb_cells.specs.Stored.{cells_by, cells_in, kind_of}

@@ -1,7 +1,7 @@
 use Rattle.std.proofs.Common.{◌≡◌, ◌+◌, length, take, vec_len}
 use Rattle.std.specs.List.{All}
 use Rattle.ssb_files.specs.Opening.{AreOpened}
-use Rattle.ssb_sections.specs.Sections.{AreUnread}
+use Rattle.ssb_lanes.specs.Sections.{AreUnread}
 use Rattle.ssb_files.proofs.files.open_all.Given as goal
 
 abbrev pub invariant-loop-table : goal.invariant-loop-table

@@ -1,6 +1,6 @@
 use Rattle.std.proofs.Common.{[], ap, sym}
 use Rattle.std.proofs.lemmas.Option.{get_or_from_slice_get}
-use Rattle.ssb_values.specs.Cell.{text}
+use Rattle.ssb_cells.specs.Cell.{text}
 use Rattle.ssb_cells.specs.Codes.{texts_of}
 use Rattle.ssb_groups.specs.Places.{values_at}
 use Rattle.ssb_groups.proofs.columns.spelt_value.Goals as goal

@@ -1,6 +1,6 @@
 use Rattle.std.proofs.Common.{◌≡◌, ◌∙◌, arith, sym, ap}
 use Rattle.ssb_terms.specs.declared.operator.Adding.{Adding}
-use Rattle.ssb_values.specs.Cell.{Cell}
+use Rattle.ssb_cells.specs.Cell.{Cell}
 use Rattle.ssb_query.specs.declared.column.BoundColumn.{BoundColumn}
 use Rattle.ssb_trees.proofs.Sizes.{chain_size, item_size, negative_size, positive_size, step_size, times_size}
 use Rattle.ssb_trees.specs.declared.expr.Expr.TheFolds.{fold_out-Step}

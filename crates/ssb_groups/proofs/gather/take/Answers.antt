@@ -1,6 +1,6 @@
 use Rattle.std.proofs.Common.{◌≡◌, ◌∙◌, List, [], ◌∷◌, Bool, true, false, refl, Option, None, Some, is_some, not, sym, ap, subst}
 use Rattle.ssb_trees.specs.declared.aggregate.Aggregate.{Aggregate}
-use Rattle.ssb_values.specs.Cell.{Cell}
+use Rattle.ssb_cells.specs.Cell.{Cell}
 use Rattle.ssb_query.specs.declared.column.BoundColumn.{BoundColumn}
 use Rattle.ssb_trees.specs.declared.aggregate.Aggregate.TheVariants as aggregate
 use Rattle.ssb_conditions.specs.Rows.{column_value}

@@ -2,7 +2,7 @@ use Rattle.std.proofs.Common.{◌≡◌, ◌++◌, [], ◌∷◌, List, sym, ap,
 use Rattle.std.specs.List.{IsDistinct}
 use Rattle.std.specs.Map.{keys_of}
 use Rattle.std.proofs.lemmas.List.{map-append}
-use Rattle.ssb_values.specs.Cell.{Cell}
+use Rattle.ssb_cells.specs.Cell.{Cell}
 use Rattle.ssb_groups.specs.Entries.{AreEntries, entries_of, entry_of, totals_in}
 use Rattle.ssb_groups.specs.Joining.{JoinsEach, joinings_of}
 use Rattle.ssb_groups.specs.Keys.{cells_in, key_columns}

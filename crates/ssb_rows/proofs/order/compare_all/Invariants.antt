@@ -1,7 +1,7 @@
 use Rattle.std.proofs.Common.{◌≡◌, map, length}
 use Rattle.std.specs.Cmp.Lexicographic.{slice_cmp}
-use Rattle.ssb_values.specs.Order.{cell_cmp}
-use Rattle.ssb_values.specs.Values.{owned_cell}
+use Rattle.ssb_cells.specs.Order.{cell_cmp}
+use Rattle.ssb_cells.specs.Values.{owned_cell}
 use Rattle.ssb_rows.proofs.order.compare_all.Given as goal
 
 abbrev pub invariant-loop-first : goal.invariant-loop-first

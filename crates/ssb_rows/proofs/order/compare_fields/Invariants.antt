@@ -1,5 +1,5 @@
 use Rattle.std.proofs.Common.{◌≡◌, drop, map}
-use Rattle.ssb_values.specs.Values.{owned_cell}
+use Rattle.ssb_cells.specs.Values.{owned_cell}
 use Rattle.ssb_rows.specs.Order.{row_cmp}
 use Rattle.ssb_rows.proofs.order.compare_fields.Given as goal
 

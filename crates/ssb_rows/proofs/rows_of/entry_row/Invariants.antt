@@ -1,5 +1,5 @@
 use Rattle.std.proofs.Common.{◌≡◌, ◌++◌, drop, map}
-use Rattle.ssb_values.specs.Values.{owned_cell}
+use Rattle.ssb_cells.specs.Values.{owned_cell}
 use Rattle.ssb_rows.specs.Entries.{entry_cell, seen}
 use Rattle.ssb_rows.proofs.rows_of.entry_row.Given as goal
 

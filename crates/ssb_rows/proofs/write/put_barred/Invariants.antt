@@ -1,5 +1,5 @@
 use Rattle.std.proofs.Common.{map, length}
-use Rattle.ssb_values.specs.Values.{owned_cell}
+use Rattle.ssb_cells.specs.Values.{owned_cell}
 use Rattle.ssb_rows.specs.Text.{cell_text}
 use Rattle.ssb_rows.specs.Writing.{barred, desk}
 use Rattle.ssb_rows.proofs.Going.{Going}

@@ -1,7 +1,7 @@
 use Rattle.std.proofs.Common.{◌≡◌, ◌∙◌, ◌<◌, length, get_or, ap, arith, rules, Some, w64, to_z, of_z}
 use Rattle.std.specs.Prelude.{slice_get}
 use Rattle.std.proofs.lemmas.Option.{slice_get-get_or}
-use Rattle.ssb_values.specs.Cell.{number}
+use Rattle.ssb_cells.specs.Cell.{number}
 use Rattle.ssb_cells.specs.Stored.{cells_in, count_in}
 use Rattle.ssb_cells.proofs.ColumnFacts.{below-at, cells-len, null-in, text-in, value-at}
 use Rattle.ssb_cells.proofs.column.Column.get.Goals as goal

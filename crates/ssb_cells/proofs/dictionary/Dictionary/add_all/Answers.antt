@@ -2,7 +2,7 @@ use Rattle.std.proofs.Common.{◌∙◌, length, take, sym, ap, arith}
 use Rattle.std.proofs.lemmas.List.{length-take-le}
 use Rattle.std.proofs.lemmas.Option.{slice_get_within}
 use Rattle.ssb_cells.specs.Codes.{with_text}
-use Rattle.ssb_values.specs.Cell.{text}
+use Rattle.ssb_cells.specs.Cell.{text}
 use Rattle.ssb_cells.specs.Joined.{with_texts}
 use Rattle.ssb_cells.proofs.JoinFacts.{length-both, recodes-more, with-one}
 use Rattle.ssb_packed.proofs.Loops.{one-more}

@@ -1,5 +1,5 @@
 use Rattle.std.proofs.Common.{◌∙◌, ◌++◌, List, length, sym, ap, arith, length-append}
-use Rattle.ssb_values.specs.Cell.{Cell}
+use Rattle.ssb_cells.specs.Cell.{Cell}
 use Rattle.ssb_cells.specs.Tables.{Filled}
 use Rattle.ssb_cells.specs.Parts.{values_of}
 use Rattle.ssb_cells.proofs.PartFacts.{all-joined, next-fits, next-rest, values-more}

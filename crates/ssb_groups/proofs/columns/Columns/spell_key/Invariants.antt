@@ -1,5 +1,5 @@
 use Rattle.std.proofs.Common.{◌≡◌, ◌++◌, drop, map}
-use Rattle.ssb_values.specs.Values.{cell_of}
+use Rattle.ssb_cells.specs.Values.{cell_of}
 use Rattle.ssb_groups.specs.Keys.{cells_in, key_columns, spelt}
 use Rattle.ssb_groups.proofs.columns.Columns.spell_key.Given as goal
 

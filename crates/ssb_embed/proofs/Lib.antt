@@ -1,3 +1,0 @@
-mod Fresh
-mod InMemory
-mod WorkedOff

@@ -1,7 +1,0 @@
-use Rattle.std.proofs.Common.{◌≡◌, fold, drop}
-use Rattle.ssb_judge.specs.Columns.{and_one}
-use Rattle.ssb_judge.specs.Columns.{fitting}
-use Rattle.ssb_judge.proofs.resolve.and_fitting.Given as goal
-
-abbrev pub invariant-loop-at : goal.invariant-loop-at
-invariant-loop-at l = fold and_one l.fit (fitting l.name l.table l.at (drop l.at l.all)) ≡ fold and_one l.fn.found (fitting l.name l.table 0 l.all)

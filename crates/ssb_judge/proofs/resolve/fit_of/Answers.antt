@@ -1,7 +1,0 @@
-use Rattle.ssb_judge.specs.Columns.{columns_for}
-use Rattle.ssb_judge.proofs.Counting.{fit_of-fold}
-use Rattle.ssb_judge.proofs.resolve.fit_of.Goals as goal
-
-pub loop-place-init : goal.loop-place-init
-unfolding columns_for
-loop-place-init c = fit_of-fold _

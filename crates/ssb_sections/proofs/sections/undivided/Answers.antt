@@ -1,5 +1,0 @@
-use Rattle.ssb_sections.proofs.SpanFacts.{one-size}
-use Rattle.ssb_sections.proofs.sections.undivided.Goals as goal
-
-pub returns-clause-divided : goal.returns-clause-divided
-returns-clause-divided g c = rw c.new.ensures.items (one-size _)

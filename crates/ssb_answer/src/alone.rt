@@ -64,7 +64,7 @@ pub fn answer_job(
 
 // What a text asks of these tables, worked out in this thread. The job is let go by a call, since the
 // prover writes out all that it holds where a scope's end lets go of it.
-#[tactic(auto, using(ssb_answer::proofs::Asking::unasked, ssb_answer::proofs::Asking::answered, ssb_answer::proofs::Asking::refused))]
+#[tactic(auto, using(crate::proofs::Asking::unasked, crate::proofs::Asking::answered, crate::proofs::Asking::refused))]
 fn answer_text(
     alloc: Global,
     catalog: &Catalog,
@@ -84,14 +84,14 @@ fn answer_text(
 }
 
 /// Answers a query over the tables of a catalog, each of what its source gives, in the catalog's order,
-/// and writes the answer's rows, as [`run_from`](ssb_answer::run_from) does. The caller's thread does all
+/// and writes the answer's rows, as [`run_from`](crate::run_from) does. The caller's thread does all
 /// of it, and waits for nobody. It reads each source in pieces of `piece_size` bytes, or more
 /// where a line is longer, and works through the fact table in morsels of `morsel_size` rows. Neither
 /// size changes an answer.
 ///
 /// # Errors
 ///
-/// As of [`run_from`](ssb_answer::run_from).
+/// As of [`run_from`](crate::run_from).
 pub fn run_alone_from<S: Source, W: Sink>(
     alloc: Global,
     catalog: Catalog,

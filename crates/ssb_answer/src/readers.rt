@@ -95,7 +95,7 @@ pub fn run_alone<R: Read + Drop, W: Sink>(
     )
 }
 
-/// Answers a query over readers by workers in threads of their own: [`run_from`](ssb_answer::run_from) over
+/// Answers a query over readers by workers in threads of their own: [`run_from`](crate::run_from) over
 /// the readers.
 ///
 /// # Errors

@@ -1,4 +1,11 @@
 // Reading a table of several sources, each by a thread of its own.
+//
+// `load_with` asks the `Joined` to read together what it joins. `read_each` gives each source to a
+// thread, which makes a `Part` of it: the bytes up to the first line feed, the rows of the whole lines,
+// and what is left. `add_all` puts the parts into an `Assembly`, in the order of the sources; there the
+// line over a cut is read, faults get their number in the whole, and rows are counted against the limit.
+// `join_parts` makes one column of each column's parts. Where the table has a key, there is one source
+// alone, or the sources were read before, `load_with` is `load_from`.
 
 ghost use Rattle.std.specs.Prelude.{◌<◌, length};
 ghost use Rattle.ssb_load.specs.Loading.{LoadsFrom, rules_at};

@@ -1,4 +1,11 @@
 // One section's part of the work.
+//
+// A morsel goes this way: `Part::hand_out` gives the ticket of the least one that was not handed out,
+// `Partial::of` probes its rows into groups of its own, and `Part::give_back` merges these into the
+// part's and marks the morsel. `Partial::of_all` does the same of several tickets, which then come back
+// whole or not at all. `Part::work_off` goes this way with morsel after morsel in the caller's thread,
+// until no ticket comes; `Part::sweep` does what is left of a section, also what was handed out and did
+// not come back.
 
 ghost use Rattle.std.specs.Prelude.{◌≡◌, ◌<◌, ◌≤◌, ◌-◌, ◌&&◌, ℕ, true, false, not, IfOk, OnErr, OnOk, length};
 ghost use Rattle.std.specs.List.{All, list_all, list_any, range_with_len};

@@ -1,4 +1,10 @@
 // A worker: it goes round the sections, and does batch after batch of morsels.
+//
+// It takes the part of its own section from its queue, gets tickets, puts the part back, probes while it
+// holds no part, takes the part again and gives the partial back; once the section has no ticket left it
+// goes on to the next, in a circle. Where memory is refused it gives its tickets up, and the part hands
+// out no other. What it was handed, and is neither back nor given up, is due to its pass: the rule of the
+// queue says that it is out in the part, so that its return is refused for want of memory alone.
 
 ghost use Rattle.std.specs.Prelude.{◌≡◌, ◌<◌, ℕ, length, slice_index_or, All, IfOk, IsFalse, IsTrue};
 ghost use Rattle.ssb_pipeline.specs.Pass.{HoldsNone, IsPassOfParts, PassState, known};

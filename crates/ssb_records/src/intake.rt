@@ -1,4 +1,10 @@
 // The records of a source, piece by piece, and what takes them.
+//
+// A `Source` gives bytes, `Pieces` cuts them behind line feeds, `csv` reads the records of a piece, and
+// an `Intake` takes these one by one. The loops are thin and generic in the source and the intake; each
+// record goes to a function without type parameters that has the contract. What a record may be wrong in
+// is the intake's own matter: its `Judge` says when records are good, and which fault the first faulty
+// one has, and the loops speak of that alone.
 
 ghost use Rattle.std.specs.Prelude.{◌≡◌, ◌+◌, ◌<◌, ◌^◌, ◌++◌, ◌∷◌, [], ℕ, List, length, OnOk, IfErr};
 ghost use Rattle.csv.specs.Records.{fields_of};

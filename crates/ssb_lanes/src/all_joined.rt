@@ -1,4 +1,8 @@
 // Loading the tables of a catalog, each of several sources, at the same time.
+//
+// `load_all_with` cuts the list of tables in half and loads the first half by a thread of its own beside
+// the second, and so on down to one table; the fact table starts its own threads from there. A thread
+// that can't be made is no fault: the half is loaded by the thread that asked for it.
 
 ghost use Rattle.std.specs.Prelude.{◌≡◌, ◌<◌, ◌∷◌, [], IfErr, IfOk, List, OnOk, Some, length, map};
 ghost use Rattle.std.specs.Thread.{IsSend, IsSync};

@@ -24,7 +24,7 @@ BOXES = [
     (220, 40, 170, 64, STAGE, ["read the query", "ssb_tokens, ssb_sql", "gives a Select"]),
     (220, 120, 170, 64, STAGE, ["read the catalog", "ssb_catalog", "gives a Catalog"]),
     (220, 200, 170, 64, STAGE, ["load the tables", "ssb_lanes, ssb_load", "gives Tables"]),
-    (440, 60, 170, 84, STAGE, ["bind names", "ssb_judge: refusals", "ssb_bind: meaning", "gives a Query"]),
+    (440, 60, 170, 84, STAGE, ["bind names", "ssb_bind", "refusals, or the meaning", "gives a Query"]),
     (440, 180, 170, 84, STAGE, ["plan", "ssb_conditions, ssb_job", "indexes, tests of columns", "gives a Job"]),
     (660, 180, 210, 84, STAGE, ["group", "ssb_pipeline, ssb_groups", "workers take morsels of fact rows", "gives Groups"]),
     (660, 60, 210, 84, STAGE, ["order and write", "ssb_rows", "HAVING, ORDER BY, text", "to the output"]),
@@ -62,7 +62,7 @@ ARROWS = [
 TITLES = [("A run: from files to rows", 20, 24), ("Grouping: the way of a ticket", 20, 330)]
 NOTES = [
     "A worker goes round the sections, its own first, and holds a part only while it asks or brings back.",
-    "run_from (ssb_answer) does all of this over threads; run_alone_from (ssb_embed) in the caller's thread.",
+    "run_from (ssb_answer) does all of this over threads; run_alone_from in the caller's thread.",
     "The first fault ends a run, and nothing is written before the answer is complete.",
 ]
 

@@ -3,7 +3,7 @@
 import re
 from pathlib import Path
 
-SOURCE = Path(__file__).resolve().parent.parent / "crates" / "ssb_benchmark" / "specs" / "Benchmark.antt"
+SOURCE = Path(__file__).resolve().parent.parent / "crates" / "ssb_words" / "specs" / "Benchmark.antt"
 
 # A definition's clause: its name, what it takes, and all that follows.
 CLAUSE = re.compile(r"^(q\d_\d|sales_\w+)((?: \w+)*) =\n?((?: .*\n)+)", re.M)

@@ -21,9 +21,11 @@ BUILT_IN = CRATES / "ssb_catalog" / "specs" / "BuiltIn.antt"
 CATALOG = ROOT / "examples" / "ssb.catalog"
 
 MOST_WORDS = 21_000
+MOST_HEAD_LINES = 12
 
 # What no limit of the product stands in: what only tests and measures, and the texts of the benchmark's queries.
-NO_LIMITS = {"ssb_tests", "ssb_refusals", "ssb_bench", "ssb_benchmark"}
+NO_LIMITS = {"ssb_tests", "ssb_refusals", "ssb_bench", "ssb_example"}
+BENCHMARK = ("benchmark.rt", "Benchmark.antt")
 
 QUOTED = re.compile(r"`([^`]+)`")
 ITEM = re.compile(r"[A-Za-z_][\w]*")
@@ -103,7 +105,8 @@ def sources():
     """The definitions and the code that limits stand in."""
     for crate in sorted(CRATES.iterdir()):
         if crate.name not in NO_LIMITS:
-            yield from sorted([*crate.glob("src/**/*.rt"), *crate.glob("specs/**/*.antt")])
+            files = sorted([*crate.glob("src/**/*.rt"), *crate.glob("specs/**/*.antt")])
+            yield from (path for path in files if crate.name != "ssb_words" or path.name not in BENCHMARK)
 
 
 def limits():
@@ -133,33 +136,31 @@ def wrong_in_limits():
             yield f"{number} does not stand in {name}"
 
 
+def root_of(crate):
+    """The root file of a crate."""
+    return next(path for path in (crate / "src" / "lib.rt", crate / "src" / "main.rt") if path.exists())
+
+
 def files_listed(crate):
-    """The files that the head of a crate's root lists: paths below the crate; a `*` stands for any letters."""
-    root = next(path for path in (crate / "src" / "lib.rt", crate / "src" / "main.rt") if path.exists())
-    listed = []
-    folder = ""
-    _, _, after = text_of(root).split("#![tactic(auto)]")[0].partition("//! # Files\n")
-    joined = re.sub(r"\n//!   ", " ", after)
-    for line in joined.splitlines():
-        if line.startswith("//! - "):
-            for name in re.match(r"//! - ((?:`[^`]+`,? ?)+):", line)[1].replace("`", "").split(", "):
-                folder, name = name.rsplit("/", 1) if "/" in name else (folder, name)
-                listed.append(f"{folder}/{name}")
-    return listed
+    """The files that the head of a crate's root lists: the code under `Files:`, the definitions under `Definitions:`."""
+    head = text_of(root_of(crate)).split("#![tactic(auto)]")[0]
+    for line in re.sub(r"\n//!   ", " ", head).splitlines():
+        for label, folder, ending in (("Files", "src", ".rt"), ("Definitions", "specs", ".antt")):
+            if line.startswith(f"//! - {label}: "):
+                yield from (f"{folder}/{name}{ending}" for name in QUOTED.findall(line))
 
 
 def wrong_in_file_lists():
-    """Files that a crate lists and does not have, and those that it has and does not list."""
+    """Files that a crate lists and does not have, and those that it has and does not list; heads that are long."""
     for crate in sorted(path for path in CRATES.iterdir() if (path / "src").is_dir()):
-        listed = set()
-        for name in files_listed(crate):
-            paths = list(crate.glob(name))
-            if not paths:
-                yield f"{crate.name} lists {name}, which is not there"
-            listed.update(paths)
+        listed = set(files_listed(crate))
+        yield from (f"{crate.name} lists {name}, which is not there" for name in listed if not (crate / name).exists())
         for path in sorted([*crate.glob("src/**/*.rt"), *crate.glob("specs/**/*.antt")]):
-            if path.name not in ("lib.rt", "main.rt", "Lib.antt") and path not in listed:
+            if path.name not in ("lib.rt", "main.rt", "Lib.antt") and str(path.relative_to(crate)) not in listed:
                 yield f"{crate.name} does not list {path.relative_to(crate)}"
+        length = text_of(root_of(crate)).count("//!")
+        if root_of(crate).name == "lib.rt" and length > MOST_HEAD_LINES:
+            yield f"{crate.name}'s head has {length} lines"
 
 
 def wrong_in_definitions():

@@ -5,3 +5,4 @@ mod Keyed
 pub mod Running
 mod WorkedOff
 pub mod WrittenBack
+pub use Rattle.ssb_lanes.proofs.Crossing

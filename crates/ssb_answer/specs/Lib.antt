@@ -5,7 +5,9 @@ pub use Rattle.ssb_catalog.specs.Catalog
 pub use Rattle.ssb_groups.specs.Stands
 pub use Rattle.ssb_job.specs.Kept
 pub use Rattle.ssb_lanes.specs.Joined
+pub use Rattle.ssb_lanes.specs.Sections
 pub use Rattle.ssb_load.specs.Files
+pub use Rattle.ssb_load.specs.Loading
 pub use Rattle.ssb_records.specs.Giving
 pub use Rattle.ssb_records.specs.Readers as RecordReaders
 pub use Rattle.ssb_reply.specs.FaultLine

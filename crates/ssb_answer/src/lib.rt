@@ -18,7 +18,7 @@ mod whole;
 pub use alone::{answer_job, run_alone_from};
 pub use bytes::answer_bytes;
 pub use readers::{run, run_alone};
-pub use ssb_lanes::Joined;
+pub use ssb_lanes::{Joined, Section, load_all_with, load_with, sections_of};
 pub use ssb_load::{In, Source};
 pub use ssb_pipeline::{Gate, NoGate};
 pub use ssb_reply::{RunFault, Settings, run_line};

@@ -2,8 +2,8 @@
 
 ghost use Rattle.std.specs.Prelude.{◌≡◌, IfSome, length, vec_len};
 
-use ssb_catalog::{Catalog, TableDef};
-use ssb_lanes::{Joined, Section, sections_of};
+use ssb_answer::{Joined, Section, sections_of};
+use ssb_load::{Catalog, TableDef};
 use std::alloc::Global;
 use std::fs;
 use std::rt::Files;

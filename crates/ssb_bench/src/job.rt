@@ -1,16 +1,14 @@
 // The job of a query over the tables of a folder, and how long something took.
 
 ghost use Rattle.std.specs.Prelude.{IfSome};
-ghost use Rattle.ssb_catalog.specs.Catalog.{IsCatalog};
+ghost use Rattle.ssb_load.specs.Catalog.{IsCatalog};
 ghost use Rattle.ssb_load.specs.Files.{AreLawful};
 
 use crate::folder::{catalog_in, sources_of};
 use ssb_answer::job_of_text;
-use ssb_catalog::Catalog;
 use ssb_cells::Table;
 use ssb_job::Job;
-use ssb_load::load_all;
-use ssb_records::PIECE_SIZE;
+use ssb_load::{Catalog, PIECE_SIZE, load_all};
 use std::alloc::Global;
 use std::fs;
 use std::rt::{Clock, Files};

@@ -4,9 +4,8 @@ ghost use Rattle.std.specs.Prelude.{◌≡◌, length};
 
 use crate::folder::{catalog_in, sources_of};
 use crate::job::micros_since;
-use ssb_catalog::Catalog;
-use ssb_lanes::{Joined, load_all_with};
-use ssb_records::{In, PIECE_SIZE};
+use ssb_answer::{Joined, load_all_with};
+use ssb_load::{Catalog, In, PIECE_SIZE};
 use std::fs::File;
 use std::io::Read;
 use std::rt::{Clock, Files};

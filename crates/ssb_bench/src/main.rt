@@ -12,15 +12,8 @@
 //! The catalog of a folder lies in it as `catalog`. The status is 1 where a file or a growth failed, or
 //! a file is not what it should be, and 2 where the words are others.
 //!
-//! # Files
-//!
-//! - `src/folder.rt`: the files of a folder: the catalog, and a source for each table, the fact table's
-//!   joined of several sections
-//! - `src/read.rt`: the records of a file, counted
-//! - `src/load.rt`: loading alone, timed
-//! - `src/job.rt`: the job of a query over the tables of a folder; how long ago a moment was
-//! - `src/run.rt`: the answers of a job, timed, by the caller's thread or by workers
-//! - `src/main.rt`: the words of the command line, and what is printed
+//! - Files: `folder`, the files of a folder; `read`, records counted; `load`, loading alone; `job`, the job of a
+//!   query; `run`, its answers, timed.
 #![tactic(auto)]
 
 mod folder;
@@ -32,7 +25,7 @@ mod run;
 use load::loading_time;
 use read::count_records;
 use run::{By, own_time};
-use ssb_reply::Settings;
+use ssb_answer::Settings;
 use std::alloc::AllocError;
 use std::fs::File;
 use std::process::ExitCode;

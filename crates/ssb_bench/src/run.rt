@@ -1,10 +1,8 @@
 // A query's own time: the answer of its job, whose tables are loaded and whose indexes are built once.
 
 use crate::job::{job_in, micros_since};
-use ssb_answer::{NoGate, answer_job, answer_shared};
+use ssb_answer::{Answer, AnswerFault, NoGate, Settings, answer_job, answer_shared};
 use ssb_job::Job;
-use ssb_reply::Settings;
-use ssb_rows::{Answer, AnswerFault};
 use std::alloc::Global;
 use std::rt::{Clock, Files};
 use std::sync::{Arc, Wait};

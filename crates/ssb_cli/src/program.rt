@@ -5,16 +5,12 @@
 ghost use Rattle.std.specs.Prelude.{◌≡◌, ◌⊎◌, IfOk, length, vec_len};
 ghost use Rattle.ssb_files.specs.Faults.{IsStatus, out_of_memory, program_status};
 
-use ssb_answer::{NoGate, query_of, run_from};
-use ssb_catalog::Catalog;
+use ssb_answer::{AnswerFault, Joined, NoGate, Out, RunFault, Settings, query_of, run_from};
 use ssb_files::{
-    OUT_OF_MEMORY, ProgramFault, Section, catalog_of, names_of, open_all, program_line,
-    program_status_of, read_query,
+    MEMORY_LINE, OUT_OF_MEMORY, ProgramFault, Section, catalog_of, names_of, open_all,
+    program_line, program_status_of, read_query,
 };
-use ssb_lanes::Joined;
-use ssb_records::Source;
-use ssb_reply::{MEMORY_LINE, RunFault, Settings};
-use ssb_rows::{AnswerFault, Out};
+use ssb_load::{Catalog, Source};
 use ssb_words::{QuerySource, Task, WordsFault, task_of};
 use std::alloc::{AllocError, Global};
 use std::fs::File;

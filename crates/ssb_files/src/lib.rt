@@ -16,3 +16,4 @@ pub use fault::ProgramFault;
 pub use files::{catalog_of, names_of, open_all, read_query};
 pub use report::{OUT_OF_MEMORY, program_line, program_status_of};
 pub use ssb_lanes::Section;
+pub use ssb_reply::MEMORY_LINE;

@@ -1,9 +1,7 @@
 // How a trial ends.
 
-use ssb_load::FileFault;
-use ssb_records::LoadFault;
-use ssb_reply::RunFault;
-use ssb_rows::AnswerFault;
+use ssb_answer::{AnswerFault, RunFault};
+use ssb_load::{FileFault, LoadFault};
 use std::alloc::AllocError;
 
 /// How a trial ended that came to its end.

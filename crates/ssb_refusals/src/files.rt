@@ -5,10 +5,8 @@ ghost use Rattle.std.specs.List.{All};
 
 use crate::ends::Stop;
 use ssb_answer::job_of_text;
-use ssb_catalog::Catalog;
 use ssb_job::Job;
-use ssb_load::load_all;
-use ssb_records::{In, PIECE_SIZE};
+use ssb_load::{Catalog, In, PIECE_SIZE, load_all};
 use std::alloc::{AllocError, Global};
 use std::sync::Arc;
 

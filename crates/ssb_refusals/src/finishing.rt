@@ -5,15 +5,14 @@ ghost use Rattle.std.specs.Arc.{arc_value};
 ghost use Rattle.ssb_groups.specs.Stands.{Stands};
 ghost use Rattle.ssb_job.specs.Kept.{AreOneJob};
 ghost use Rattle.ssb_pipeline.specs.Pass.{HoldsNone, IsPassOfParts};
-ghost use Rattle.ssb_reply.specs.Reply.{seen_rows};
+ghost use Rattle.ssb_answer.specs.Reply.{seen_rows};
 
 use crate::ends::{Done, Stop};
 use crate::files::small_job;
-use ssb_answer::answer_of_groups;
+use ssb_answer::{Out, answer_of_groups, write_answer};
 use ssb_groups::Groups;
 use ssb_job::Job;
 use ssb_pipeline::{NoGate, Parts, PartsPass, finish, work};
-use ssb_rows::{Out, write_answer};
 use std::alloc::Global;
 use std::io::Write;
 use std::sync::{Arc, Wait};

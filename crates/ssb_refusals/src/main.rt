@@ -15,13 +15,8 @@
 //! another growth was refused, and `wrong` where something came that may not come. The status is 1 where
 //! nothing could be printed, and 2 where a word names no trial.
 //!
-//! # Files
-//!
-//! - `src/ends.rt`: how a trial ends
-//! - `src/files.rt`, `numbers.rt`: the small tables and their query; a table whose rows are 40 groups
-//! - `src/runs.rt`, `finishing.rt`: the trials that print rows; that of finishing
-//! - `src/layers.rt`: those of calls that hand back what they were given
-//! - `src/main.rt`: the words of the command line, and what is printed
+//! - Files: `ends`, how a trial ends; `files`, `numbers`, the tables; `runs`, `finishing`, the trials that print
+//!   rows; `layers`, those of calls that hand back what they were given.
 #![tactic(auto)]
 
 mod ends;

@@ -6,7 +6,7 @@ use crate::files::job_over;
 use ssb_cells::Value;
 use ssb_groups::{Group, Groups, Total};
 use ssb_job::Job;
-use ssb_records::In;
+use ssb_load::In;
 use std::alloc::{AllocError, Global};
 use std::sync::Arc;
 

@@ -2,13 +2,9 @@
 
 use crate::ends::{Done, Stop};
 use crate::files::{CATALOG, DATES, FACTS, REVENUE, SUPPLIERS, readers, sources};
-use ssb_answer::{run, run_alone, run_alone_from, run_from};
-use ssb_catalog::Catalog;
-use ssb_lanes::Joined;
+use ssb_answer::{Joined, Out, Settings, run, run_alone, run_alone_from, run_from};
+use ssb_load::{Catalog, In};
 use ssb_pipeline::NoGate;
-use ssb_records::In;
-use ssb_reply::Settings;
-use ssb_rows::Out;
 use std::alloc::{AllocError, Global};
 use std::io::{Read, Write};
 use std::sync::Wait;

@@ -1,6 +1,6 @@
 use denote.Param.Send.{sendable}
 use Rattle.std.proofs.Crossing.{crosses}
-use Rattle.ssb_lanes.proofs.Crossing.{file_send, in_send, take_send}
+use Rattle.ssb_answer.proofs.Crossing.{file_send, in_send, take_send}
 use Rattle.ssb_cli.proofs.program.print_answer.Goals as goal
 
 pub write_answer-requires-send-S : goal.write_answer-requires-send-S

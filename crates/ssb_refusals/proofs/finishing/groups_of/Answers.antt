@@ -1,7 +1,7 @@
 use Rattle.std.proofs.Common.{◌∙◌, IfOk, subst}
 use Rattle.ssb_groups.specs.Stands.{Stands}
 use Rattle.ssb_job.specs.Kept.{AreOneJob, JobShape}
-use Rattle.ssb_reply.specs.Reply.{seen_rows}
+use Rattle.ssb_answer.specs.Reply.{seen_rows}
 use Rattle.ssb_refusals.proofs.finishing.groups_of.Goals as goal
 
 pub returns-clause-stands : goal.returns-clause-stands

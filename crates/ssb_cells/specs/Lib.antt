@@ -1,3 +1,4 @@
+pub mod Building
 pub mod Cell
 pub mod Codes
 pub mod Compare

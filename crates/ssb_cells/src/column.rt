@@ -43,8 +43,8 @@ impl Drop for Stored {
 /// is kept once, and each row has its code, in the least bytes that hold them all. Nulls take no memory
 /// until there is one, and then a bit for each row.
 pub struct Column {
-    nulls: Nulls,
-    stored: Stored,
+    pub(crate) nulls: Nulls,
+    pub(crate) stored: Stored,
 }
 
 // Written out, so that the crates above need no proof of how its parts are let go.
@@ -65,7 +65,7 @@ impl Model for Column {
 }
 
 // The number that a value is, or 0 where it is none.
-fn number_in(value: Value<'_>) -> i64
+pub(crate) fn number_in(value: Value<'_>) -> i64
     ensures { result ≡ number_in value.entry }
 {
     match value {

@@ -11,6 +11,7 @@
 //!   kept.
 #![tactic(auto)]
 
+pub mod builder;
 pub mod column;
 mod dictionary;
 pub mod order;
@@ -21,6 +22,7 @@ mod texts;
 pub mod truth;
 pub mod value;
 
+pub use builder::ColumnBuilder;
 pub use column::{Column, codes_tell_texts, numbers_have_no_text};
 pub use order::{compare, sort_cmp};
 pub use owned::OwnedValue;

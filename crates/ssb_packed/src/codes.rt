@@ -14,7 +14,7 @@ use std::marker::Model;
 /// while all are below 256.
 pub struct Codes {
     // For each the number that is 128 less.
-    numbers: Numbers,
+    pub(crate) numbers: Numbers,
 }
 
 // Written out, so that what lets go of one need not say how its parts are let go.
@@ -35,7 +35,7 @@ impl Model for Codes {
 }
 
 // The number that is kept for a code.
-fn number_of(code: u32) -> i64
+pub(crate) fn number_of(code: u32) -> i64
     ensures { kept_code result ≡ code }
 {
     i64::from(code) - i64::from(BELOW_CODE)

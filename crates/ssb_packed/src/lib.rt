@@ -10,12 +10,14 @@
 //! - Definitions: `Narrow`, `Recoded`, `Flags`, `Lent`.
 #![tactic(auto)]
 
+pub mod builder;
 mod codes;
 pub mod lent;
 mod nulls;
 mod numbers;
 mod width;
 
+pub use builder::{CodesBuilder, NumbersBuilder};
 pub use codes::Codes;
 pub use lent::{CodeSlice, NumberSlice, flag_at};
 pub use nulls::Nulls;

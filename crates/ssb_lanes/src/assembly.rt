@@ -142,7 +142,7 @@ impl Assembly {
     {
         let last = mem::replace(&mut self.last, rows);
         self.earlier += last.accepted;
-        put(&mut self.done, last.into_columns())?;
+        put(&mut self.done, last.into_columns().map_err(|_| LoadFault::Memory)?)?;
         self.check_limit()
     }
 
@@ -232,7 +232,7 @@ impl Assembly {
             pending: _,
             is_cut: _,
         } = self;
-        put(&mut done, last.into_columns())?;
+        put(&mut done, last.into_columns().map_err(|_| LoadFault::Memory)?)?;
         Ok(done)
     }
 }

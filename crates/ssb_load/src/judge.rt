@@ -44,7 +44,7 @@ pub fn key_place(rules: &[Rule]) -> Option<usize>
 }
 
 // The number in a record's field.
-fn number_in_field(place: Option<usize>, row: &ByteRecord) -> Option<i64>
+pub(crate) fn number_in_field(place: Option<usize>, row: &ByteRecord) -> Option<i64>
     requires { list_all is_utf8 (fields_of row.now) ≡ true }
     ensures { result ≡ number_at place (fields_of row.now) }
 {

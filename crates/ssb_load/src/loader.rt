@@ -1,6 +1,6 @@
 // A table on its way, record by record.
 
-ghost use Rattle.std.specs.Prelude.{◌≡◌, ◌+◌, ◌<◌, ◌^◌, ◌||◌, [], true, false, not, is_none, if◌then◌else◌, IfOk, IfErr, IfSome, OnOk, None, vec_len};
+ghost use Rattle.std.specs.Prelude.{◌≡◌, ◌+◌, ◌<◌, ◌^◌, [], true, false, not, IfOk, IfErr, OnOk, None, vec_len};
 ghost use Rattle.std.specs.List.{list_all};
 ghost use Rattle.std.specs.Str.{is_utf8};
 ghost use Rattle.csv.specs.Records.{fields_of};
@@ -8,13 +8,12 @@ ghost use Rattle.ssb_cells.specs.Tables.{AreLong, rows_in};
 ghost use Rattle.ssb_terms.specs.Roles.{key_place};
 ghost use Rattle.ssb_load.specs.Rules.{any_from, key_of, columns_of};
 ghost use Rattle.ssb_load.specs.Tables.{repeats};
-ghost use Rattle.ssb_load.specs.Loader.{seen_in, AddsKey, AreSized, IsFaultBy, fails_some, fault_by, is_place, number_told, with_record};
+ghost use Rattle.ssb_load.specs.Loader.{seen_in, AddsKey, AreSized, IsFaultBy, fails_some, fault_by, with_record};
 
-use crate::judge::refuse;
-use crate::number::number;
+use crate::judge::{number_in_field, refuse};
 use crate::value::value_of;
 use csv::ByteRecord;
-use ssb_cells::{Column, Table, Value};
+use ssb_cells::{Column, ColumnBuilder, Table};
 use ssb_records::{LoadFault, field_text, is_all_text, is_wide};
 use ssb_terms::Rule;
 use std::alloc::{AllocError, Global};
@@ -22,7 +21,7 @@ use std::collections::HashSet;
 
 pub(crate) struct Loader {
     seen: HashSet<i64>,
-    columns: Vec<Column>,
+    columns: Vec<ColumnBuilder>,
 }
 
 // Written out, so that what lets go of one need not say how its parts are let go.
@@ -34,67 +33,28 @@ impl Drop for Loader {
     }
 }
 
-// The number that a field's value is. A text may spell one, where a key is no number.
-fn number_told(value: Value<'_>) -> Option<i64>
-    ensures { result ≡ number_told value.entry }
-{
-    match value {
-        Value::Null => None,
-        Value::Int(number) => Some(number),
-        Value::Text(text) => number(text),
-    }
-}
-
-fn is_place(key: Option<usize>, k: usize) -> bool
-    ensures { result ≡ is_place key k }
-{
-    match key {
-        Some(at) => at == k,
-        None => false,
-    }
-}
-
-// The key found so far, or that of one more field.
-fn key_with(found: Option<i64>, is_key: bool, value: Value<'_>) -> Option<i64>
-    ensures { result ≡ (if is_key then number_told value.entry else found) }
-{
-    if is_key { number_told(value) } else { found }
-}
-
-// A record whose fields all passed.
-#[derive(Clone, Copy)]
-struct Taken {
-    // Its key, where the table has one.
-    key: Option<i64>,
-}
-
 // Puts each field of a record into its column, or stops at one that fails a test.
+#[inline(never)]
 fn push_fields(
-    columns: &mut Vec<Column>,
+    columns: &mut Vec<ColumnBuilder>,
     rules: &[Rule],
-    key: Option<usize>,
     count: u64,
     row: &ByteRecord,
-) -> Result<Option<Taken>, AllocError>
+) -> Result<bool, AllocError>
     requires text { list_all is_utf8 (fields_of row.now) ≡ true }
     requires sized { AreSized count rules.now columns.old.items }
     requires room { count < 4294967295 }
-    requires key { key ≡ key_place rules.now }
-    ensures fails { IfOk result (λ taken. any_from fails_some 0 rules.now (fields_of row.now) ≡ is_none taken) }
-    ensures pushed { IfOk result (λ taken. IfSome taken (λ t. columns.new.items ≡ with_record rules.now columns.old.items (fields_of row.now))) }
-    ensures key { IfOk result (λ taken. IfSome taken (λ t. t.key ≡ key_of rules.now (fields_of row.now))) }
+    ensures fails { IfOk result (λ passed. any_from fails_some 0 rules.now (fields_of row.now) ≡ not passed) }
+    ensures pushed { IfOk result (λ passed. passed ≡ true → columns.new.items ≡ with_record rules.now columns.old.items (fields_of row.now)) }
 {
-    let mut found = None;
     for k in 0..rules.len() {
-        let rule = rules[k];
-        let Some(value) = value_of(rule, field_text(row, k)) else {
-            return Ok(None);
+        let Some(value) = value_of(rules[k], field_text(row, k)) else {
+            return Ok(false);
         };
-        found = key_with(found, is_place(key, k), value);
         let column = &mut columns[k];
         column.push(value)?;
     }
-    Ok(Some(Taken { key: found }))
+    Ok(true)
 }
 
 // Puts a key among those that were seen, if there is one and it is new.
@@ -113,15 +73,26 @@ fn add_key(seen: &mut HashSet<i64>, key: Option<i64>) -> Result<bool, AllocError
     Ok(true)
 }
 
+// The columns that were under construction.
+fn built(builders: Vec<ColumnBuilder>) -> Result<Vec<Column>, AllocError>
+    ensures { IfOk result (λ columns. columns.items ≡ builders.items) }
+{
+    let mut columns = Vec::new(*builders.allocator());
+    for builder in builders {
+        columns.push(builder.into_column()?)?;
+    }
+    Ok(columns)
+}
+
 impl Loader {
     pub(crate) fn new(alloc: Global, rules: &[Rule]) -> Result<Loader, AllocError>
         ensures seen { IfOk result (λ l. l.seen.keys ≡ []) }
         ensures columns { IfOk result (λ l. l.columns.items ≡ columns_of rules.now []) }
     {
-        let mut columns: Vec<Column> = Vec::new(alloc);
+        let mut columns: Vec<ColumnBuilder> = Vec::new(alloc);
         for k in 0..rules.len() {
             let rule = rules[k];
-            columns.push(Column::new(alloc, rule.kind)?)?;
+            columns.push(ColumnBuilder::new(alloc, rule.kind))?;
         }
         Ok(Loader {
             seen: HashSet::new(alloc),
@@ -129,20 +100,20 @@ impl Loader {
         })
     }
 
-    pub(crate) fn into_table(self) -> Table
+    pub(crate) fn into_table(self) -> Result<Table, AllocError>
         requires some { 0 < vec_len self.columns }
         requires long { AreLong (rows_in self.columns.items) self.columns.items }
-        ensures { result ≡ self.columns.items }
+        ensures { IfOk result (λ table. table ≡ self.columns.items) }
     {
-        Table::new(self.into_columns())
+        Ok(Table::new(self.into_columns()?))
     }
 
-    pub(crate) fn into_columns(self) -> Vec<Column>
-        ensures { result ≡ self.columns }
+    pub(crate) fn into_columns(self) -> Result<Vec<Column>, AllocError>
+        ensures { IfOk result (λ columns. columns.items ≡ self.columns.items) }
     {
         let Loader { seen, columns } = self;
         drop(seen);
-        columns
+        built(columns)
     }
 
     // Takes one more record after so many good ones, or says why not.
@@ -166,12 +137,12 @@ impl Loader {
         if accepted >= u64::from(max_rows) || !is_wide(row, rules.len()) || !is_all_text(row) {
             return Err(refuse(rules, &self.seen, accepted, max_rows, row));
         }
-        let taken = match push_fields(&mut self.columns, rules, key, accepted, row) {
-            Ok(Some(taken)) => taken,
-            Ok(None) => return Err(refuse(rules, &self.seen, accepted, max_rows, row)),
+        match push_fields(&mut self.columns, rules, accepted, row) {
+            Ok(true) => {}
+            Ok(false) => return Err(refuse(rules, &self.seen, accepted, max_rows, row)),
             Err(_) => return Err(LoadFault::Memory),
-        };
-        match add_key(&mut self.seen, taken.key) {
+        }
+        match add_key(&mut self.seen, number_in_field(key, row)) {
             Ok(true) => Ok(()),
             Ok(false) => Err(refuse(rules, &self.seen, accepted, max_rows, row)),
             Err(_) => Err(LoadFault::Memory),

@@ -107,5 +107,8 @@ pub fn load_in_pieces<S: Source>(
         return Err(LoadFault::Memory);
     };
     take_all(alloc, source, size, &mut intake)?;
-    Ok(intake.into_table())
+    match intake.into_table() {
+        Ok(table) => Ok(table),
+        Err(_) => Err(LoadFault::Memory),
+    }
 }

@@ -76,17 +76,17 @@ impl TableIntake {
     }
 
     // The table of the records that were taken.
-    pub(crate) fn into_table(self) -> Table
+    pub(crate) fn into_table(self) -> Result<Table, AllocError>
         requires some { 0 < vec_len self.rules }
         requires stands { (good : List Fields) × IsLoading self good }
-        ensures { (good : List Fields) → IsLoading self good → result ≡ columns_of self.rules.items good }
+        ensures { IfOk result (λ table. (good : List Fields) → IsLoading self good → table ≡ columns_of self.rules.items good) }
     {
         self.into_loader().into_table()
     }
 
     /// The columns of the records that were taken.
-    pub fn into_columns(self) -> Vec<Column>
-        ensures { (good : List Fields) → IsLoading self good → result.items ≡ columns_of self.rules.items good }
+    pub fn into_columns(self) -> Result<Vec<Column>, AllocError>
+        ensures { IfOk result (λ columns. (good : List Fields) → IsLoading self good → columns.items ≡ columns_of self.rules.items good) }
     {
         self.into_loader().into_columns()
     }

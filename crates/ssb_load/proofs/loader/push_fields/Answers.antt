@@ -4,7 +4,6 @@ use Rattle.ssb_load.proofs.RuleFacts.{sized-len, front-len, front-more, any-step
 use Rattle.ssb_load.specs.Loader.{fails_some}
 use Rattle.ssb_terms.specs.declared.rule.ColType.TheVariants as kinds
 use Rattle.ssb_terms.specs.declared.rule.Role.TheVariants as roles
-use Rattle.ssb_load.proofs.KeyFacts.{among-all, among-more, told}
 use Rattle.std.proofs.lemmas.Grind.{common_steps}
 use Rattle.ssb_load.proofs.loader.push_fields.Goals as goal
 
@@ -36,15 +35,7 @@ loop-k-preserved c =
       front-more c.loop-k.k c.args.rules.now c.args.columns.now.items c.loop-k.columns.items (fields_of c.args.row.now) _ c.index_mut-column.result.now c.push.new.self c.in-Some.value c.loop-k-test.true same
           c.loop-k.invariant.0 c.index_mut-column.ensures.value c.in_ok-push.ensures.ok cell,
       any-step fails_some c.loop-k.k c.args.rules.now _ (fields_of c.args.row.now) _ c.loop-k-test.true none c.loop-k.invariant.1,
-      c.key_with-found.ensures ∙ rw c.is_place.ensures (among-more c.loop-k.k c.args.key (fields_of c.args.row.now) _ _ c.loop-k.invariant.2 (told _ _ c.in-Some.value none cell)),
     )
-
-pub returns-clause-key : goal.returns-clause-key
-returns-clause-key c =
-    let le = c.loop-k-test.false in
-    let end = c.loop-k.auto.k-end in
-    let k : c.loop-k.k ≡ length c.args.rules.now = omega (arith, le, end) in
-    c.loop-k.invariant.2 ∙ rw (k, c.requires.key) (among-all c.args.rules.now (fields_of c.args.row.now))
 
 pub returns-in_default-clause-fails : goal.returns-in_default-clause-fails
 returns-in_default-clause-fails c = grind (arith, common_steps)

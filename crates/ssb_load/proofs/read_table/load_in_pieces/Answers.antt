@@ -7,17 +7,17 @@ use Rattle.ssb_load.proofs.TableTaking.{all-lawful, gives-table, loads-nothing, 
 use Rattle.std.proofs.lemmas.Grind.{common_steps}
 use Rattle.ssb_load.proofs.read_table.load_in_pieces.Goals as goal
 
-pub returns : goal.returns
-returns g c =
+pub returns-in-Ok-into_table : goal.returns-in-Ok-into_table
+returns-in-Ok-into_table g c =
     let is = c.take_all.ensures.subject ∙ c.in-Ok-new.ensures.subject ∙ ap (λ rules. table rules c.args.max_rows) c.in-Ok.ensures.rules in
     let taken = c.in_ok-take_all.ensures.taken in
-    let columns = c.into_table.ensures _ taken in
-    let loads = gives-table c.take_all.new.intake _ c.args.max_rows _ c.into_table.result is taken columns in
+    let columns = c.in-Ok-into_table.ensures _ taken in
+    let loads = gives-table c.take_all.new.intake _ c.args.max_rows _ c.in-Ok-into_table.table is taken columns in
     let ended = c.in_ok-take_all.ensures.ended in
     let met : 0 < g.S.Source.ends c.take_all.new.source = omega (arith, ended) in
-    loads-table g.S.Source.given g.S.Source.failures g.S.Source.ends g.S.Source.whole _ c.args.max_rows c.args.source.now c.take_all.new.source c.into_table.result c.take_all.ensures.grows c.take_all.ensures.whole ended
+    loads-table g.S.Source.given g.S.Source.failures g.S.Source.ends g.S.Source.whole _ c.args.max_rows c.args.source.now c.take_all.new.source c.in-Ok-into_table.table c.take_all.ensures.grows c.take_all.ensures.whole ended
     (g.met.S.Source.settled c.take_all.new.source met) loads
-    (all-lawful c.take_all.new.intake _ c.args.max_rows _ c.into_table.result (subst HasOneKey c.in-Ok.ensures.rules c.in-Ok.ensures.key) is taken columns)
+    (all-lawful c.take_all.new.intake _ c.args.max_rows _ c.in-Ok-into_table.table (subst HasOneKey c.in-Ok.ensures.rules c.in-Ok.ensures.key) is taken columns)
 
 pub returns-in_err-take_all : goal.returns-in_err-take_all
 returns-in_err-take_all g c =

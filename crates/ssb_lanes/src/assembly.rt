@@ -142,7 +142,10 @@ impl Assembly {
     {
         let last = mem::replace(&mut self.last, rows);
         self.earlier += last.accepted;
-        put(&mut self.done, last.into_columns().map_err(|_| LoadFault::Memory)?)?;
+        let Ok(columns) = last.into_columns() else {
+            return Err(LoadFault::Memory);
+        };
+        put(&mut self.done, columns)?;
         self.check_limit()
     }
 
@@ -232,7 +235,10 @@ impl Assembly {
             pending: _,
             is_cut: _,
         } = self;
-        put(&mut done, last.into_columns().map_err(|_| LoadFault::Memory)?)?;
+        let Ok(columns) = last.into_columns() else {
+            return Err(LoadFault::Memory);
+        };
+        put(&mut done, columns)?;
         Ok(done)
     }
 }

@@ -1,7 +1,6 @@
 pub mod DigitFacts
 pub mod FaultFacts
 pub mod HoldsFacts
-mod KeyFacts
 pub mod LawfulFacts
 pub mod LoadingAll
 pub mod NumberFacts

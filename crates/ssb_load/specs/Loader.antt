@@ -61,22 +61,6 @@ abbrev pub AddsKey : Option ℤ → List ℤ → List ℤ → Type 0
 AddsKey None old new = new ≡ old
 AddsKey (Some k) old new = (z : ℤ) → seen_in new z ≡ (if int_eq k z then true else seen_in old z)
 
--- the number that a value of a field is, or spells
-abbrev pub number_told : Value → Option ℤ
-number_told values.Null = None
-number_told (values.Int n) = Some n
-number_told (values.Text t) = number_of t.now
-
--- whether the key is the k-th field
-abbrev pub is_place : Option ℕ → ℕ → Bool
-is_place None k = false
-is_place (Some at) k = nat_eq at k
-
--- the key, where it is among the first k fields
-abbrev pub key_among : ℕ → Option ℕ → Fields → Option ℤ
-key_among k None r = None
-key_among k (Some at) r = if nat_lt at k then number_of (field r at) else None
-
 -- the columns have so many values, of their types
 abbrev pub AreSized : ℕ → List Rule → List Filled → Type 0
 AreSized count [] [] = ⊤

@@ -11,9 +11,9 @@ returns-clause-taken c =
     let a = c.args.self.now in
     let out = c.replace-last.ensures.value in
     let into = c.replace-last.ensures.after in
-    held-next a _ lists latest good c.into_columns.result.items h (rw into c.requires.subject)
-    (ap (map (λ v. v.items)) c.in_ok-put.ensures.put ∙ map-append _ a.done.items (c.into_columns.result ∷ []))
-    (rw out at (c.into_columns.ensures latest (rw out h.taken))) (rw out refl) (rw into taken) few) c.check_limit.ensures.few
+    held-next a _ lists latest good c.in-Ok.columns.items h (rw into c.requires.subject)
+    (ap (map (λ v. v.items)) c.in_ok-put.ensures.put ∙ map-append _ a.done.items (c.in-Ok.columns ∷ []))
+    (rw out at (c.in-Ok.ensures latest (rw out h.taken))) (rw out refl) (rw into taken) few) c.check_limit.ensures.few
 
 pub returns-clause-refused : goal.returns-clause-refused
 returns-clause-refused c =

@@ -10,5 +10,5 @@ returns-clause-taken c bytes h =
     let w = c.in_ok-take_last.ensures.taken bytes h in
     let rules = rules-are a.last _ _ c.take_last.ensures.subject in
     let limit = limit-is a.last _ _ c.take_last.ensures.subject in
-    let are = c.into_columns.ensures w.latest w.held.taken in
-    rw (← rules, ← limit) (parts-are a bytes _ c.into_columns.result.items w are (ap (map (λ v. v.items)) c.in_ok-put.ensures.put ∙ map-append _ a.done.items (c.into_columns.result ∷ [])))
+    let are = c.in-Ok.ensures w.latest w.held.taken in
+    rw (← rules, ← limit) (parts-are a bytes _ c.in-Ok.columns.items w are (ap (map (λ v. v.items)) c.in_ok-put.ensures.put ∙ map-append _ a.done.items (c.in-Ok.columns ∷ [])))

@@ -8,7 +8,7 @@ use Rattle.std.proofs.lemmas.List.Folds.{list_any-append, list_any_at}
 use Rattle.std.proofs.lemmas.List.Quantifiers.{position-Some}
 use Rattle.std.proofs.lemmas.List.Sums.{position_or_len_is, passes_at_first, prefix_len-le-length}
 use Rattle.std.proofs.lemmas.Map.Keys.{IsDistinct-push, apart_from_distinct}
-use Rattle.std.proofs.lemmas.Option.{none-some, same_Some, slice_get-get_or}
+use Rattle.std.proofs.lemmas.Option.{get_or_from_slice_get, none-some, same_Some, slice_get-get_or, slice_get_within}
 use Rattle.ssb_cells.specs.Cell.{Cell, null, number, text}
 use Rattle.ssb_cells.specs.Codes.{with_text, texts_of, code_of, cell_code, code_at}
 
@@ -28,7 +28,7 @@ pub with-new : (texts : List (List ℕ)) (t : List ℕ) → list_any (bytes_eq t
 with-new texts t new = rw new refl
 
 -- at most one text for each value
-length-with : (texts : List (List ℕ)) (c : Cell) → length (with_text texts c) ≤ length texts + 1
+pub length-with : (texts : List (List ℕ)) (c : Cell) → length (with_text texts c) ≤ length texts + 1
 length-with texts null = omega arith
 length-with texts (number n) = omega arith
 length-with texts (text t) = by (list_any (bytes_eq t) texts) refl
@@ -95,7 +95,7 @@ kept-code texts (text t) code lt = by (list_any (bytes_eq t) texts) refl
     by false e = let n = length-append texts (t ∷ []) in rw (with-new texts t e) (omega (arith, n, lt), get_or_append_left texts (t ∷ []) [] code lt)
 
 -- the texts are all different
-distinct-with : (texts : List (List ℕ)) (c : Cell) → IsDistinct bytes_eq texts → IsDistinct bytes_eq (with_text texts c)
+pub distinct-with : (texts : List (List ℕ)) (c : Cell) → IsDistinct bytes_eq texts → IsDistinct bytes_eq (with_text texts c)
 distinct-with texts null d = d
 distinct-with texts (number n) d = d
 distinct-with texts (text t) d = by (list_any (bytes_eq t) texts) refl
@@ -104,7 +104,7 @@ distinct-with texts (text t) d = by (list_any (bytes_eq t) texts) refl
     by true e = rw (with-known texts t e) d
     by false e = rw (with-new texts t e) (IsDistinct-push nat_list_eq_equiv texts t d e)
 
-no-text : IsDistinct bytes_eq []
+pub no-text : IsDistinct bytes_eq []
 unfolding IsDistinct
 no-text = tt
 
@@ -116,6 +116,14 @@ distinct-texts values = more [] values no-text
     more texts (v ∷ values) d = more (with_text texts v) values (distinct-with texts v d)
 
 -- so each is found at its own place
+pub own-place-of : (texts : List (List ℕ)) (t : List ℕ) (code : ℕ) → IsDistinct bytes_eq texts → slice_get texts code ≡ Some t → position (bytes_eq t) texts ≡ Some code
+own-place-of texts t code d there =
+    let lt = slice_get_within texts code t there in
+    let is = get_or_from_slice_get texts code t [] there in
+    let at : position_or_len (bytes_eq t) texts ≡ code =
+        position_or_len_is (bytes_eq t) texts code [] (omega (arith, lt)) (λ k below. rw is at (nat_list_eq_equiv.symm (get_or texts code []) _ ∙ apart_from_distinct bytes_eq texts k code [] d below lt)) (λ _. rw is (nat_list_eq_equiv.refl t)) in
+    rw at (ap (λ b. cond b (Some code) None) (lt-ltb code (length texts) lt))
+
 pub code-of : (values : List Cell) (code : ℕ) → code < length (texts_of values) → code_of values (get_or (texts_of values) code []) ≡ Some code
 code-of values code lt =
     let texts = texts_of values in

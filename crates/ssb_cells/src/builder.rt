@@ -72,7 +72,7 @@ impl TextsBuilder {
         let Value::Text(letters) = value else {
             return self.codes.push(0);
         };
-        match self.dictionary.find(letters) {
+        match self.dictionary.find_again(letters) {
             Some(code) => self.codes.push(code),
             None => self.push_new(letters),
         }

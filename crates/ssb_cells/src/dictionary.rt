@@ -1,6 +1,6 @@
 // Different texts, and the place of each.
 
-ghost use Rattle.std.specs.Prelude.{◌≡◌, ◌<◌, ◌+◌, ◌≤◌, [], length, position, is_some, IfOk, OnOk, OnErr, slice_get, Some};
+ghost use Rattle.std.specs.Prelude.{◌≡◌, ◌<◌, ◌+◌, ◌≤◌, [], length, position, is_some, IfOk, OnOk, OnErr, slice_get, Some, true};
 ghost use Rattle.std.specs.List.{list_any, position_or_len};
 ghost use Rattle.std.specs.Str.{bytes_eq};
 ghost use Rattle.ssb_cells.specs.Cell.{text};
@@ -11,16 +11,25 @@ use indexmap::IndexSet;
 use std::alloc::{AllocError, Global};
 use std::marker::Model;
 
+// How many marks there are.
+const MARKS: usize = 32;
+
 /// Different texts in the order in which they came, seen as their list. There may be 4,294,967,295.
 pub struct Dictionary {
     alloc: Global,
     texts: IndexSet<String>,
+    // For each mark of a text the place of one that had it: a guess, which is compared before it is believed.
+    guesses: [u32; MARKS],
 }
 
 // Written out, so that what lets go of one need not say how a set does.
 impl Drop for Dictionary {
     fn drop(self) {
-        let Dictionary { alloc: _, texts } = self;
+        let Dictionary {
+            alloc: _,
+            texts,
+            guesses: _,
+        } = self;
         drop(texts);
     }
 }
@@ -30,11 +39,21 @@ impl Model for Dictionary {
 
     ghost Value = { List (List ℕ) };
 
-    ghost use Rattle.ssb_cells.specs.Spelling.{spellings, IsCounted};
+    ghost use Rattle.ssb_cells.specs.Spelling.{spellings, AreTexts};
 
     ghost view = { spellings };
 
-    ghost invariant = { IsCounted };
+    ghost invariant = { AreTexts };
+}
+
+// A text's mark, by its first byte, its last and its length: those of few texts mostly differ.
+fn mark_of(letters: &[u8]) -> usize
+    ensures { result < 32 }
+{
+    let (Some(first), Some(last)) = (letters.first(), letters.last()) else {
+        return 0;
+    };
+    (usize::from(*first) * 5 + usize::from(*last) * 3 + letters.len()) % MARKS
 }
 
 impl Dictionary {
@@ -45,6 +64,7 @@ impl Dictionary {
         Dictionary {
             alloc,
             texts: IndexSet::new(alloc),
+            guesses: [0; MARKS],
         }
     }
 
@@ -64,6 +84,42 @@ impl Dictionary {
             Some(place) => Some(place as u32),
             None => None,
         }
+    }
+
+    // Whether the text at a place is this one.
+    fn is_at(&self, place: u32, letters: &str) -> bool
+        ensures { result ≡ true → slice_get self.now place ≡ Some letters.now }
+    {
+        place < self.len() && self.spelt(place) == letters
+    }
+
+    // The place of a text, if it is there: the guess for texts of this mark from now on.
+    #[inline(never)]
+    fn find_for_mark(&mut self, mark: usize, letters: &str) -> Option<u32>
+        requires { mark < 32 }
+        ensures same { self.new ≡ self.old }
+        ensures place { result ≡ position (bytes_eq letters.now) self.old }
+        ensures found { is_some result ≡ list_any (bytes_eq letters.now) self.old }
+    {
+        let found = self.find(letters);
+        if let Some(place) = found {
+            self.guesses[mark] = place;
+        }
+        found
+    }
+
+    /// [`find`](Self::find), quicker where few different texts are looked for over and over.
+    pub fn find_again(&mut self, letters: &str) -> Option<u32>
+        ensures same { self.new ≡ self.old }
+        ensures place { result ≡ position (bytes_eq letters.now) self.old }
+        ensures found { is_some result ≡ list_any (bytes_eq letters.now) self.old }
+    {
+        let mark = mark_of(letters.as_bytes());
+        let guess = self.guesses[mark];
+        if self.is_at(guess, letters) {
+            return Some(guess);
+        }
+        self.find_for_mark(mark, letters)
     }
 
     /// The text at a place.

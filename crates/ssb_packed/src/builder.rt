@@ -1,22 +1,27 @@
 // Lists that grow: their last values wait in a block, which is narrowed all at once.
 
-ghost use Rattle.std.specs.Prelude.{◌≡◌, ◌<◌, ◌-◌, [], ◌∷◌, ◌++◌, length, IfOk, OnOk, OnErr, take};
+ghost use Rattle.std.specs.Prelude.{◌≡◌, ◌<◌, ◌-◌, [], ◌∷◌, ◌++◌, length, IfOk, OnOk, OnErr, take, vec_len, vec_capacity};
 
 use crate::codes::{Codes, number_of};
 use crate::numbers::Numbers;
 use std::alloc::{AllocError, Global};
 use std::marker::Model;
 
+// How many numbers wait.
+const BLOCK: usize = 256;
+
 /// [`Numbers`] under construction, seen as the list of all that were pushed. The last of them wait in a
 /// block of 256, and are narrowed at once.
 pub struct NumbersBuilder {
     settled: Numbers,
+    block: Vec<i64>,
 }
 
 impl Drop for NumbersBuilder {
     fn drop(self) {
-        let NumbersBuilder { settled } = self;
+        let NumbersBuilder { settled, block } = self;
         drop(settled);
+        drop(block);
     }
 }
 
@@ -25,7 +30,19 @@ impl Model for NumbersBuilder {
 
     ghost Value = { List ℤ };
 
-    ghost view = { λ b. b.settled };
+    ghost view = { λ b. b.settled ++ b.block.items };
+}
+
+// Empties the block, and has room in it.
+#[cold]
+#[inline(never)]
+fn settle(settled: &mut Numbers, block: &mut Vec<i64>) -> Result<(), AllocError>
+    ensures same { settled.new ++ block.new.items ≡ settled.old ++ block.old.items }
+    ensures room { OnOk result (vec_len block.new < vec_capacity block.new) }
+{
+    settled.extend(block)?;
+    block.clear();
+    block.reserve_exact(BLOCK)
 }
 
 impl NumbersBuilder {
@@ -35,6 +52,7 @@ impl NumbersBuilder {
     {
         NumbersBuilder {
             settled: Numbers::new(alloc),
+            block: Vec::new(alloc),
         }
     }
 
@@ -43,7 +61,11 @@ impl NumbersBuilder {
         ensures ok { OnOk result (self.new ≡ self.old ++ number ∷ []) }
         ensures err { OnErr result (self.new ≡ self.old) }
     {
-        self.settled.push(number)
+        if self.block.len() == self.block.capacity() {
+            settle(&mut self.settled, &mut self.block)?;
+        }
+        self.block.push_reserved(number);
+        Ok(())
     }
 
     /// Takes the last number away.
@@ -51,14 +73,19 @@ impl NumbersBuilder {
         requires { 0 < length self.old }
         ensures { self.new ≡ take (length self.old - 1) self.old }
     {
-        self.settled.pop();
+        if self.block.pop().is_none() {
+            self.settled.pop();
+        }
     }
 
     /// The numbers.
     pub fn into_numbers(self) -> Result<Numbers, AllocError>
         ensures { IfOk result (λ numbers. numbers ≡ self) }
     {
-        let NumbersBuilder { settled } = self;
+        let NumbersBuilder { settled, block } = self;
+        let mut settled = settled;
+        settled.extend(&block)?;
+        drop(block);
         Ok(settled)
     }
 }

@@ -10,6 +10,9 @@ use crate::width::Width;
 use std::alloc::{AllocError, Global};
 use std::marker::Model;
 
+// How many codes are added at once.
+const BLOCK: usize = 1024;
+
 /// A list of codes, seen as that list. Each takes as many bytes as the number that is kept for it: one
 /// while all are below 256.
 pub struct Codes {
@@ -88,15 +91,20 @@ impl Codes {
         self.numbers.reserve(width, additional)
     }
 
-    /// Adds all codes of another list at the end, each as a table has it. An `Err` leaves the first of
-    /// them added.
+    /// Adds all codes of another list at the end, each as a table has it. They go into a block, and all
+    /// of a block are added at once. An `Err` leaves some of the first of them added.
     pub fn append(&mut self, other: &Codes, table: &[u32]) -> Result<(), AllocError>
         ensures { OnOk result (self.new ≡ self.old ++ map (recoded table.now) other.now) }
     {
+        let mut block = Vec::with_capacity(self.numbers.alloc(), BLOCK)?;
         for i in 0..other.len() {
-            self.push(recode(table, other.get(i)))?;
+            if block.len() == block.capacity() {
+                self.numbers.extend(&block)?;
+                block.clear();
+            }
+            block.push_reserved(number_of(recode(table, other.get(i))));
         }
-        Ok(())
+        self.numbers.extend(&block)
     }
 
     /// Takes the last code away.

@@ -1,8 +1,8 @@
 // Whole numbers in as few bytes as the widest of them needs.
 
-ghost use Rattle.std.specs.Prelude.{◌≡◌, ◌<◌, ◌-◌, List, [], ◌∷◌, ◌++◌, length, true, take, if◌then◌else◌, IfOk, OnOk, OnErr, slice_get, Some};
+ghost use Rattle.std.specs.Prelude.{◌≡◌, ◌<◌, ◌≤ℤ◌, ◌-◌, ℤ, All, List, [], ◌∷◌, ◌++◌, length, true, take, if◌then◌else◌, IfOk, OnOk, OnErr, slice_get, Some};
 ghost use Rattle.ssb_packed.specs.Lent.{numbers_in};
-ghost use Rattle.ssb_packed.specs.Narrow.{left, numbers_of};
+ghost use Rattle.ssb_packed.specs.Narrow.{Fits, left, numbers_of};
 
 use crate::lent::NumberSlice;
 use crate::width::Width;
@@ -114,6 +114,62 @@ fn make_room(kept: &mut Kept, additional: usize) -> Result<(), AllocError>
     }
 }
 
+// The least and the greatest of these numbers and 0.
+fn bounds(numbers: &[i64]) -> (i64, i64)
+    ensures { All (λ n. (result.0 ≤ℤ n) × (n ≤ℤ result.1)) numbers.now }
+{
+    let mut least = 0;
+    let mut greatest = 0;
+    for number in numbers {
+        least = least.min(*number);
+        greatest = greatest.max(*number);
+    }
+    (least, greatest)
+}
+
+// Whether numbers from the one to the other fit.
+fn holds(kept: &Kept, least: i64, greatest: i64) -> bool
+    ensures fits { result ≡ true → (n : ℤ) → least ≤ℤ n → n ≤ℤ greatest → Fits kept.now n }
+    ensures widest { left kept.now ≡ 0 → result ≡ true }
+{
+    match kept {
+        Kept::One(_) => -128 <= least && greatest < 128,
+        Kept::Two(_) => -32_768 <= least && greatest < 32_768,
+        Kept::Four(_) => -2_147_483_648 <= least && greatest < 2_147_483_648,
+        Kept::Eight(_) => true,
+    }
+}
+
+// Adds numbers that fit. An `Err` changes nothing.
+fn add_all(kept: &mut Kept, block: &[i64]) -> Result<(), AllocError>
+    requires { All (Fits kept.old) block.now }
+    ensures ok { OnOk result (numbers_of kept.new ≡ numbers_of kept.old ++ block.now) }
+    ensures err { OnErr result (numbers_of kept.new ≡ numbers_of kept.old) }
+{
+    match kept {
+        Kept::One(numbers) => {
+            numbers.reserve(block.len())?;
+            for number in block {
+                numbers.push_reserved(*number as i8);
+            }
+        }
+        Kept::Two(numbers) => {
+            numbers.reserve(block.len())?;
+            for number in block {
+                numbers.push_reserved(*number as i16);
+            }
+        }
+        Kept::Four(numbers) => {
+            numbers.reserve(block.len())?;
+            for number in block {
+                numbers.push_reserved(*number as i32);
+            }
+        }
+        Kept::Eight(numbers) => numbers.extend_from_slice(block)?,
+    }
+    Ok(())
+}
+
 // Adds numbers of the same width, all in one copy, and none of another.
 fn add_alike(kept: &mut Kept, numbers: NumberSlice<'_>) -> Result<bool, AllocError>
     ensures { IfOk result (λ added. numbers_of kept.new ≡ (if added then numbers_of kept.old ++ numbers_in numbers.entry else numbers_of kept.old)) }
@@ -139,6 +195,11 @@ impl Numbers {
         }
     }
 
+    // Where its memory comes from.
+    pub(crate) fn alloc(&self) -> Global {
+        self.alloc
+    }
+
     /// How many numbers there are.
     pub fn len(&self) -> usize
         ensures { result ≡ length self.now }
@@ -160,6 +221,19 @@ impl Numbers {
             self.kept = widened(self.alloc, &self.kept)?;
         }
         Ok(())
+    }
+
+    /// Adds numbers at the end, and widens all, once, where one of these asks for more bytes. An `Err`
+    /// changes nothing.
+    pub fn extend(&mut self, numbers: &[i64]) -> Result<(), AllocError>
+        ensures ok { OnOk result (self.new ≡ self.old ++ numbers.now) }
+        ensures err { OnErr result (self.new ≡ self.old) }
+    {
+        let (least, greatest) = bounds(numbers);
+        while !holds(&self.kept, least, greatest) {
+            self.kept = widened(self.alloc, &self.kept)?;
+        }
+        add_all(&mut self.kept, numbers)
     }
 
     /// Takes the last number away.

@@ -121,7 +121,7 @@ own-place-of texts t code d there =
     let lt = slice_get_within texts code t there in
     let is = get_or_from_slice_get texts code t [] there in
     let at : position_or_len (bytes_eq t) texts ≡ code =
-        position_or_len_is (bytes_eq t) texts code [] (omega (arith, lt)) (λ k below. rw is at (nat_list_eq_equiv.symm (get_or texts code []) _ ∙ apart_from_distinct bytes_eq texts k code [] d below lt)) (λ _. rw is (nat_list_eq_equiv.refl t)) in
+    position_or_len_is (bytes_eq t) texts code [] (omega (arith, lt)) (λ k below. rw is at (nat_list_eq_equiv.symm (get_or texts code []) _ ∙ apart_from_distinct bytes_eq texts k code [] d below lt)) (λ _. rw is (nat_list_eq_equiv.refl t)) in
     rw at (ap (λ b. cond b (Some code) None) (lt-ltb code (length texts) lt))
 
 pub code-of : (values : List Cell) (code : ℕ) → code < length (texts_of values) → code_of values (get_or (texts_of values) code []) ≡ Some code

@@ -1,14 +1,15 @@
 //! Values, columns and tables: what every other layer reads values from.
 //!
 //! - Offers: [`Value`], [`Truth`], [`compare`], [`sort_cmp`], [`Op`], [`ColType`], [`Column`], [`Table`];
-//!   beside these [`OwnedValue`], which is kept, and [`ColumnParts`], a column that comes in parts.
+//!   [`OwnedValue`], which is kept; [`ColumnBuilder`] and [`ColumnParts`], columns that grow by values
+//!   and by parts.
 //! - Callers: `ssb_load` and `ssb_lanes`, which fill columns; `ssb_conditions`, `ssb_job`, `ssb_groups`
 //!   and `ssb_rows`, which read them.
-//! - Files: `value`, `owned`, `truth`, `order`: values; `column`, over `texts` and their `dictionary`,
-//!   and `parts`; `table`.
+//! - Files: `value`, `owned`, `truth`, `order`: values; `column`, over `texts` and their `dictionary`;
+//!   `builder`, `parts`; `table`.
 //! - Definitions: `Cell`, `Values`, `Truth`, `Compare`, `Order`: values; `Tables`, `Codes`, `Lent`,
-//!   `Joined`, `Lawful`: what is seen of columns and tables; `Stored`, `Spelling`, `Parts`: how they are
-//!   kept.
+//!   `Joined`, `Lawful`: what is seen of columns and tables; `Stored`, `Building`, `Spelling`, `Parts`:
+//!   how they are kept.
 #![tactic(auto)]
 
 pub mod builder;

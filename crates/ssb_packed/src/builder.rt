@@ -17,6 +17,7 @@ pub struct NumbersBuilder {
     block: Vec<i64>,
 }
 
+// Written out, so that what lets go of one need not say how its parts are let go.
 impl Drop for NumbersBuilder {
     fn drop(self) {
         let NumbersBuilder { settled, block } = self;
@@ -95,6 +96,7 @@ pub struct CodesBuilder {
     numbers: NumbersBuilder,
 }
 
+// Written out, so that what lets go of one need not say how its parts are let go.
 impl Drop for CodesBuilder {
     fn drop(self) {
         let CodesBuilder { numbers } = self;

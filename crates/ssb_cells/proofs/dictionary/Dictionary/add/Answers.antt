@@ -11,7 +11,7 @@ pub invariant_of-self-2 : goal.invariant_of-self-2
 invariant_of-self-2 c =
     let old = map string_bytes c.self.inside.texts.keys in
     let more : map string_bytes c.insert.new.self.keys ≡ with_text old (text c.args.letters.now) =
-        ap (map string_bytes) c.in_ok-insert.ensures.keys ∙ more-spelt c.self.inside.texts.keys c.in_ok-text.text ∙ ap (λ t. if list_any (bytes_eq t) old then old else old ++ t ∷ []) c.in_ok-text.ensures.ok in
+    ap (map string_bytes) c.in_ok-insert.ensures.keys ∙ more-spelt c.self.inside.texts.keys c.in_ok-text.text ∙ ap (λ t. if list_any (bytes_eq t) old then old else old ++ t ∷ []) c.in_ok-text.ensures.ok in
     let long = ap length more in
     let few = length-with old (text c.args.letters.now) in
     let now = length-map c.insert.new.self.keys string_bytes in

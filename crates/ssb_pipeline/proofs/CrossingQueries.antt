@@ -58,7 +58,10 @@ dictionary : Crosses Dictionary.the_row
 dictionary =
     view_crosses InDictionary.the_row _ _ _ _ (declared_crosses InDictionary.the_type (
       (search (as_row_send, crosses, sendable) depth 20, search (as_row_sync, crosses, sendable) depth 20),
-      ((search (crosses, sendable) depth 20, search (crosses, sendable) depth 20), tt),
+      (
+        (search (crosses, sendable) depth 20, search (crosses, sendable) depth 20),
+        ((search (as_row_send, crosses, sendable) depth 20, search (as_row_sync, crosses, sendable) depth 20), tt),
+      ),
     ))
 
 texts : Crosses Texts.the_row

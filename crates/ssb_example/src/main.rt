@@ -16,7 +16,8 @@ const CATALOG: &[u8] =
 // The file of each table, in the catalog's order. An empty field is null.
 const FILES: [&[u8]; 2] = [b"1|300\n2|450\n1|250\n2|\n", b"1|tea\n2|coffee\n"];
 
-const TOTALS: &str = "select name, sum(price), count(*) from sale, product where item = id group by name order by 2 desc";
+const TOTALS: &str =
+    "select name, sum(price), count(*) from sale, product where item = id group by name order by 2 desc";
 
 const MISSPELT: &str = "select sum(prize) from sale";
 
@@ -42,10 +43,7 @@ fn answer<R: AllocGlobal + Print + Threads + Wait + Sync>(
         return Err(Failure::Misuse);
     }
     let mut out = Out::new(io::writer(rt));
-    run(
-        rt, alloc, catalog, files, text, settings, &NoGate, &mut out,
-    )
-    .map_err(Failure::Run)
+    run(rt, alloc, catalog, files, text, settings, &NoGate, &mut out).map_err(Failure::Run)
 }
 
 // Prints the answer's rows, or what went wrong.

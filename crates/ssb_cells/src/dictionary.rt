@@ -14,6 +14,9 @@ use std::marker::Model;
 // How many marks there are.
 const MARKS: usize = 32;
 
+// Up to how many texts a guess is made: of more, most guesses would be wrong.
+const MOST_GUESSED: usize = 2 * MARKS;
+
 /// Different texts in the order in which they came, seen as their list. There may be 4,294,967,295.
 pub struct Dictionary {
     alloc: Global,
@@ -114,6 +117,9 @@ impl Dictionary {
         ensures place { result ≡ position (bytes_eq letters.now) self.old }
         ensures found { is_some result ≡ list_any (bytes_eq letters.now) self.old }
     {
+        if self.texts.len() > MOST_GUESSED {
+            return self.find(letters);
+        }
         let mark = mark_of(letters.as_bytes());
         let guess = self.guesses[mark];
         if self.is_at(guess, letters) {

@@ -23,7 +23,7 @@ CATALOG = ROOT / "examples" / "ssb.catalog"
 MOST_WORDS = 21_000
 MOST_HEAD_LINES = 12
 
-# What no limit of the product stands in: what only tests and measures, and the texts of the benchmark's queries.
+# What no limit of the product stands in: what only tests, measures or shows, and the texts of the benchmark's queries.
 NO_LIMITS = {"ssb_tests", "ssb_refusals", "ssb_bench", "ssb_example"}
 BENCHMARK = ("benchmark.rt", "Benchmark.antt")
 

@@ -26,14 +26,14 @@ NEW = "new"
 OLD = "old"
 ALONE = "alone"
 
-# What `load` runs: `ssb_bench read`, `ssb run` of two queries, and `ssb_bench load` by its sections.
+# What `load` runs: `ssb_bench read`, `ssb run` of two queries, and `ssb_bench load` by its threads.
 BARE = "bare reading of the fact file"
 COUNT = "select count(*) from lineorder\n"
 NAME = "Q2.1"
 WORKERS = 4
 COUNTING = f"counting all rows, {WORKERS} workers"
 ANSWERING = f"{NAME}, {WORKERS} workers"
-SECTIONS = [1, 2, 4, 16]
+THREADS = [1, 2, 4, 8]
 
 # What `query` and `threads` answer beside the benchmark's queries.
 JOINS = "from lineorder, date, part where lo_orderdate = d_datekey and lo_partkey = p_partkey"
@@ -80,7 +80,7 @@ def load_commands(given, programs, query):
         run = [path, "run", "--data", given.folder, "--workers", WORKERS]
         commands[program, COUNTING] = [*run, "--query", query]
         commands[program, ANSWERING] = [*run, "--name", NAME]
-    for count in SECTIONS:
+    for count in THREADS:
         commands[count] = [given.ssb_bench, "load", given.folder, count]
     return commands
 
@@ -110,14 +110,14 @@ def print_runs(runs, size):
     measure.print_table(["Run", "Seconds", "Against bare reading", "Peak memory, MB", "Of all files"], rows)
 
 
-def print_sections(runs, size):
-    """Prints what loading alone takes from several sections against one."""
-    one = measure.least_told(runs[SECTIONS[0]])
+def print_threads(runs, size):
+    """Prints what loading alone takes in several threads against one."""
+    one = measure.least_told(runs[THREADS[0]])
     rows = []
-    for count in SECTIONS:
+    for count in THREADS:
         took = measure.least_told(runs[count])
         rows.append([str(count), f"{took:.1f}", f"{took / one:.2f}", *memory(runs[count], size)])
-    head = ["Sections", "Milliseconds of loading", f"Against {SECTIONS[0]}", "Peak memory, MB", "Of all files"]
+    head = ["Threads", "Milliseconds of loading", f"Against {THREADS[0]}", "Peak memory, MB", "Of all files"]
     measure.print_table(head, rows)
 
 
@@ -142,7 +142,7 @@ def print_old(runs):
 
 
 def load(given, texts):
-    """Loading: against reading the fact file bare, in sections of it, and by an old ssb."""
+    """Loading: against reading the fact file bare, in threads, and by an old ssb."""
     fact = given.folder / "lineorder.tbl"
     rows = line_count(fact)
     size = sum(path.stat().st_size for path in given.folder.glob("*.tbl"))
@@ -152,7 +152,7 @@ def load(given, texts):
     runs = measure.run_all(load_commands(given, programs, query), given.runs)
     check_load(runs, programs, rows)
     print_runs(runs, size)
-    print_sections(runs, size)
+    print_threads(runs, size)
     if given.old:
         print_old(runs)
 

@@ -1,6 +1,6 @@
 // The whole path, from the bytes of files to the bytes of the answer.
 
-ghost use Rattle.std.specs.Prelude.{◌≡◌, Err, IfErr, IfOk, length};
+ghost use Rattle.std.specs.Prelude.{◌≡◌, ◌<◌, Err, IfErr, IfOk, length};
 ghost use Rattle.std.specs.Arc.{arc_value};
 ghost use Rattle.ssb_catalog.specs.Catalog.{IsCatalog};
 ghost use Rattle.ssb_answer.specs.Asking.{Asked, AnswersText};
@@ -160,12 +160,24 @@ pub fn write_answered<W: Sink>(
     Ok(())
 }
 
+// In how many threads tables are loaded: in the caller's alone for one worker, and otherwise in two for each,
+// since sections of one size take unequal times where cores differ.
+fn loading_threads(settings: Settings) -> u32
+    ensures { 0 < result }
+{
+    if settings.workers == 1 {
+        return 1;
+    }
+    2 * settings.workers
+}
+
 /// Answers a query over the tables of a catalog, each of what its sources give, in the catalog's order,
 /// and writes the answer's rows. It loads all tables, reads the query, binds it, answers and writes;
 /// the first fault ends it, and nothing is written before the answer is complete.
 ///
-/// A table without a key is read by a thread for each of the sources that stand joined for it; then
-/// workers take the morsels of the fact table from parts, and make the groups of each in threads of their
+/// One worker loads in the caller's thread. Otherwise a table without a key is read from the sources that
+/// stand joined for it in up to two threads for each worker, and the other tables by one more; then workers
+/// take the morsels of the fact table from parts, and make the groups of each in threads of their
 /// own. They may wait for each other. How a table's bytes are cut into sources, how many workers and
 /// parts there are, and how large a morsel is, changes no answer.
 ///
@@ -189,7 +201,8 @@ pub fn run_from<R: Threads + Wait + Sync, S: Source + Send, G: Gate + Sync, W: S
     ensures runs { let source = ⟦<Joined<S> as Source>⟧ in RunsFrom source.given source.failures source.ends source.whole catalog text.now sources.old sources.new result (W.taken out.old) (W.taken out.new) }
     ensures sink { LeavesSink result (W.taken out.old) (W.taken out.new) (W.failures out.old) (W.failures out.new) (W.contents out.old) (W.contents out.new) }
 {
-    let tables = load_all_with(rt, alloc, &catalog, sources, PIECE_SIZE)?;
+    let threads = loading_threads(settings);
+    let tables = load_all_with(rt, alloc, &catalog, sources, PIECE_SIZE, threads)?;
     let answered = answer_text_shared(rt, alloc, &catalog, tables, text, settings, gate);
     write_answered(answered, out)
 }

@@ -2,8 +2,8 @@
 //! tables of a folder from sections of the fact file, and a query's answer over loaded tables.
 //!
 //! - `read FILE`: how many records a file has, read with the loader's settings and none of them kept
-//! - `load FOLDER SECTIONS`: the milliseconds of loading the tables of a folder: the fact table's file,
-//!   where it has more than 16 MB, in so many sections, each by a thread of its own
+//! - `load FOLDER THREADS`: the milliseconds of loading the tables of a folder: the fact table's file, where
+//!   it has more than 16 MB, in so many sections, each by a thread of its own
 //! - `run FOLDER FILE MORSEL TIMES`: the least milliseconds of so many answers to a file's query, by the
 //!   caller's thread, in morsels of so many rows; tables are loaded and indexes built once
 //! - `run FOLDER FILE MORSEL TIMES WORKERS PARTS BATCH`: the same by so many workers, in threads of their
@@ -73,18 +73,18 @@ fn print_micros<R: Print>(rt: &R, what: &str, micros: u128) -> io::Result<()> {
     println!(rt; "{what} {whole}.{rest:03} ms")
 }
 
-// Prints the milliseconds of loading from so many sections.
+// Prints the milliseconds of loading in so many threads.
 fn print_loading_time<R: Files<File = File> + Clock + Print + Threads + Sync + AllocGlobal>(
     rt: &R,
     given: &[String],
 ) -> u8 {
-    let [folder, count] = given else {
+    let [folder, threads] = given else {
         return BAD_WORDS;
     };
-    let Ok(count) = count.parse() else {
+    let Ok(threads) = threads.parse() else {
         return BAD_WORDS;
     };
-    let Some(micros) = loading_time(rt, folder.as_str(), count) else {
+    let Some(micros) = loading_time(rt, folder.as_str(), threads) else {
         return FAILED;
     };
     status_of(print_micros(rt, "loading", micros))

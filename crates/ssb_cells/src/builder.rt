@@ -63,6 +63,7 @@ impl TextsBuilder {
     }
 
     // Adds the code of a value, and its text where it is new. An `Err` changes nothing.
+    #[inline(always)]
     fn push(&mut self, value: Value<'_>) -> Result<(), AllocError>
         requires { length self.old.dictionary < 4294967295 }
         ensures dictionary { OnOk result (self.new.dictionary ≡ with_text self.old.dictionary (cell_of value.entry)) }
@@ -98,6 +99,7 @@ pub(crate) enum Storing {
 }
 
 // Adds what a value stores. An `Err` changes nothing.
+#[inline(always)]
 fn store(storing: &mut Storing, value: Value<'_>) -> Result<(), AllocError>
     requires { HasRoom (stored_in storing.old) }
     ensures ok { OnOk result (stored_in storing.new ≡ with_value (stored_in storing.old) value.entry) }
@@ -162,6 +164,7 @@ impl ColumnBuilder {
     }
 
     /// Adds a value at the end: null, or one of the column's type. An `Err` changes nothing.
+    #[inline(always)]
     pub fn push(&mut self, value: Value<'_>) -> Result<(), AllocError>
         requires of_type { FitsType self.old.kind (cell_of value) }
         requires room { length self.old.values < 4294967295 }

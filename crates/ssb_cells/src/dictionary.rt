@@ -112,6 +112,7 @@ impl Dictionary {
     }
 
     /// [`find`](Self::find), quicker where few different texts are looked for over and over.
+    #[inline(always)]
     pub fn find_again(&mut self, letters: &str) -> Option<u32>
         ensures same { self.new ≡ self.old }
         ensures place { result ≡ position (bytes_eq letters.now) self.old }

@@ -6,7 +6,9 @@ use Rattle.std.proofs.lemmas.List.{append-nil, length-map, map-append}
 use Rattle.ssb_cells.specs.Tables.{Filled, AreLong, rows_in}
 use Rattle.ssb_lanes.specs.Assembly.{AreParts, all_in}
 use Rattle.ssb_load.specs.Subject.{table}
-use Rattle.ssb_lanes.specs.Joining.{AreColumnsOf, FitBehind, behind_each}
+use Rattle.ssb_lanes.specs.Joining.{AreColumnsOf, AreJoined, FitBehind, Joins, behind_each}
+use Rattle.ssb_lanes.specs.declared.joining.Joining.{Joining}
+use Rattle.ssb_lanes.specs.declared.joining.Joining.TheVariants as now
 use Rattle.ssb_cells.specs.Lawful.{HasOneKey, IsLawful}
 use Rattle.ssb_load.specs.Loading.{Loads}
 use Rattle.ssb_records.specs.Records.{Fields}
@@ -161,38 +163,31 @@ no-part f rest none = ap (map f) (no-more rest none)
 
 -- ---- the joined columns
 
--- each result that is a column is the one of its stack
-abbrev pub AreJoined : {E : Type 0} → List Filled → List (Result Filled E) → Type 0
-AreJoined [] [] = ⊤
-AreJoined [] (r ∷ rs) = ⊥
-AreJoined (s ∷ ss) [] = ⊥
-AreJoined (s ∷ ss) (r ∷ rs) = IfOk r (λ c. c ≡ s) × AreJoined ss rs
-
-pub joined-each : {E : Type 0} (ss : List Filled) (rs : List (Result Filled E)) → length rs ≡ length ss → ((i : ℕ) (d : Result Filled E) (s : Filled) → i < length ss → IfOk (get_or rs i d) (λ c. c ≡ get_or ss i s)) → AreJoined ss rs
+pub joined-each : (ss : List Filled) (rs : List Joining) → length rs ≡ length ss → ((i : ℕ) (d : Joining) → i < length ss → Joins (get_or (map now.Parts ss) i d) (get_or rs i d)) → AreJoined ss rs
 joined-each [] [] len h = tt
 joined-each [] (r ∷ rs) len h = cc len
 joined-each (s ∷ ss) [] len h = cc len
-joined-each (s ∷ ss) (r ∷ rs) len h = (h 0 r s (omega arith), joined-each ss rs (omega (arith, len)) (λ i d t lt. h (suc i) d t (omega arith)))
+joined-each (s ∷ ss) (r ∷ rs) len h = (h 0 r (omega arith), joined-each ss rs (omega (arith, len)) (λ i d lt. h (suc i) d (omega arith)))
 
--- the columns so far, and the results that are left
-pub record AreCollected {E : Type 0} (stacks columns : List Filled) (rest : List (Result Filled E)) : Type 0 where
+-- the columns so far, and those that are left
+pub record AreCollected (stacks columns : List Filled) (rest : List Joining) : Type 0 where
   pub back : List Filled
   pub split : stacks ≡ columns ++ back
   pub joined : AreJoined back rest
 
-next-collected : {E : Type 0} (stacks columns : List Filled) (c : Filled) (rest : List (Result Filled E)) (back : List Filled) → stacks ≡ columns ++ back → AreJoined back (Ok c ∷ rest) → AreCollected stacks (columns ++ c ∷ []) rest
+next-collected : (stacks columns : List Filled) (c : Filled) (rest : List Joining) (back : List Filled) → stacks ≡ columns ++ back → AreJoined back (now.Column c ∷ rest) → AreCollected stacks (columns ++ c ∷ []) rest
 next-collected stacks columns c rest [] split joined = absurd joined
 next-collected stacks columns c rest (b ∷ bs) split joined = record { back = bs; split = split ∙ ap (λ t. columns ++ t ∷ bs) (sym joined.0) ∙ sym (append_assoc columns (c ∷ []) bs); joined = joined.1 }
 
-pub collected-next : {E : Type 0} (stacks columns : List Filled) (c : Filled) (rest : List (Result Filled E)) → AreCollected stacks columns (Ok c ∷ rest) → AreCollected stacks (columns ++ c ∷ []) rest
+pub collected-next : (stacks columns : List Filled) (c : Filled) (rest : List Joining) → AreCollected stacks columns (now.Column c ∷ rest) → AreCollected stacks (columns ++ c ∷ []) rest
 collected-next stacks columns c rest h = next-collected stacks columns c rest h.back h.split h.joined
 
-none-joined : {E : Type 0} (back : List Filled) (rs : List (Result Filled E)) → rs ≡ [] → AreJoined back rs → back ≡ []
+none-joined : (back : List Filled) (rs : List Joining) → rs ≡ [] → AreJoined back rs → back ≡ []
 none-joined [] rs e j = refl
 none-joined (b ∷ bs) [] e j = absurd j
 none-joined (b ∷ bs) (r ∷ rs) e j = cc e
 
-pub collected-all : {E : Type 0} (stacks columns : List Filled) (rest : List (Result Filled E)) → AreCollected stacks columns rest → rest ≡ [] → columns ≡ stacks
+pub collected-all : (stacks columns : List Filled) (rest : List Joining) → AreCollected stacks columns rest → rest ≡ [] → columns ≡ stacks
 collected-all stacks columns rest h none = sym (h.split ∙ ap (λ t. columns ++ t) (none-joined h.back rest none h.joined) ∙ append-nil columns)
 
 -- ---- the table of parts

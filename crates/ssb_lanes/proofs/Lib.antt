@@ -1,5 +1,6 @@
 mod AssemblyFacts
 mod AssemblyLines
+mod BesideFacts
 pub mod Crossing
 pub mod JoinedFacts
 mod JoiningFacts

@@ -1,33 +1,39 @@
 // Loading the tables of a catalog, each of several sources, at the same time.
 //
-// `load_all_with` cuts the list of tables in half and loads the first half by a thread of its own beside
-// the second, and so on down to one table; the fact table starts its own threads from there. A thread
-// that can't be made is no fault: the half is loaded by the thread that asked for it.
+// `load_all_with` loads the fact table, in several threads, beside the others, which one more thread loads
+// one after the other. A thread that can't be made is no fault: what it was to load is loaded by the thread
+// that asked for it. In one thread all tables are loaded by `load_all`.
 
-ghost use Rattle.std.specs.Prelude.{◌≡◌, ◌<◌, ◌∷◌, [], IfErr, IfOk, List, OnOk, Some, length, map};
+ghost use Rattle.std.specs.Prelude.{◌≡◌, ◌≤◌, ◌<◌, ◌+◌, ◌∷◌, [], IfErr, IfOk, List, OnOk, Some, length, map};
 ghost use Rattle.std.specs.Thread.{IsSend, IsSync};
 ghost use Rattle.ssb_catalog.specs.Catalog.{IsCatalog};
 ghost use Rattle.ssb_load.specs.Files.{AreLawful, Bytes, GrewEach, LoadsAll, RoseEach, given_each};
 ghost use Rattle.ssb_lanes.specs.JoinedSource.{joined_source};
-ghost use Rattle.ssb_load.specs.Runs.{ArePutTogether, FailedRead, HaveTables, RanFrom};
+ghost use Rattle.ssb_load.specs.Runs.{ArePutTogether, FailedRead, RanFrom};
 
 use crate::joined::Joined;
 use crate::read_joined::load_with;
 use ssb_catalog::Catalog;
 use ssb_cells::Table;
-use ssb_load::FileFault;
+use ssb_load::{FileFault, load_all, load_tables};
 use ssb_records::{LoadFault, Source};
 use std::alloc::Global;
 use std::thread::{Threads, join_mut};
 
-// Which catalog's tables are loaded, with which allocator, and in pieces of how many bytes. It stands
-// behind one reference, since the borrow checker does not cover two closures that share a value.
+// Which catalog's tables are loaded, with which allocator, in pieces of how many bytes and in at most how
+// many threads. It stands behind one reference, since the borrow checker does not cover two closures that
+// share a value.
 #[derive(Clone, Copy)]
 struct Loading<'a> {
     alloc: Global,
     catalog: &'a Catalog,
     piece_size: usize,
+    threads: u32,
+    ghost some: { 0 < threads },
 }
+
+// The tables of two parts of a catalog, each with its own answer.
+type Parts = (Result<Vec<Table>, FileFault>, Result<Vec<Table>, FileFault>);
 
 // The tables of one part of a catalog before those of the next, which begins with this number, or the
 // first fault of both.
@@ -62,7 +68,17 @@ fn load_one<S: Source + Send, R: Threads + Sync>(
     let alloc = loading.alloc;
     let place = number as usize;
     let size = loading.piece_size;
-    match load_with(rt, alloc, loading.catalog, place, u32::MAX, source, size) {
+    let threads = loading.threads;
+    match load_with(
+        rt,
+        alloc,
+        loading.catalog,
+        place,
+        u32::MAX,
+        source,
+        size,
+        threads,
+    ) {
         Ok(table) => {
             let mut tables = Vec::new(alloc);
             match tables.push(table) {
@@ -80,56 +96,77 @@ fn load_one<S: Source + Send, R: Threads + Sync>(
     }
 }
 
-// The tables of two parts of a catalog, at the same time: the first part by a thread of its own, where
-// one can be made.
-#[cycle(tables)]
-fn load_both<S: Source + Send, R: Threads + Sync>(
-    rt: &R,
-    loading: &Loading<'_>,
-    number: u32,
-    middle: u32,
-    front: &mut [Joined<S>],
-    back: &mut [Joined<S>],
-) -> (Result<Vec<Table>, FileFault>, Result<Vec<Table>, FileFault>)
-    requires front { HaveTables loading.now.catalog.now number front.old }
-    requires back { HaveTables loading.now.catalog.now middle back.old }
-    ensures front { RanFrom joined_source loading.now.catalog.now number front.old front.new result.0 }
-    ensures back { RanFrom joined_source loading.now.catalog.now middle back.old back.new result.1 }
+// The number of the fact table, or 0 where there is none.
+fn fact_number(catalog: &Catalog) -> u32
+    ensures inside { result < length catalog.now }
+    ensures few { length catalog.now ≤ 16 }
+    ensures catalog { IsCatalog catalog.now }
 {
-    let mut first = || -> Result<Vec<Table>, FileFault>
-        requires { IsSync R.row × IsSend S.row × HaveTables loading.now.catalog.now number front.now }
-        ensures { RanFrom joined_source loading.entry.now.catalog.now number front.entry.now front.exit.now result }
-    { load_tables(rt, loading, number, front) };
-    let mut second = || -> Result<Vec<Table>, FileFault>
-        requires { IsSync R.row × IsSend S.row × HaveTables loading.now.catalog.now middle back.now }
-        ensures { RanFrom joined_source loading.entry.now.catalog.now middle back.entry.now back.exit.now result }
-    { load_tables(rt, loading, middle, back) };
-    join_mut(rt, &mut first, &mut second)
+    let tables = catalog.tables();
+    for number in 0..tables.len() {
+        if tables[number].is_fact() {
+            return number as u32;
+        }
+    }
+    0
 }
 
-// The tables from this number on, at the same time, each of the sources that are joined for it.
-#[cycle(tables)]
-fn load_tables<S: Source + Send, R: Threads + Sync>(
-    rt: &R,
+// The tables from this number on, one after the other.
+fn load_in_turn<S: Source + Send>(
     loading: &Loading<'_>,
-    number: u32,
+    first: u32,
     sources: &mut [Joined<S>],
 ) -> Result<Vec<Table>, FileFault>
-    requires { HaveTables loading.now.catalog.now number sources.old }
-    ensures { RanFrom joined_source loading.now.catalog.now number sources.old sources.new result }
+    requires { first + length sources.old ≤ length loading.now.catalog.now }
+    ensures { RanFrom joined_source loading.now.catalog.now first sources.old sources.new result }
 {
-    let half = sources.len() / 2;
-    if half == 0 {
-        return load_one(rt, loading, number, &mut sources[0]);
-    }
-    let middle = number + half as u32;
-    let (front, back) = sources.split_at_mut(half);
-    let (first, second) = load_both(rt, loading, number, middle, front, back);
-    put_together(middle, first, second)
+    let Loading {
+        alloc,
+        catalog,
+        piece_size,
+        ..
+    } = *loading;
+    load_tables(alloc, catalog, first as usize, sources, piece_size)
 }
 
-/// [`load_all`](ssb_load::load_all) over threads: the tables are loaded at the same time, and one without
-/// a key is read by a thread for each of its sources, as [`load_with`](crate::load_with) does.
+// The tables before the fact table and those behind it by a thread of its own, where one can be made, beside
+// the fact table.
+fn load_beside<S: Source + Send, R: Threads + Sync>(
+    rt: &R,
+    loading: &Loading<'_>,
+    fact: u32,
+    front: &mut [Joined<S>],
+    source: &mut Joined<S>,
+    back: &mut [Joined<S>],
+) -> (Parts, Result<Vec<Table>, FileFault>)
+    requires front { length front.old ≡ fact }
+    requires back { fact + 1 + length back.old ≤ length loading.now.catalog.now }
+    requires few { length loading.now.catalog.now ≤ 16 }
+    ensures front { RanFrom joined_source loading.now.catalog.now 0 front.old front.new result.0.0 }
+    ensures fact { RanFrom joined_source loading.now.catalog.now fact (source.old ∷ []) (source.new ∷ []) result.1 }
+    ensures back { RanFrom joined_source loading.now.catalog.now (fact + 1) back.old back.new result.0.1 }
+{
+    let behind = fact + 1;
+    let mut others = || -> Parts
+        requires { IsSend S.row × (length front.now ≤ length loading.now.catalog.now) × (behind + length back.now ≤ length loading.now.catalog.now) }
+        ensures front { RanFrom joined_source loading.entry.now.catalog.now 0 front.entry.now front.exit.now result.0 }
+        ensures back { RanFrom joined_source loading.entry.now.catalog.now behind back.entry.now back.exit.now result.1 }
+    {
+        (
+            load_in_turn(loading, 0, front),
+            load_in_turn(loading, behind, back),
+        )
+    };
+    let mut own = || -> Result<Vec<Table>, FileFault>
+        requires { IsSync R.row × IsSend S.row × (fact < length loading.now.catalog.now) }
+        ensures { RanFrom joined_source loading.entry.now.catalog.now fact (source.entry.now ∷ []) (source.exit.now ∷ []) result }
+    { load_one(rt, loading, fact, source) };
+    join_mut(rt, &mut others, &mut own)
+}
+
+/// [`load_all`](ssb_load::load_all) over threads: the fact table is loaded as [`load_with`](crate::load_with)
+/// does, in at most so many threads, the caller's among them, and the other tables in one more beside it.
+/// One thread is the caller's alone.
 ///
 /// # Errors
 ///
@@ -140,8 +177,10 @@ pub fn load_all_with<S: Source + Send, R: Threads + Sync>(
     catalog: &Catalog,
     sources: &mut [Joined<S>],
     piece_size: usize,
+    threads: u32,
 ) -> Result<Vec<Table>, FileFault>
-    requires { length sources.old ≡ length catalog.now }
+    requires sources { length sources.old ≡ length catalog.now }
+    requires threads { 0 < threads }
     ensures grows { GrewEach (map ⟦<Joined<S> as Source>⟧.given sources.old) (map ⟦<Joined<S> as Source>⟧.given sources.new) }
     ensures loads { LoadsAll catalog.now (given_each (map ⟦<Joined<S> as Source>⟧.given sources.old) (map ⟦<Joined<S> as Source>⟧.given sources.new)) result }
     ensures ended { OnOk result (RoseEach (map ⟦<Joined<S> as Source>⟧.ends sources.old) (map ⟦<Joined<S> as Source>⟧.ends sources.new)) }
@@ -150,12 +189,19 @@ pub fn load_all_with<S: Source + Send, R: Threads + Sync>(
     ensures lawful { IfOk result (λ tables. AreLawful catalog.now tables.items) }
     ensures catalog { OnOk result (IsCatalog catalog.now) }
 {
-    // A catalog has 1 to 16 tables.
-    let _lawful = catalog.tables();
+    if threads == 1 {
+        return load_all(alloc, catalog, sources, piece_size);
+    }
     let loading = Loading {
         alloc,
         catalog,
         piece_size,
+        threads,
     };
-    load_tables(rt, &loading, 0, sources)
+    let fact = fact_number(catalog);
+    let (front, rest) = sources.split_at_mut(fact as usize);
+    let (own, back) = rest.split_at_mut(1);
+    let ((first, last), middle) = load_beside(rt, &loading, fact, front, &mut own[0], back);
+    let rest = put_together(fact + 1, middle, last);
+    put_together(fact, first, rest)
 }

@@ -120,14 +120,16 @@ impl<S: Source + Send> Joined<S> {
         !self.begun && self.lanes.len() > 1
     }
 
-    // Reads each source to its end by a thread of its own, and puts together what they gave.
+    // Reads each source to its end, in at most so many threads, and puts together what they gave.
     pub(crate) fn read_together<R: Threads + Sync>(
         &mut self,
         rt: &R,
         alloc: Global,
         size: usize,
+        threads: u32,
         assembly: &mut Assembly,
     ) -> Result<(), LoadFault>
+        requires threads { 0 < threads }
         requires unread { self.old.begun ≡ false }
         requires none { IsAssembled assembly.old [] }
         ensures grows { ⟦<Joined<S> as Source>⟧.given self.new ≡ ⟦<Joined<S> as Source>⟧.given self.old ++ given_since (⟦<Joined<S> as Source>⟧.given self.old) (⟦<Joined<S> as Source>⟧.given self.new) }
@@ -139,7 +141,7 @@ impl<S: Source + Send> Joined<S> {
         ensures broken { IfErr result (λ e. IfRead e (λ n. ⟦<Joined<S> as Source>⟧.failures self.old < ⟦<Joined<S> as Source>⟧.failures self.new)) }
     {
         self.begun = true;
-        match read_together(rt, alloc, size, &mut self.lanes, assembly) {
+        match read_together(rt, alloc, size, threads, &mut self.lanes, assembly) {
             Ok(()) => {
                 self.at = self.lanes.len();
                 self.ended = self.ended.and(&());

@@ -2,15 +2,17 @@
 
 ghost use Rattle.std.specs.Prelude.{◌≡◌, ◌<◌, [], List, IfOk, OnOk, length, map};
 ghost use Rattle.ssb_lanes.specs.Assembly.{all_in};
-ghost use Rattle.ssb_lanes.specs.Joining.{AreColumnsOf, FitBehind, behind_each};
+ghost use Rattle.ssb_lanes.specs.Joining.{AreColumnsOf, AreJoined, FitBehind, Joins, behind_each};
+ghost use Rattle.ssb_cells.specs.Tables.{Filled};
 ghost use Rattle.ssb_records.specs.Records.{Fields};
+ghost use Rattle.ssb_lanes.specs.declared.joining.Joining.TheVariants as now;
 ghost use Rattle.ssb_load.specs.Rules.{columns_of};
 
 use ssb_cells::{Column, ColumnParts, Table};
 use ssb_terms::Rule;
 use std::alloc::{AllocError, Global};
-use std::thread;
 use std::thread::Threads;
+use std::{mem, thread};
 
 // A column without a part for each rule.
 fn stacks_of(alloc: Global, rules: &[Rule]) -> Result<Vec<ColumnParts>, AllocError>
@@ -54,26 +56,76 @@ fn stack_all(
     Ok(stacks)
 }
 
-// Each column of its parts, each put together by a thread of its own where one can be made.
+// The parts of a column, then the column of them.
+#[derive(Drop)]
+enum Joining {
+    Parts(ColumnParts),
+    Column(Column),
+    Refused,
+}
+
+// The parts of each column, to be put together.
+fn joinings_of(alloc: Global, stacks: Vec<ColumnParts>) -> Result<Vec<Joining>, AllocError>
+    ensures { IfOk result (λ joinings. joinings.items ≡ map now.Parts stacks.items) }
+{
+    stacks.into_iter().map(Joining::Parts).collect(alloc)
+}
+
+// Puts the parts of a column together.
+fn join_one(joining: &mut Joining)
+    ensures { Joins joining.old joining.new }
+{
+    *joining = match mem::replace(joining, Joining::Refused) {
+        Joining::Parts(parts) => match parts.join() {
+            Ok(column) => Joining::Column(column),
+            Err(_) => Joining::Refused,
+        },
+        other => other,
+    };
+}
+
+// Puts the parts of each column together, in at most so many threads, the caller's among them.
+fn join_all<R: Threads + Sync>(rt: &R, joinings: &mut [Joining], threads: u32)
+    requires { 0 < threads }
+    ensures { (stacks : List Filled) → joinings.old ≡ map now.Parts stacks → AreJoined stacks joinings.new }
+{
+    thread::for_each_mut(
+        rt,
+        joinings,
+        threads as usize,
+        &|_: usize, joining: &mut Joining|
+            ensures { Joins joining.entry.now joining.exit.now }
+        { join_one(joining) },
+    );
+}
+
+// The columns that parts became.
+fn joined_columns(alloc: Global, joinings: Vec<Joining>) -> Result<Vec<Column>, AllocError>
+    ensures { IfOk result (λ columns. (stacks : List Filled) → AreJoined stacks joinings.items → columns.items ≡ stacks) }
+{
+    let mut columns = Vec::new(alloc);
+    for joining in joinings {
+        match joining {
+            Joining::Column(column) => columns.push(column)?,
+            Joining::Parts(_) | Joining::Refused => return Err(AllocError),
+        }
+    }
+    Ok(columns)
+}
+
+// Each column of its parts.
 fn join_each<R: Threads + Sync>(
     rt: &R,
     alloc: Global,
     stacks: Vec<ColumnParts>,
+    threads: u32,
 ) -> Result<Vec<Column>, AllocError>
+    requires { 0 < threads }
     ensures { IfOk result (λ columns. columns.items ≡ stacks.items) }
 {
-    let joined = thread::map_vec(
-        rt,
-        stacks,
-        &|stack: ColumnParts| -> Result<Column, AllocError>
-            ensures { IfOk result (λ column. column ≡ stack) }
-        { stack.join() },
-    )?;
-    let mut columns = Vec::new(alloc);
-    for column in joined {
-        columns.push(column?)?;
-    }
-    Ok(columns)
+    let mut joinings = joinings_of(alloc, stacks)?;
+    join_all(rt, &mut joinings, threads);
+    joined_columns(alloc, joinings)
 }
 
 // The table of parts in their order.
@@ -82,12 +134,14 @@ pub(crate) fn join_parts<R: Threads + Sync>(
     alloc: Global,
     rules: &[Rule],
     parts: Vec<Vec<Column>>,
+    threads: u32,
 ) -> Result<Table, AllocError>
     requires some { 0 < length rules.now }
+    requires threads { 0 < threads }
     requires parts { (lists : List (List Fields)) × AreColumnsOf rules.now (map (λ v. v.items) parts.items) lists }
     ensures { IfOk result (λ table. (lists : List (List Fields)) → AreColumnsOf rules.now (map (λ v. v.items) parts.items) lists → table ≡ columns_of rules.now (all_in lists)) }
 {
     let stacks = stack_all(alloc, rules, parts)?;
-    let columns = join_each(rt, alloc, stacks)?;
+    let columns = join_each(rt, alloc, stacks, threads)?;
     Ok(Table::new(columns))
 }

@@ -1,6 +1,6 @@
 // The sources of a `Joined`, each with what was read of it.
 
-ghost use Rattle.std.specs.Prelude.{◌≡◌, [], map};
+ghost use Rattle.std.specs.Prelude.{◌≡◌, ◌<◌, [], map};
 ghost use Rattle.std.specs.List.{All};
 ghost use Rattle.ssb_load.specs.Subject.{table};
 ghost use Rattle.ssb_lanes.specs.Joined.{sources_in};
@@ -51,27 +51,25 @@ fn read_lane<S: Source>(
     };
 }
 
-// Reads each source to its end, each by a thread of its own where one can be made.
+// Reads each source to its end, in at most so many threads, the caller's among them.
 pub(crate) fn read_each<S: Source + Send, R: Threads + Sync>(
     rt: &R,
     alloc: Global,
     rules: &[Rule],
     max_rows: u32,
     size: usize,
+    threads: u32,
     lanes: &mut [Lane<S>],
 )
-    requires { All (λ l. S.given l.source ≡ []) lanes.old }
+    requires threads { 0 < threads }
+    requires silent { All (λ l. S.given l.source ≡ []) lanes.old }
     ensures whole { map S.whole (sources_in lanes.new) ≡ map S.whole (sources_in lanes.old) }
     ensures read { All (IsLaneRead S.given S.ends (table rules.now max_rows)) lanes.new }
 {
-    if lanes.is_empty() {
-        return;
-    }
-    let count = lanes.len();
     thread::for_each_mut(
         rt,
         lanes,
-        count,
+        threads as usize,
         &|_: usize, lane: &mut Lane<S>|
             requires { S.given lane.now.source ≡ [] }
             ensures { (S.whole lane.exit.now.source ≡ S.whole lane.entry.now.source) × IsLaneRead S.given S.ends (table rules.entry.now max_rows) lane.exit.now }

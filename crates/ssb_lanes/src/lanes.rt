@@ -66,14 +66,16 @@ pub(crate) fn add_all<S: Source>(
     Ok(())
 }
 
-// Reads each source to its end by a thread of its own, and puts together what they gave.
+// Reads each source to its end, in at most so many threads, and puts together what they gave.
 pub(crate) fn read_together<S: Source + Send, R: Threads + Sync>(
     rt: &R,
     alloc: Global,
     size: usize,
+    threads: u32,
     lanes: &mut [Lane<S>],
     assembly: &mut Assembly,
 ) -> Result<(), Stop>
+    requires threads { 0 < threads }
     requires silent { All (λ l. S.given l.source ≡ []) lanes.old }
     requires none { IsAssembled assembly.old [] }
     ensures whole { map S.whole (sources_in lanes.new) ≡ map S.whole (sources_in lanes.old) }
@@ -82,6 +84,6 @@ pub(crate) fn read_together<S: Source + Send, R: Threads + Sync>(
     ensures stops { IfErr result (StopsAt S.given S.ends (subject_in assembly.old) (sources_in lanes.new)) }
 {
     let rows = &assembly.last;
-    read_each(rt, alloc, rows.rules(), rows.max_rows, size, lanes);
+    read_each(rt, alloc, rows.rules(), rows.max_rows, size, threads, lanes);
     add_all(alloc, lanes, assembly)
 }

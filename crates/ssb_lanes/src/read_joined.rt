@@ -1,7 +1,7 @@
 // Reading a table of several sources, each by a thread of its own.
 //
 // `load_with` asks the `Joined` to read together what it joins. `read_each` gives each source to a
-// thread, which makes a `Part` of it: the bytes up to the first line feed, the rows of the whole lines,
+// thread, which makes a `Part` of each: the bytes up to the first line feed, the rows of the whole lines,
 // and what is left. `add_all` puts the parts into an `Assembly`, in the order of the sources; there the
 // line over a cut is read, faults get their number in the whole, and rows are counted against the limit.
 // `join_parts` makes one column of each column's parts. Where the table has a key, there is one source
@@ -21,9 +21,9 @@ use std::alloc::Global;
 use std::thread::Threads;
 
 /// [`load_in_pieces`](ssb_load::load_in_pieces) over sources one after the other, where a table without a
-/// key is read by several threads: each source by one of its own, where one can be made. The answer is
-/// the same. A table with a key is read by the caller's thread, and so is any table of one source, or of
-/// sources that were read before.
+/// key is read in at most so many threads, the caller's among them: the sources in runs of one length, each
+/// run by a thread, where one can be made. The answer is the same. A table with a key is read by the
+/// caller's thread, and so is any table of one source, or of sources that were read before.
 ///
 /// # Errors
 ///
@@ -36,8 +36,10 @@ pub fn load_with<S: Source + Send, R: Threads + Sync>(
     max_rows: u32,
     source: &mut Joined<S>,
     size: usize,
+    threads: u32,
 ) -> Result<Table, LoadFault>
-    requires { table < length catalog.now }
+    requires table { table < length catalog.now }
+    requires threads { 0 < threads }
     ensures { LoadsFrom ⟦<Joined<S> as Source>⟧.given ⟦<Joined<S> as Source>⟧.failures ⟦<Joined<S> as Source>⟧.ends ⟦<Joined<S> as Source>⟧.whole (rules_at catalog.now table) max_rows source.old source.new result }
 {
     let Ok(rules) = rules_at(alloc, catalog, table) else {
@@ -49,9 +51,9 @@ pub fn load_with<S: Source + Send, R: Threads + Sync>(
     let Ok(mut assembly) = Assembly::new(alloc, &rules, max_rows) else {
         return Err(LoadFault::Memory);
     };
-    source.read_together(rt, alloc, size, &mut assembly)?;
+    source.read_together(rt, alloc, size, threads, &mut assembly)?;
     let parts = assembly.finish(alloc)?;
-    match join_parts(rt, alloc, &rules, parts) {
+    match join_parts(rt, alloc, &rules, parts, threads) {
         Ok(table) => Ok(table),
         Err(_) => Err(LoadFault::Memory),
     }

@@ -274,3 +274,31 @@ begun-all source {ss = []} {bs = []} start le long = none
 begun-all source {ss = []} {bs = b ∷ bs} start le long = absurd (omega (arith, long))
 begun-all source {ss = s ∷ ss} start le long = absurd (omega arith)
 begun-all source (next h rest) le long = more h (begun-all source rest (omega arith) (omega (arith, long)))
+
+-- ---- the tables from a number on, one for each source
+
+rules-behind : (catalog : List TableShape) (n k : ℕ) → rules_at (drop n catalog) k ≡ rules_at catalog (n + k)
+rules-behind [] zero k = refl
+rules-behind [] (suc n) k = refl
+rules-behind (s ∷ ss) zero k = ap (rules_at (s ∷ ss)) (omega arith)
+rules-behind (s ∷ ss) (suc n) k =
+    let next : suc (n + k) ≡ suc n + k = omega arith in
+    rules-behind ss n k ∙ ap (rules_at (s ∷ ss)) next
+
+rules-first : (shapes : List TableShape) (m k : ℕ) → k < m → rules_at (take m shapes) k ≡ rules_at shapes k
+rules-first shapes zero k lt = absurd (omega (arith, lt))
+rules-first [] (suc m) k lt = refl
+rules-first (s ∷ ss) (suc m) zero lt = refl
+rules-first (s ∷ ss) (suc m) (suc k) lt = rules-first ss m k (omega (arith, lt))
+
+-- their rules are the catalog's
+pub rules-within : (catalog : List TableShape) (n m k : ℕ) → k < m → rules_at catalog (n + k) ≡ rules_at (take m (drop n catalog)) k
+rules-within catalog n m k lt = sym (rules-first (drop n catalog) m k lt ∙ rules-behind catalog n k)
+
+-- there are as many as asked for
+pub length-within : (catalog : List TableShape) (n m : ℕ) → n + m ≤ length catalog → m ≡ length (take m (drop n catalog))
+length-within catalog zero zero le = refl
+length-within [] zero (suc m) le = absurd (omega (arith, le))
+length-within (s ∷ ss) zero (suc m) le = ap suc (length-within ss zero m (omega (arith, le)))
+length-within [] (suc n) m le = absurd (omega (arith, le))
+length-within (s ∷ ss) (suc n) m le = length-within ss n m (omega (arith, le))

@@ -91,13 +91,13 @@ front-put k ps cs r q d lt e is =
     let g = rw (← same, z) at (front-set k 0 ps cs r q d lt e) in
     rw h g
 
--- what the columns are once the field at k is in its column as a value
-pub front-more : (k : ℕ) (ps : List Rule) (cs now : List Filled) (r : Fields) (q : Rule) (d new : Filled) (v : Value) → k < length ps → length cs ≡ length ps
-    → now ≡ with_front k 0 ps cs r → d ≡ get_or now k d → new ≡ with_cell d (cell_of v) → cell_of v ≡ cell_in (get_or ps k q).kind (field r k)
+-- what the columns are once one of them has the field at k
+pub front-more : (k : ℕ) (ps : List Rule) (cs now : List Filled) (r : Fields) (q : Rule) (d new : Filled) → k < length ps → length cs ≡ length ps
+    → now ≡ with_front k 0 ps cs r → d ≡ get_or now k d → new ≡ with_cell d (cell_in (get_or ps k q).kind (field r k))
     → set now k new ≡ with_front (k + 1) 0 ps cs r
-front-more k ps cs now r q d new v lt e now_is is new_is cell =
+front-more k ps cs now r q d new lt e now_is is new_is =
     let is_front : d ≡ get_or (with_front k 0 ps cs r) k d = rw now_is at is in
-    rw (now_is, new_is, cell) (front-put k ps cs r q d lt e is_front)
+    rw (now_is, new_is) (front-put k ps cs r q d lt e is_front)
 
 pub any-step : (t : Rule → List ℕ → Bool) (k : ℕ) (ps : List Rule) (q : Rule) (r : Fields) (all : Bool) → k < length ps → t (get_or ps k q) (field r k) ≡ false
     → all ≡ any_from t k (drop k ps) r → all ≡ any_from t (k + 1) (drop (k + 1) ps) r
@@ -112,7 +112,3 @@ column-size count k ps cs now r q d sized lt now_is is =
     let is_front : d ≡ get_or (with_front k 0 ps cs r) k d = rw now_is at is in
     let same : d ≡ get_or cs k d = is_front ∙ front-get k 0 ps cs r d (sized-len count ps cs sized) in
     rw (← same) at (sized-at count k ps cs q d sized lt)
-
-pub column-kind : (count k : ℕ) (ps : List Rule) (cs now : List Filled) (r : Fields) (q : Rule) (d : Filled) (v : Value) → AreSized count ps cs → k < length ps
-    → now ≡ with_front k 0 ps cs r → d ≡ get_or now k d → FitsType (get_or ps k q).kind (cell_of v) → FitsType d.kind (cell_of v)
-column-kind count k ps cs now r q d v sized lt now_is is typed = rw (← (column-size count k ps cs now r q d sized lt now_is is).0) at typed

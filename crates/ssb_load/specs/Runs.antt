@@ -1,6 +1,6 @@
 -- Loading the tables of a catalog, each of what its source gives: as far as it went.
 -- Source: own.
-use Rattle.std.specs.Prelude.{◌≡◌, ◌+◌, ◌++◌, ◌<◌, ◌≤◌, ◌∷◌, ℕ, List, [], drop, length, map, take, Result, Ok, Err, Vec}
+use Rattle.std.specs.Prelude.{◌≡◌, ◌+◌, ◌++◌, ◌∷◌, ℕ, List, [], drop, length, map, take, Result, Ok, Err, Vec}
 use Rattle.std.specs.declared.alloc.Global.{Global}
 use Rattle.ssb_records.specs.CutShort.{IfRead}
 use Rattle.ssb_cells.specs.Tables.{Columns}
@@ -38,10 +38,6 @@ pub data Stops {S : Type 0} (source : Source S) : ℕ → List TableShape → Li
 abbrev pub Ran : {S : Type 0} → Source S → ℕ → List TableShape → List S → List S → Result (Vec Columns Global) FileFault → Type 0
 Ran source n shapes before after (Ok tables) = AreLoaded source shapes before after tables.items
 Ran source n shapes before after (Err e) = Stops source n shapes before after e.table e.fault
-
--- from the n-th on a catalog has a table for each of these sources, of which there is one at least, and it has no more than 16
-abbrev pub HaveTables : {S : Type 0} → List TableShape → ℕ → List S → Type 0
-HaveTables catalog n sources = (0 < length sources) × (n + length sources ≤ length catalog) × (length catalog ≤ 16)
 
 -- what loading tables of a catalog from the n-th on answers, one for each source
 abbrev pub RanFrom : {S : Type 0} → Source S → List TableShape → ℕ → List S → List S → Result (Vec Columns Global) FileFault → Type 0

@@ -1,9 +1,10 @@
 // Loading the tables of a catalog, each of what its source gives.
 
-ghost use Rattle.std.specs.Prelude.{◌≡◌, IfErr, IfOk, List, OnOk, Some, length, map};
+ghost use Rattle.std.specs.Prelude.{◌≡◌, ◌+◌, ◌≤◌, IfErr, IfOk, List, OnOk, Some, length, map};
 ghost use Rattle.ssb_catalog.specs.Catalog.{IsCatalog};
 ghost use Rattle.ssb_records.specs.CutShort.{IfRead};
 ghost use Rattle.ssb_load.specs.Files.{AreLawful, Bytes, FailedAt, GrewEach, LoadsAll, RoseEach, given_each};
+ghost use Rattle.ssb_load.specs.Runs.{RanFrom};
 
 use crate::fault::FileFault;
 use crate::read_table::load_in_pieces;
@@ -11,6 +12,49 @@ use ssb_catalog::Catalog;
 use ssb_cells::Table;
 use ssb_records::{LoadFault, Source};
 use std::alloc::Global;
+
+/// The tables of a catalog from this number on, one for each source, each of what its source gives to the
+/// end, or the first fault. Sources are read in pieces of this many bytes, where no line is longer; the
+/// size changes no answer.
+///
+/// # Errors
+///
+/// As of [`load_all`].
+pub fn load_tables<S: Source>(
+    alloc: Global,
+    catalog: &Catalog,
+    first: usize,
+    sources: &mut [S],
+    piece_size: usize,
+) -> Result<Vec<Table>, FileFault>
+    requires { first + length sources.old ≤ length catalog.now }
+    ensures { RanFrom S.Source catalog.now first sources.old sources.new result }
+{
+    // A catalog has at most 16 tables.
+    let _lawful = catalog.tables();
+    let mut tables = Vec::new(alloc);
+    for place in 0..sources.len() {
+        let number = first + place;
+        let source = &mut sources[place];
+        match load_in_pieces(alloc, catalog, number, u32::MAX, source, piece_size) {
+            Ok(table) => {
+                let Ok(()) = tables.push(table) else {
+                    return Err(FileFault {
+                        table: number as u32,
+                        fault: LoadFault::Memory,
+                    });
+                };
+            }
+            Err(fault) => {
+                return Err(FileFault {
+                    table: number as u32,
+                    fault,
+                });
+            }
+        }
+    }
+    Ok(tables)
+}
 
 /// The tables of a catalog in its order, each of what its source gives to the end, or the first fault.
 /// Sources are read in pieces of this many bytes, where no line is longer; the size changes no answer.
@@ -34,31 +78,7 @@ pub fn load_all<S: Source>(
     ensures lawful { IfOk result (λ tables. AreLawful catalog.now tables.items) }
     ensures catalog { OnOk result (IsCatalog catalog.now) }
 {
-    let mut tables = Vec::new(alloc);
-    for number in 0..catalog.tables().len() {
-        match load_in_pieces(
-            alloc,
-            catalog,
-            number,
-            u32::MAX,
-            &mut sources[number],
-            piece_size,
-        ) {
-            Ok(table) => {
-                let Ok(()) = tables.push(table) else {
-                    return Err(FileFault {
-                        table: number as u32,
-                        fault: LoadFault::Memory,
-                    });
-                };
-            }
-            Err(fault) => {
-                return Err(FileFault {
-                    table: number as u32,
-                    fault,
-                });
-            }
-        }
-    }
-    Ok(tables)
+    // A catalog is lawful.
+    let _lawful = catalog.tables();
+    load_tables(alloc, catalog, 0, sources, piece_size)
 }

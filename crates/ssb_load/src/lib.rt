@@ -18,7 +18,7 @@ mod read_table;
 pub mod table_intake;
 mod value;
 
-pub use all_tables::load_all;
+pub use all_tables::{load_all, load_tables};
 pub use fault::FileFault;
 pub use judge::key_place;
 pub use read_table::{load, load_from, load_in_pieces, rules_at};

@@ -11,7 +11,7 @@ ghost use Rattle.ssb_load.specs.Tables.{repeats};
 ghost use Rattle.ssb_load.specs.Loader.{seen_in, AddsKey, AreSized, IsFaultBy, fails_some, fault_by, with_record};
 
 use crate::judge::{number_in_field, refuse};
-use crate::value::value_of;
+use crate::value::push_field;
 use csv::ByteRecord;
 use ssb_cells::{Column, ColumnBuilder, Table};
 use ssb_records::{LoadFault, field_text, is_all_text, is_wide};
@@ -48,11 +48,10 @@ fn push_fields(
     ensures pushed { IfOk result (λ passed. passed ≡ true → columns.new.items ≡ with_record rules.now columns.old.items (fields_of row.now)) }
 {
     for k in 0..rules.len() {
-        let Some(value) = value_of(rules[k], field_text(row, k)) else {
-            return Ok(false);
-        };
         let column = &mut columns[k];
-        column.push(value)?;
+        if !push_field(column, rules[k], field_text(row, k))? {
+            return Ok(false);
+        }
     }
     Ok(true)
 }

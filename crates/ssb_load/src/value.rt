@@ -1,15 +1,13 @@
 // One field under its rule.
 
-ghost use Rattle.std.specs.Prelude.{◌≡◌, ◌||◌, is_none, IfSome};
-ghost use Rattle.ssb_cells.specs.Lawful.{FitsType};
-ghost use Rattle.ssb_cells.specs.Values.{cell_of};
+ghost use Rattle.std.specs.Prelude.{◌≡◌, ◌<◌, length, not, true, IfOk};
 ghost use Rattle.ssb_load.specs.Rules.{cell_in};
-ghost use Rattle.ssb_load.specs.Loader.{fails};
-ghost use Rattle.ssb_load.specs.declared.value.Test.TheVariants as tests;
+ghost use Rattle.ssb_load.specs.Loader.{fails, fails_some, with_cell};
 
 use crate::number::number;
-use ssb_cells::Value;
+use ssb_cells::{ColumnBuilder, Value};
 use ssb_terms::{ColType, Rule};
+use std::alloc::AllocError;
 
 const MAX_TEXT: usize = 4096;
 
@@ -24,30 +22,41 @@ pub(crate) enum Test {
     Length,
 }
 
-// The value of a field under its rule, where it fails no test.
-pub(crate) fn value_of<'a>(rule: Rule, text: &'a str) -> Option<Value<'a>>
-    ensures fails { is_none result ≡ (fails tests.Number rule text.now || (fails tests.Value rule text.now || fails tests.Length rule text.now)) }
-    ensures cell { IfSome result (λ v. cell_of v ≡ cell_in rule.kind text.now) }
-    ensures kind { IfSome result (λ v. FitsType rule.kind (cell_of v)) }
+// Puts a field's value into its column, where it fails no test. Each kind of value has a call of its own, in
+// which the compiler knows the kind.
+#[inline(always)]
+pub(crate) fn push_field(
+    column: &mut ColumnBuilder,
+    rule: Rule,
+    text: &str,
+) -> Result<bool, AllocError>
+    requires kind { column.old.kind ≡ rule.kind }
+    requires room { length column.old.values < 4294967295 }
+    ensures fails { IfOk result (λ passed. fails_some rule text.now ≡ not passed) }
+    ensures pushed { IfOk result (λ passed. passed ≡ true → column.new ≡ with_cell column.old (cell_in rule.kind text.now)) }
 {
     if text.is_empty() {
         if rule.role.needs_value() {
-            return None;
+            return Ok(false);
         }
-        return Some(Value::Null);
+        column.push(Value::Null)?;
+        return Ok(true);
     }
     match rule.kind {
-        ColType::Int => match number(text) {
-            Some(value) => Some(Value::Int(value)),
-            None => None,
-        },
+        ColType::Int => {
+            let Some(value) = number(text) else {
+                return Ok(false);
+            };
+            column.push(Value::Int(value))?;
+        }
         ColType::Text => {
             if text.len() > MAX_TEXT {
-                return None;
+                return Ok(false);
             }
-            Some(Value::Text(text))
+            column.push(Value::Text(text))?;
         }
     }
+    Ok(true)
 }
 
 // Whether a field fails a test of its rule.

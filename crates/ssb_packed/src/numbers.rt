@@ -148,21 +148,27 @@ fn add_all(kept: &mut Kept, block: &[i64]) -> Result<(), AllocError>
 {
     match kept {
         Kept::One(numbers) => {
-            numbers.reserve(block.len())?;
-            for number in block {
-                numbers.push_reserved(*number as i8);
+            let before = numbers.len();
+            numbers.resize(before + block.len(), 0)?;
+            let (_, room) = numbers.split_at_mut(before);
+            for k in 0..block.len() {
+                room[k] = block[k] as i8;
             }
         }
         Kept::Two(numbers) => {
-            numbers.reserve(block.len())?;
-            for number in block {
-                numbers.push_reserved(*number as i16);
+            let before = numbers.len();
+            numbers.resize(before + block.len(), 0)?;
+            let (_, room) = numbers.split_at_mut(before);
+            for k in 0..block.len() {
+                room[k] = block[k] as i16;
             }
         }
         Kept::Four(numbers) => {
-            numbers.reserve(block.len())?;
-            for number in block {
-                numbers.push_reserved(*number as i32);
+            let before = numbers.len();
+            numbers.resize(before + block.len(), 0)?;
+            let (_, room) = numbers.split_at_mut(before);
+            for k in 0..block.len() {
+                room[k] = block[k] as i32;
             }
         }
         Kept::Eight(numbers) => numbers.extend_from_slice(block)?,

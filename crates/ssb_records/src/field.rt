@@ -2,7 +2,7 @@
 
 ghost use Rattle.std.specs.Prelude.{◌≡◌, length, true};
 ghost use Rattle.std.specs.List.{list_all};
-ghost use Rattle.std.specs.Str.{is_utf8, IsAscii};
+ghost use Rattle.std.specs.Str.{is_utf8};
 ghost use Rattle.csv.specs.Records.{fields_of};
 ghost use Rattle.ssb_records.specs.Records.{field};
 ghost use Rattle.ssb_records.specs.Width.{has_width};
@@ -31,22 +31,10 @@ pub fn is_wide(row: &ByteRecord, count: usize) -> bool
 pub fn is_all_text(row: &ByteRecord) -> bool
     ensures { result ≡ list_all is_utf8 (fields_of row.now) }
 {
-    if is_all_ascii(row.as_slice()) {
+    if row.as_slice().is_ascii() {
         return true;
     }
     is_each_text(row)
-}
-
-// Whether each byte is ASCII. The greatest byte tells, in one pass without a branch.
-fn is_all_ascii(bytes: &[u8]) -> bool
-    ensures { result ≡ true → IsAscii bytes.now }
-{
-    let mut most: u8 = 0;
-    for k in 0..bytes.len() {
-        let byte = bytes[k];
-        most = if byte > most { byte } else { most };
-    }
-    most < 128
 }
 
 #[cold]

@@ -20,6 +20,3 @@ returns-clause-read g c =
 
 pub for_each_mut-requires-clause-accepts : goal.for_each_mut-requires-clause-accepts
 for_each_mut-requires-clause-accepts g c = grind (arith, common_steps)
-
-pub returns-then-is_empty-clause-read : goal.returns-then-is_empty-clause-read
-returns-then-is_empty-clause-read g c = grind (arith, common_steps)

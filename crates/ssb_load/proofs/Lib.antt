@@ -7,3 +7,4 @@ pub mod NumberFacts
 pub mod OneKey
 pub mod RuleFacts
 pub mod TableTaking
+mod WordFacts

@@ -4,12 +4,13 @@
 //!   [`load_all`] for the tables of a catalog.
 //! - Callers: `ssb_lanes`, which loads a table's sections side by side; `ssb_answer`; embedders.
 //! - Files: `read_table`, `all_tables`; `table_intake`, a table on its way, by `loader`, `value`,
-//!   `number`, and `judge` where a record is faulty; `fault`.
+//!   `number` and `digits`, and `judge` where a record is faulty; `fault`.
 //! - Definitions: `Tables`, `Rules`, `Numbers`, `Loading`, `Files`, `Runs`: what loading answers;
 //!   `Subject`, `Loader`, `TableIntake`: for the contracts inside.
 #![tactic(auto)]
 
 mod all_tables;
+mod digits;
 pub mod fault;
 mod judge;
 mod loader;

@@ -3,6 +3,8 @@
 ghost use Rattle.std.specs.Prelude.{◌≡◌, ◌<◌, Some, IfSome};
 ghost use Rattle.ssb_load.specs.Numbers.{number_of};
 
+use crate::digits::few_digits;
+
 /// The number that a text spells.
 pub fn number(text: &str) -> Option<i64>
     ensures { result ≡ number_of text.now }
@@ -14,10 +16,14 @@ pub fn number(text: &str) -> Option<i64>
 }
 
 // The number that up to 18 digits spell. None may be another number.
+#[inline(always)]
 fn short_number(bytes: &[u8]) -> Option<i64>
     ensures { IfSome result (λ n. number_of bytes.now ≡ Some n) }
 {
     let count = bytes.len();
+    if count >= 4 && count <= 8 {
+        return i64::try_from(few_digits(bytes)?).ok();
+    }
     if count == 0 || count > 18 {
         return None;
     }

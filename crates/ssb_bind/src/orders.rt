@@ -68,7 +68,7 @@ fn bound_order(items: &[Item], order: &Order) -> BoundOrder
 }
 
 /// For each key of ORDER BY the place of the select column that it stands for, and whether it descends.
-/// A key that [`check`](crate::check) refuses stands for the first.
+/// A key that `check` refuses stands for the first.
 ///
 /// # Errors
 ///

@@ -18,7 +18,7 @@ pub(crate) fn table_number(catalog: &[TableDef], name: &Name) -> Option<usize>
     catalog.iter().position(|table| table.is_named(name))
 }
 
-/// The numbers of FROM's tables in the catalog: 0 for a name of no table, which [`check`](crate::check)
+/// The numbers of FROM's tables in the catalog: 0 for a name of no table, which `check`
 /// refuses.
 ///
 /// # Errors
@@ -98,7 +98,7 @@ pub(crate) fn fit_of(catalog: &[TableDef], from: &[usize], name: &ColumnName) ->
 }
 
 /// The column that a name stands for: the first of FROM for a name that fits none or several, which
-/// [`check`](crate::check) refuses.
+/// `check` refuses.
 pub(crate) fn bound_name(catalog: &[TableDef], from: &[usize], name: &ColumnName) -> BoundColumn
     ensures { result ≡ columns.bound_name catalog.now from.now name.now }
 {

@@ -2,9 +2,6 @@
 use Rattle.std.proofs.Common.{◌≡◌, ◌∙◌, ◌+◌, ◌<◌, ◌≤◌, ◌||◌, ℕ, zero, suc, Bool, false, cond, List, [], ◌∷◌, length, drop, get_or, Some, None, refl, ap, arith, add-one}
 use Rattle.std.proofs.Math.ListN.{set}
 use Rattle.ssb_cells.specs.Tables.{Filled}
-use Rattle.ssb_cells.specs.Lawful.{FitsType}
-use Rattle.ssb_cells.specs.Values.{cell_of}
-use Rattle.ssb_cells.specs.declared.value.Value.{Value}
 use Rattle.ssb_records.specs.Records.{Fields, field}
 use Rattle.ssb_terms.specs.Roles.{key_from, is_key}
 use Rattle.ssb_load.specs.Rules.{any_from, cell_in}

@@ -1,14 +1,11 @@
 -- What the loader holds after some records.
 -- For the contracts inside this crate.
-use Rattle.std.specs.Prelude.{◌≡◌, ◌+◌, ◌++◌, ◌∷◌, ℕ, ℤ, Bool, true, false, ◌||◌, suc, zero, List, [], length, not, nat_eq, nat_le, nat_lt, Option, None, Some, ⊤, if◌then◌else◌}
+use Rattle.std.specs.Prelude.{◌≡◌, ◌+◌, ◌++◌, ◌∷◌, ℕ, ℤ, Bool, true, ◌||◌, suc, zero, List, [], length, not, nat_le, Option, None, Some, ⊤, if◌then◌else◌}
 use Rattle.std.specs.List.{list_all, list_any}
 use Rattle.std.specs.Ordering.{int_eq}
 use Rattle.std.specs.Str.{is_utf8}
 use Rattle.ssb_cells.specs.Cell.{Cell}
 use Rattle.ssb_cells.specs.Tables.{Filled}
-use Rattle.ssb_cells.specs.declared.value.Value.{Value}
-use Rattle.ssb_cells.specs.declared.value.Value.TheVariants as values
-use Rattle.ssb_load.specs.Numbers.{number_of}
 use Rattle.ssb_records.specs.Records.{Fields, field}
 use Rattle.ssb_load.specs.Rules.{any_field, cell_in, columns_of, is_key_taken, is_bad_number, is_missing, is_too_long, key_of}
 use Rattle.ssb_load.specs.Tables.{repeats}

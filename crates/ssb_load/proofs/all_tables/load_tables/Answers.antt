@@ -1,4 +1,4 @@
-use Rattle.std.proofs.Common.{◌+◌, Err, Ok, add-one, drop, get_or, length, refl, subst, take, arith}
+use Rattle.std.proofs.Common.{◌+◌, Err, Ok, add-one, get_or, length, refl, subst, arith}
 use Rattle.ssb_load.proofs.LoadingAll.{begun-all, begun-length, begun-next, begun-refused, begun-stops, length-within, rules-within}
 use Rattle.ssb_load.proofs.LoadingAll.Begun.{start}
 use Rattle.ssb_load.specs.Runs.{IsLoaded}

@@ -160,24 +160,13 @@ pub fn write_answered<W: Sink>(
     Ok(())
 }
 
-// In how many threads tables are loaded: in the caller's alone for one worker, and otherwise in two for each,
-// since sections of one size take unequal times where cores differ.
-fn loading_threads(settings: Settings) -> u32
-    ensures { 0 < result }
-{
-    if settings.workers == 1 {
-        return 1;
-    }
-    2 * settings.workers
-}
-
 /// Answers a query over the tables of a catalog, each of what its sources give, in the catalog's order,
 /// and writes the answer's rows. It loads all tables, reads the query, binds it, answers and writes;
 /// the first fault ends it, and nothing is written before the answer is complete.
 ///
 /// One worker loads in the caller's thread. Otherwise a table without a key is read from the sources that
-/// stand joined for it in up to two threads for each worker, and the other tables by one more; then workers
-/// take the morsels of the fact table from parts, and make the groups of each in threads of their
+/// stand joined for it in as many threads as workers, the caller's among them, and the other tables by one
+/// more; then workers take the morsels of the fact table from parts, and make the groups of each in threads of their
 /// own. They may wait for each other. How a table's bytes are cut into sources, how many workers and
 /// parts there are, and how large a morsel is, changes no answer.
 ///
@@ -201,7 +190,7 @@ pub fn run_from<R: Threads + Wait + Sync, S: Source + Send, G: Gate + Sync, W: S
     ensures runs { let source = ⟦<Joined<S> as Source>⟧ in RunsFrom source.given source.failures source.ends source.whole catalog text.now sources.old sources.new result (W.taken out.old) (W.taken out.new) }
     ensures sink { LeavesSink result (W.taken out.old) (W.taken out.new) (W.failures out.old) (W.failures out.new) (W.contents out.old) (W.contents out.new) }
 {
-    let threads = loading_threads(settings);
+    let threads = settings.workers;
     let tables = load_all_with(rt, alloc, &catalog, sources, PIECE_SIZE, threads)?;
     let answered = answer_text_shared(rt, alloc, &catalog, tables, text, settings, gate);
     write_answered(answered, out)

@@ -32,8 +32,8 @@ struct Loading<'a> {
     ghost some: { 0 < threads },
 }
 
-// The tables of two parts of a catalog, each with its own answer.
-type Parts = (Result<Vec<Table>, FileFault>, Result<Vec<Table>, FileFault>);
+// The tables before the fact table and those behind it, each list with its own answer.
+type Others = (Result<Vec<Table>, FileFault>, Result<Vec<Table>, FileFault>);
 
 // The tables of one part of a catalog before those of the next, which begins with this number, or the
 // first fault of both.
@@ -138,7 +138,7 @@ fn load_beside<S: Source + Send, R: Threads + Sync>(
     front: &mut [Joined<S>],
     source: &mut Joined<S>,
     back: &mut [Joined<S>],
-) -> (Parts, Result<Vec<Table>, FileFault>)
+) -> (Others, Result<Vec<Table>, FileFault>)
     requires front { length front.old ≡ fact }
     requires back { fact + 1 + length back.old ≤ length loading.now.catalog.now }
     requires few { length loading.now.catalog.now ≤ 16 }
@@ -147,7 +147,7 @@ fn load_beside<S: Source + Send, R: Threads + Sync>(
     ensures back { RanFrom joined_source loading.now.catalog.now (fact + 1) back.old back.new result.0.1 }
 {
     let behind = fact + 1;
-    let mut others = || -> Parts
+    let mut others = || -> Others
         requires { IsSend S.row × (length front.now ≤ length loading.now.catalog.now) × (behind + length back.now ≤ length loading.now.catalog.now) }
         ensures front { RanFrom joined_source loading.entry.now.catalog.now 0 front.entry.now front.exit.now result.0 }
         ensures back { RanFrom joined_source loading.entry.now.catalog.now behind back.entry.now back.exit.now result.1 }

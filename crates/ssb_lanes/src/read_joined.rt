@@ -1,7 +1,7 @@
-// Reading a table of several sources, each by a thread of its own.
+// Reading a table of several sources side by side, in threads.
 //
-// `load_with` asks the `Joined` to read together what it joins. `read_each` gives each source to a
-// thread, which makes a `Part` of each: the bytes up to the first line feed, the rows of the whole lines,
+// `load_with` asks the `Joined` to read together what it joins. `read_each` shares the sources out among
+// threads, which make a `Part` of each: the bytes up to the first line feed, the rows of the whole lines,
 // and what is left. `add_all` puts the parts into an `Assembly`, in the order of the sources; there the
 // line over a cut is read, faults get their number in the whole, and rows are counted against the limit.
 // `join_parts` makes one column of each column's parts. Where the table has a key, there is one source

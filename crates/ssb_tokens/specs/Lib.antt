@@ -2,4 +2,5 @@ pub mod Class
 pub mod Lexes
 pub mod Reading
 pub mod Scanning
+pub mod Statements
 pub mod Tokens

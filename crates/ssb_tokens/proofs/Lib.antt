@@ -1,6 +1,8 @@
 pub mod ReadingFacts
 pub mod ReservedWords
 pub mod ScanSteps
+pub mod SingleStatement
+pub mod StatementFacts
 pub mod TextUtf8
 pub mod TokenComplete
 pub mod TokenFront

@@ -107,7 +107,7 @@ letter_class b h = cond-true (is_ascii_alphabetic b) k.Letter _ h
 digit_class : (b : ℕ) → is_ascii_digit b ≡ true → class_of b ≡ k.Digit
 digit_class b h = cond-false (is_ascii_alphabetic b) k.Letter _ (digit_not_letter b h) ∙ cond-true (is_ascii_digit b) k.Digit _ h
 
-word_each : (b : ℕ) (bs : List ℕ) → is_word (b ∷ bs) ≡ true → Each is_word_byte (b ∷ bs)
+pub word_each : (b : ℕ) (bs : List ℕ) → is_word (b ∷ bs) ≡ true → Each is_word_byte (b ∷ bs)
 word_each b bs w =
     let two = and_parts (is_ascii_alphabetic b) (list_all is_word_byte bs) w in
     ap (λ t. t && list_all is_word_byte bs) (letter_in_word b two.0) ∙ two.1

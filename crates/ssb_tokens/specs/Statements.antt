@@ -9,8 +9,8 @@ pub data Place : Type 0 where
   literal : Place
   comment : Place
 
--- one byte more of a statement that has begun
-abbrev pub within : List ℕ → ℕ → List ℕ
+-- one more byte, or token, of a statement that has begun
+abbrev pub within : {A : Type 0} → List A → A → List A
 within [] b = []
 within (s ∷ ss) b = (s ∷ ss) ++ b ∷ []
 
@@ -19,7 +19,7 @@ abbrev pub in_plain : List ℕ → ℕ → List ℕ
 in_plain so_far b = if is_blank b then within so_far b else so_far ++ b ∷ []
 
 -- a statement that has nothing is none
-abbrev pub if_any : List ℕ → List (List ℕ)
+abbrev pub if_any : {A : Type 0} → List A → List (List A)
 if_any [] = []
 if_any (s ∷ ss) = (s ∷ ss) ∷ []
 

@@ -7,6 +7,7 @@ pub mod ExpressionSound
 pub mod ItemFacts
 pub mod Loop
 pub mod PartFacts
+pub mod QueryStatement
 pub mod SelectComplete
 pub mod SelectSound
 pub mod Shapes

@@ -4,6 +4,7 @@ pub mod Exact
 pub mod Expressions
 pub mod Forms
 pub mod Grammar
+pub mod OneStatement
 pub mod ReadConditions
 pub mod ReadExpressions
 pub mod ReadParts

@@ -1,5 +1,6 @@
 // From a text to the query that it spells.
 
+ghost use Rattle.ssb_sql.specs.OneStatement.{OneStatement};
 ghost use Rattle.ssb_sql.specs.Spells.{OneSelect, ReadsText};
 
 use crate::fault::SqlFault;
@@ -31,4 +32,9 @@ pub fn read(alloc: Global, text: &str) -> Result<Select, SqlFault>
 /// A text spells at most one query.
 pub fn one_select()
     ensures { OneSelect }
+{}
+
+/// The text of a query has one statement, which reads as the same query.
+pub fn one_statement()
+    ensures { OneStatement }
 {}

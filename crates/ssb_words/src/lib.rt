@@ -12,4 +12,4 @@ mod benchmark;
 pub mod words;
 
 pub use benchmark::text_named;
-pub use words::{QuerySource, Task, WordsFault, task_of};
+pub use words::{QuerySource, Tables, Task, WordsFault, task_of};

@@ -17,25 +17,39 @@ pub enum QuerySource<'a> {
     Text(&'static str),
 }
 
+/// The tables that queries are answered over, and how the work over them is divided.
+#[derive(Clone, Copy)]
+pub struct Tables<'a> {
+    /// The folder of the tables' files.
+    pub data: &'a str,
+    /// The catalog's file, where another than the built-in one is meant.
+    pub catalog: Option<&'a str>,
+    /// How many workers there are, where that is said: like the numbers below, any of 32 bits.
+    pub workers: Option<u32>,
+    /// How many rows a morsel has, where that is said.
+    pub morsel: Option<u32>,
+    /// How many parts there are, where that is said.
+    pub parts: Option<u32>,
+    /// Up to how many morsels a worker takes at a time, where that is said.
+    pub batch: Option<u32>,
+}
+
 /// What is asked.
 #[derive(Clone, Copy)]
 pub enum Task<'a> {
-    /// To answer a query over the tables of a folder.
+    /// To answer a query over tables.
     Run {
-        /// The folder.
-        data: &'a str,
+        /// The tables.
+        tables: Tables<'a>,
         /// The query.
         query: QuerySource<'a>,
-        /// The catalog's file, where another than the built-in one is meant.
-        catalog: Option<&'a str>,
-        /// How many workers there are, where that is said: like the numbers below, any of 32 bits.
-        workers: Option<u32>,
-        /// How many rows a morsel has, where that is said.
-        morsel: Option<u32>,
-        /// How many parts there are, where that is said.
-        parts: Option<u32>,
-        /// Up to how many morsels a worker takes at a time, where that is said.
-        batch: Option<u32>,
+    },
+    /// To load tables once, and to answer each query of the standard input over them.
+    Shell {
+        /// The tables.
+        tables: Tables<'a>,
+        /// Whether the first fault of a query ends it.
+        stop: bool,
     },
     /// To say whether a query means something over a catalog.
     Check {
@@ -57,11 +71,12 @@ pub enum WordsFault {
     Memory,
 }
 
-// An option with a value.
+// An option.
 #[derive(Clone, Copy)]
 struct Choice {
     name: &'static str,
-    value: &'static str,
+    // What help calls its value, none where it has no value and is given or not.
+    value: Option<&'static str>,
     help: &'static str,
     is_required: bool,
 }
@@ -74,63 +89,79 @@ struct Action {
     choices: &'static [Choice],
 }
 
+const DATA: Choice = Choice {
+    name: "data",
+    value: Some("DIR"),
+    help: "The folder with a file TABLE.tbl for each table",
+    is_required: true,
+};
+
 const QUERY: Choice = Choice {
     name: "query",
-    value: "FILE",
+    value: Some("FILE"),
     help: "The query",
+    is_required: false,
+};
+
+const NAME: Choice = Choice {
+    name: "name",
+    value: Some("NAME"),
+    help: "The query of the benchmark, Q1.1 to Q4.3, in place of a file",
     is_required: false,
 };
 
 const CATALOG: Choice = Choice {
     name: "catalog",
-    value: "FILE",
+    value: Some("FILE"),
     help: "The tables and their columns, where they are not those of the benchmark",
+    is_required: false,
+};
+
+const WORKERS: Choice = Choice {
+    name: "workers",
+    value: Some("N"),
+    help: "How many workers take morsels, each in a thread, 1 to 64; 4 if not given",
+    is_required: false,
+};
+
+const MORSEL: Choice = Choice {
+    name: "morsel",
+    value: Some("N"),
+    help: "How many rows of the fact table are one morsel, 1 to 1048576; 10000 if not given",
+    is_required: false,
+};
+
+const PARTS: Choice = Choice {
+    name: "parts",
+    value: Some("N"),
+    help: "Into how many parts the morsels are divided, 1 to 16; 1 if not given",
+    is_required: false,
+};
+
+const BATCH: Choice = Choice {
+    name: "batch",
+    value: Some("N"),
+    help: "Up to how many morsels a worker takes at a time, 1 to 64; 1 if not given",
+    is_required: false,
+};
+
+const STOP: Choice = Choice {
+    name: "stop",
+    value: None,
+    help: "Ends at the first fault",
     is_required: false,
 };
 
 static RUN: Action = Action {
     name: "run",
     about: "Answers a query over tables",
-    choices: &[
-        Choice {
-            name: "data",
-            value: "DIR",
-            help: "The folder with a file TABLE.tbl for each table",
-            is_required: true,
-        },
-        QUERY,
-        Choice {
-            name: "name",
-            value: "NAME",
-            help: "The query of the benchmark, Q1.1 to Q4.3, in place of a file",
-            is_required: false,
-        },
-        CATALOG,
-        Choice {
-            name: "workers",
-            value: "N",
-            help: "How many workers take morsels, each in a thread, 1 to 64; 4 if not given",
-            is_required: false,
-        },
-        Choice {
-            name: "morsel",
-            value: "N",
-            help: "How many rows of the fact table are one morsel, 1 to 1048576; 10000 if not given",
-            is_required: false,
-        },
-        Choice {
-            name: "parts",
-            value: "N",
-            help: "Into how many parts the morsels are divided, 1 to 16; 1 if not given",
-            is_required: false,
-        },
-        Choice {
-            name: "batch",
-            value: "N",
-            help: "Up to how many morsels a worker takes at a time, 1 to 64; 1 if not given",
-            is_required: false,
-        },
-    ],
+    choices: &[DATA, QUERY, NAME, CATALOG, WORKERS, MORSEL, PARTS, BATCH],
+};
+
+static SHELL: Action = Action {
+    name: "shell",
+    about: "Loads tables once and answers each query of the standard input",
+    choices: &[DATA, CATALOG, WORKERS, MORSEL, PARTS, BATCH, STOP],
 };
 
 static CHECK: Action = Action {
@@ -146,12 +177,14 @@ static CHECK: Action = Action {
 };
 
 fn option<'a>(alloc: Global, choice: &Choice) -> Arg<'a> {
-    Arg::new(alloc, choice.name)
+    let option = Arg::new(alloc, choice.name)
         .long(choice.name)
-        .action(ArgAction::Set)
-        .value_name(choice.value)
         .help(choice.help)
-        .required(choice.is_required)
+        .required(choice.is_required);
+    match choice.value {
+        Some(value) => option.action(ArgAction::Set).value_name(value),
+        None => option.action(ArgAction::SetTrue),
+    }
 }
 
 // The program with a further command, or why there is none. The prover is slow wherever a command may
@@ -185,6 +218,7 @@ fn program<'a>(alloc: Global) -> Result<Command<'a>, AllocError> {
 
 fn command<'a>(alloc: Global) -> Result<Command<'a>, AllocError> {
     let program = with_command(alloc, program(alloc), &RUN);
+    let program = with_command(alloc, program, &SHELL);
     with_command(alloc, program, &CHECK)
 }
 
@@ -208,17 +242,32 @@ fn number(found: &ArgMatches, name: &str) -> Option<Option<u32>> {
     found.try_get_one(name).ok()
 }
 
-fn run_task<'a>(found: &ArgMatches<'a>) -> Option<Task<'a>>
-    ensures { IfSome result AsksKnownQuery }
-{
-    Some(Task::Run {
+fn tables_in<'a>(found: &ArgMatches<'a>) -> Option<Tables<'a>> {
+    Some(Tables {
         data: found.get_str("data")?,
-        query: query_source(found)?,
         catalog: found.get_str("catalog"),
         workers: number(found, "workers")?,
         morsel: number(found, "morsel")?,
         parts: number(found, "parts")?,
         batch: number(found, "batch")?,
+    })
+}
+
+fn run_task<'a>(found: &ArgMatches<'a>) -> Option<Task<'a>>
+    ensures { IfSome result AsksKnownQuery }
+{
+    Some(Task::Run {
+        tables: tables_in(found)?,
+        query: query_source(found)?,
+    })
+}
+
+fn shell_task<'a>(found: &ArgMatches<'a>) -> Option<Task<'a>>
+    ensures { IfSome result AsksKnownQuery }
+{
+    Some(Task::Shell {
+        tables: tables_in(found)?,
+        stop: found.get_flag("stop"),
     })
 }
 
@@ -253,6 +302,7 @@ fn task_in<'a>(matches: &ArgMatches<'a>) -> Option<Task<'a>>
 {
     match matches.subcommand() {
         Some(("run", found)) => run_task(found),
+        Some(("shell", found)) => shell_task(found),
         Some(("check", found)) => check_task(found),
         _ => None,
     }

@@ -148,3 +148,11 @@ module _ {S : Type 0} (given : S → Bytes) (failures ends : S → ℕ) (known :
     runs_replied (Err f) r old new m n a w = rw (w.0, w.1) (runs_unanswered f old a)
     runs_replied (Ok rows) (Ok u) old new m n a w = runs_answered rows old new a w.0
     runs_replied (Ok rows) (Err f) old new m n a w = rw w.0 (runs_unwritten rows old new a w.1.0)
+
+-- ---- over tables that were loaded
+
+pub replied-over : (c : List TableShape) (files : List Bytes) (ts : List Columns) (text : Bytes) (answered : Result (List Row) RunFault) (r : Result (Unit {0}) RunFault) (old new : Bytes) (m n : ℕ) → loaded c files ≡ Ok ts → AnswersText c ts text answered
+    → Writes answered r old new m n → Replies c files text r old new
+replied-over c files ts text (Err f) r old new m n loads a w = rw (w.0, w.1) (unanswered c files text ts f old loads a)
+replied-over c files ts text (Ok rows) (Ok u) old new m n loads a w = (rows, answered_over c files text ts (Ok rows) loads a, w.0)
+replied-over c files ts text (Ok rows) (Err f) old new m n loads a w = rw w.0 (rows, answered_over c files text ts (Ok rows) loads a, w.1.0)

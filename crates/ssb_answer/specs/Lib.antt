@@ -1,4 +1,5 @@
 pub mod Asking
+pub mod Database
 pub mod Readers
 pub mod Writing
 pub use Rattle.ssb_catalog.specs.Catalog

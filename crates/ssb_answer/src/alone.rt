@@ -2,21 +2,17 @@
 
 ghost use Rattle.std.specs.Prelude.{◌≡◌, ◌<◌, IfOk, length};
 ghost use Rattle.std.specs.Arc.{arc_value};
-ghost use Rattle.ssb_answer.specs.Asking.{AnswersText};
-ghost use Rattle.ssb_catalog.specs.Catalog.{IsCatalog};
 ghost use Rattle.ssb_groups.specs.Stands.{Stands};
 ghost use Rattle.ssb_job.specs.Kept.{AreOneJob};
-ghost use Rattle.ssb_load.specs.Files.{AreLawful};
 ghost use Rattle.ssb_reply.specs.Reply.{seen_rows};
 ghost use Rattle.ssb_reply.specs.Running.{LeavesSink, RunsFrom};
 ghost use Rattle.ssb_rows.specs.Result.{Answers};
 
-use crate::whole::{answer_of_groups, job_of_text, write_answered};
+use crate::database::Database;
+use crate::whole::answer_of_groups;
 use ssb_catalog::Catalog;
-use ssb_cells::Table;
 use ssb_groups::Groups;
 use ssb_job::Job;
-use ssb_load::load_all;
 use ssb_pipeline::{Part, every_run};
 use ssb_records::Source;
 use ssb_reply::RunFault;
@@ -62,27 +58,6 @@ pub fn answer_job(
     }
 }
 
-// What a text asks of these tables, worked out in this thread. The job is let go by a call, since the
-// prover writes out all that it holds where a scope's end lets go of it.
-#[tactic(auto, using(crate::proofs::Asking::unasked, crate::proofs::Asking::answered, crate::proofs::Asking::refused))]
-fn answer_text(
-    alloc: Global,
-    catalog: &Catalog,
-    tables: Vec<Table>,
-    text: &str,
-    morsel_size: u32,
-) -> Result<Answer, RunFault>
-    requires size { 0 < morsel_size }
-    requires lawful { AreLawful catalog.now tables.items }
-    requires catalog { IsCatalog catalog.now }
-    ensures { AnswersText catalog.now tables.items text.now result }
-{
-    let job = job_of_text(alloc, catalog, tables, text)?;
-    let answer = answer_job(alloc, &job, morsel_size);
-    drop(job);
-    Ok(answer?)
-}
-
 /// Answers a query over the tables of a catalog, each of what its source gives, in the catalog's order,
 /// and writes the answer's rows, as [`run_from`](crate::run_from) does. The caller's thread does all
 /// of it, and waits for nobody. It reads each source in pieces of `piece_size` bytes, or more
@@ -94,19 +69,18 @@ fn answer_text(
 /// As of [`run_from`](crate::run_from).
 pub fn run_alone_from<S: Source, W: Sink>(
     alloc: Global,
-    catalog: Catalog,
+    catalog: &Catalog,
     sources: &mut [S],
     text: &str,
     morsel_size: u32,
     piece_size: usize,
     out: &mut W,
 ) -> Result<(), RunFault>
-    requires sources { length sources.old ≡ length catalog }
+    requires sources { length sources.old ≡ length catalog.now }
     requires size { 0 < morsel_size }
-    ensures runs { RunsFrom S.given S.failures S.ends S.whole catalog text.now sources.old sources.new result (W.taken out.old) (W.taken out.new) }
+    ensures runs { RunsFrom S.given S.failures S.ends S.whole catalog.now text.now sources.old sources.new result (W.taken out.old) (W.taken out.new) }
     ensures sink { LeavesSink result (W.taken out.old) (W.taken out.new) (W.failures out.old) (W.failures out.new) (W.contents out.old) (W.contents out.new) }
 {
-    let tables = load_all(alloc, &catalog, sources, piece_size)?;
-    let answered = answer_text(alloc, &catalog, tables, text, morsel_size);
-    write_answered(answered, out)
+    let database = Database::load_alone(alloc, catalog, sources, piece_size)?;
+    database.answer_alone(alloc, text, morsel_size, out)
 }

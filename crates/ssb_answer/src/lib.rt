@@ -1,26 +1,30 @@
 //! Answers: the whole path of a query, from the bytes of files to the bytes of the answer.
 //!
-//! - Offers: [`run`] and [`run_alone`] over readers, [`run_from`] and [`run_alone_from`] over sources,
-//!   [`answer_bytes`] over files in memory; [`Settings`], [`RunFault`], [`Gate`]; [`rows`],
-//!   [`write_answer`], [`Answer`], [`Sink`], [`Out`].
-//! - Callers: the program, by `run_from`; embedders.
-//! - Files: `whole`, `grouping`: by workers; `alone`: in the caller's thread; `readers`, `bytes`.
-//! - Definitions: `Asking`, `Writing`, `Readers`; the reply that a run owes is handed on from the crate
-//!   below.
+//! - Offers: [`Database`], tables that are loaded once; [`run`] and [`run_alone`] over readers,
+//!   [`run_from`] and [`run_alone_from`] over sources, [`answer_bytes`] over files in memory; [`Settings`],
+//!   [`RunFault`], [`Gate`]; [`rows`], [`write_answer`], [`Answer`], [`Sink`], [`Out`].
+//! - Callers: the program; embedders.
+//! - Files: `database`; `whole`, `grouping`: by workers; `alone`: in the caller's thread; `readers`, `bytes`.
+//! - Definitions: `Database`, `Asking`, `Writing`, `Readers`; the reply that a run owes is handed on from
+//!   the crate below.
 #![tactic(auto)]
 
 mod alone;
 mod bytes;
+pub mod database;
 mod grouping;
+mod law;
 mod readers;
 mod whole;
 
 pub use alone::{answer_job, run_alone_from};
 pub use bytes::answer_bytes;
+pub use database::Database;
+pub use law::replies_of_files;
 pub use readers::{run, run_alone};
 pub use ssb_lanes::{Joined, Section, load_all_with, load_with, sections_of};
 pub use ssb_load::{In, Source};
 pub use ssb_pipeline::{Gate, NoGate};
 pub use ssb_reply::{RunFault, Settings, run_line};
 pub use ssb_rows::{Answer, AnswerFault, AnswerRow, Out, Sink, SinkFault, rows, write_answer};
-pub use whole::{answer_of_groups, answer_shared, job_of_text, query_of, run_from, write_answered};
+pub use whole::{answer_of_groups, answer_shared, query_of, run_from, write_answered};

@@ -86,7 +86,7 @@ pub fn run_alone<R: Read + Drop, W: Sink>(
     };
     run_alone_from(
         alloc,
-        catalog,
+        &catalog,
         &mut sources,
         text,
         morsel_size,
@@ -119,5 +119,5 @@ pub fn run<T: Threads + Wait + Sync, R: Read + Drop + Send, G: Gate + Sync, W: S
     let Ok(mut sources) = joined_of(alloc, readers) else {
         return Err(RunFault::Memory);
     };
-    run_from(rt, alloc, catalog, &mut sources, text, settings, gate, out)
+    run_from(rt, alloc, &catalog, &mut sources, text, settings, gate, out)
 }

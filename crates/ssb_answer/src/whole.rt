@@ -1,33 +1,30 @@
 // The whole path, from the bytes of files to the bytes of the answer.
 
-ghost use Rattle.std.specs.Prelude.{◌≡◌, ◌<◌, Err, IfErr, IfOk, length};
+ghost use Rattle.std.specs.Prelude.{◌≡◌, length};
 ghost use Rattle.std.specs.Arc.{arc_value};
-ghost use Rattle.ssb_catalog.specs.Catalog.{IsCatalog};
-ghost use Rattle.ssb_answer.specs.Asking.{Asked, AnswersText};
+ghost use Rattle.ssb_answer.specs.Asking.{Asked};
 ghost use Rattle.ssb_answer.specs.Writing.{Writes};
 ghost use Rattle.ssb_groups.specs.Stands.{Stands};
 ghost use Rattle.ssb_job.specs.Kept.{AreOneJob};
-ghost use Rattle.ssb_job.specs.Loaded.{AreLoaded};
-ghost use Rattle.ssb_load.specs.Files.{AreLawful};
-ghost use Rattle.ssb_reply.specs.Reply.{Asks, seen_rows};
+ghost use Rattle.ssb_reply.specs.Reply.{seen_rows};
 ghost use Rattle.ssb_reply.specs.Running.{LeavesSink, RunsFrom};
 ghost use Rattle.ssb_rows.specs.Result.{Answers};
 ghost use Rattle.ssb_rows.specs.Taking.{GrewAlike};
 
+use crate::database::Database;
 use crate::grouping::group_shared;
 use ssb_bind::bind;
 use ssb_catalog::Catalog;
-use ssb_cells::Table;
 use ssb_groups::Groups;
 use ssb_job::Job;
-use ssb_lanes::{Joined, load_all_with};
+use ssb_lanes::Joined;
 use ssb_pipeline::Gate;
 use ssb_query::Query;
-use ssb_records::{PIECE_SIZE, Source};
+use ssb_records::Source;
 use ssb_reply::{RunFault, Settings};
 use ssb_rows::{Answer, AnswerFault, Sink, rows, write_answer};
 use ssb_sql::read;
-use std::alloc::{AllocError, Global};
+use std::alloc::Global;
 use std::sync::{Arc, Wait};
 use std::thread::Threads;
 
@@ -79,70 +76,6 @@ pub fn answer_shared<R: Threads + Wait + Sync, G: Gate + Sync>(
     }
 }
 
-// The job of a query over these tables, shared.
-fn shared_job(
-    alloc: Global,
-    query: Query,
-    tables: Vec<Table>,
-) -> Result<Arc<Job, Global>, AllocError>
-    requires { AreLoaded query.tables tables.items }
-    ensures { IfOk result (λ j. arc_value j ≡ record { query = query; tables = tables.items }) }
-{
-    let job = Job::build(alloc, query, tables)?;
-    match Arc::new(alloc, job) {
-        Ok(job) => Ok(job),
-        Err(refused) => {
-            drop(refused);
-            Err(AllocError)
-        }
-    }
-}
-
-/// The job of a text's query over the tables of a catalog, as [`load_all_with`] gives them.
-///
-/// # Errors
-///
-/// `Sql` and `Bind` as the text has it; `Memory` where a growth was refused.
-pub fn job_of_text(
-    alloc: Global,
-    catalog: &Catalog,
-    tables: Vec<Table>,
-    text: &str,
-) -> Result<Arc<Job, Global>, RunFault>
-    requires lawful { AreLawful catalog.now tables.items }
-    requires catalog { IsCatalog catalog.now }
-    ensures asks { IfOk result (λ j. Asks catalog.now text.now (arc_value j).query) }
-    ensures tables { IfOk result (λ j. (arc_value j).tables ≡ tables.items) }
-    ensures fault { IfErr result (λ f. Asked catalog.now text.now (Err f)) }
-{
-    let query = query_of(alloc, catalog, text)?;
-    match shared_job(alloc, query, tables) {
-        Ok(job) => Ok(job),
-        Err(_) => Err(RunFault::Memory),
-    }
-}
-
-// What a text asks of these tables, worked out by workers. The job is let go by a call, since the prover
-// writes out all that it holds where a scope's end lets go of it.
-fn answer_text_shared<R: Threads + Wait + Sync, G: Gate + Sync>(
-    rt: &R,
-    alloc: Global,
-    catalog: &Catalog,
-    tables: Vec<Table>,
-    text: &str,
-    settings: Settings,
-    gate: &G,
-) -> Result<Answer, RunFault>
-    requires lawful { AreLawful catalog.now tables.items }
-    requires catalog { IsCatalog catalog.now }
-    ensures { AnswersText catalog.now tables.items text.now result }
-{
-    let job = job_of_text(alloc, catalog, tables, text)?;
-    let answer = answer_shared(rt, alloc, &job, settings, gate);
-    drop(job);
-    Ok(answer?)
-}
-
 /// Writes what a text answers.
 ///
 /// # Errors
@@ -166,9 +99,9 @@ pub fn write_answered<W: Sink>(
 ///
 /// One worker loads in the caller's thread. Otherwise a table without a key is read from the sources that
 /// stand joined for it in as many threads as workers, the caller's among them, and the other tables by one
-/// more; then workers take the morsels of the fact table from parts, and make the groups of each in threads of their
-/// own. They may wait for each other. How a table's bytes are cut into sources, how many workers and
-/// parts there are, and how large a morsel is, changes no answer.
+/// more; then workers take the morsels of the fact table from parts, and make the groups of each in threads
+/// of their own. They may wait for each other. How a table's bytes are cut into sources, how many workers
+/// and parts there are, and how large a morsel is, changes no answer.
 ///
 /// # Errors
 ///
@@ -179,19 +112,17 @@ pub fn write_answered<W: Sink>(
 pub fn run_from<R: Threads + Wait + Sync, S: Source + Send, G: Gate + Sync, W: Sink>(
     rt: &R,
     alloc: Global,
-    catalog: Catalog,
+    catalog: &Catalog,
     sources: &mut [Joined<S>],
     text: &str,
     settings: Settings,
     gate: &G,
     out: &mut W,
 ) -> Result<(), RunFault>
-    requires sources { length sources.old ≡ length catalog }
-    ensures runs { let source = ⟦<Joined<S> as Source>⟧ in RunsFrom source.given source.failures source.ends source.whole catalog text.now sources.old sources.new result (W.taken out.old) (W.taken out.new) }
+    requires sources { length sources.old ≡ length catalog.now }
+    ensures runs { let source = ⟦<Joined<S> as Source>⟧ in RunsFrom source.given source.failures source.ends source.whole catalog.now text.now sources.old sources.new result (W.taken out.old) (W.taken out.new) }
     ensures sink { LeavesSink result (W.taken out.old) (W.taken out.new) (W.failures out.old) (W.failures out.new) (W.contents out.old) (W.contents out.new) }
 {
-    let threads = settings.workers;
-    let tables = load_all_with(rt, alloc, &catalog, sources, PIECE_SIZE, threads)?;
-    let answered = answer_text_shared(rt, alloc, &catalog, tables, text, settings, gate);
-    write_answered(answered, out)
+    let database = Database::load(rt, alloc, catalog, sources, settings)?;
+    database.answer(rt, alloc, text, settings, gate, out)
 }

@@ -1,11 +1,11 @@
 // Loading alone: the tables of a folder, the fact table from several sections of its file.
 
-ghost use Rattle.std.specs.Prelude.{◌≡◌, ◌<◌, length};
+ghost use Rattle.std.specs.Prelude.{◌≡◌, length};
 
 use crate::folder::{catalog_in, sources_of};
 use crate::job::micros_since;
-use ssb_answer::{Joined, load_all_with};
-use ssb_load::{Catalog, In, PIECE_SIZE};
+use ssb_answer::{Database, Joined, Settings};
+use ssb_load::{Catalog, In};
 use std::fs::File;
 use std::io::Read;
 use std::rt::{Clock, Files};
@@ -17,31 +17,28 @@ fn time_of<R: Clock + Threads + Sync + AllocGlobal, F: Read + Drop + Send>(
     rt: &R,
     catalog: &Catalog,
     sources: &mut [Joined<In<F>>],
-    threads: u32,
+    settings: Settings,
 ) -> Option<u128>
     requires sources { length sources.old ≡ length catalog.now }
-    requires threads { 0 < threads }
 {
     let start = Instant::now(rt).ok()?;
-    let tables = load_all_with(rt, rt.alloc(), catalog, sources, PIECE_SIZE, threads).ok()?;
+    let database = Database::load(rt, rt.alloc(), catalog, sources, settings).ok()?;
     let time = micros_since(rt, start);
-    drop(tables);
+    drop(database);
     time
 }
 
 /// How long it takes to load the tables of a folder, whose catalog lies in it as `catalog`, in
 /// microseconds: the fact table in so many threads, each from a section of its file, where that has more
-/// than 16 MB, and the others in one more; one thread alone loads all. None where there is no thread, or a
-/// file is missing or not what it should be.
+/// than 16 MB, and the others in one more; one thread alone loads all. None where the threads are not 1 to
+/// 64, or a file is missing or not what it should be.
 pub(crate) fn loading_time<R: Files<File = File> + Clock + Threads + Sync + AllocGlobal>(
     rt: &R,
     folder: &str,
     threads: u32,
 ) -> Option<u128> {
-    if threads == 0 {
-        return None;
-    }
+    let settings = Settings::with_defaults(Some(threads), None, None, None)?;
     let catalog = catalog_in(rt, folder)?;
     let mut sources = sources_of(rt, folder, &catalog, u64::from(threads))?;
-    time_of(rt, &catalog, &mut sources, threads)
+    time_of(rt, &catalog, &mut sources, settings)
 }

@@ -1,7 +1,7 @@
-//! The program `ssb`, which answers queries over the tables of the Star Schema Benchmark: words, files, one
-//! run, and one line and a status for a fault.
+//! The program `ssb`, which answers queries over the tables of the Star Schema Benchmark: words, files, a run
+//! or a session, and one line and a status for a fault.
 //!
-//! - Files: `program`, the order of work.
+//! - Files: `program`, the order of work; `run`, `shell`; `folder`, the tables; `tell`, faults.
 //!
 //! Beside it stands a run that the gate makes of the built program: its words in `args`, its files in
 //! `data/` and what it must print in `stdout`. A crate that is a program is linked whole at each check,
@@ -9,7 +9,11 @@
 //! `ssb_answer` and `ssb_load` alone, beside these its own two, for words and for files.
 #![tactic(auto)]
 
+mod folder;
 mod program;
+mod run;
+mod shell;
+mod tell;
 
 use program::status_of_program;
 use std::process::ExitCode;
@@ -25,13 +29,13 @@ const STACK_SIZE: usize = 2_097_152;
 fn main(rt: HostRuntime) -> ExitCode {
     let acted = thread::scope(thread::scope_env(), &rt, |scope| {
         let thread = Builder::new().stack_size(STACK_SIZE);
-        match thread.spawn_scoped(scope, || status_of_program(&rt)) {
+        match thread.spawn_scoped(scope, || status_of_program(&rt, rt.stderr())) {
             Ok(acting) => Some(acting.join(&rt)),
             Err(_) => None,
         }
     });
     match acted {
         Some(status) => ExitCode::from(status),
-        None => ExitCode::from(status_of_program(&rt)),
+        None => ExitCode::from(status_of_program(&rt, rt.stderr())),
     }
 }

@@ -4,9 +4,9 @@ ghost use Rattle.std.specs.Prelude.{◌≡◌, [], IfOk};
 ghost use Rattle.std.specs.List.{All};
 
 use crate::ends::Stop;
-use ssb_answer::job_of_text;
+use ssb_answer::Database;
 use ssb_job::Job;
-use ssb_load::{Catalog, In, PIECE_SIZE, load_all};
+use ssb_load::{Catalog, In, PIECE_SIZE};
 use std::alloc::{AllocError, Global};
 use std::sync::Arc;
 
@@ -52,8 +52,8 @@ pub(crate) fn job_over(
     if sources.len() != catalog.tables().len() {
         return Err(Stop::Wrong);
     }
-    let tables = load_all(alloc, &catalog, &mut sources, PIECE_SIZE)?;
-    Ok(job_of_text(alloc, &catalog, tables, text)?)
+    let database = Database::load_alone(alloc, &catalog, &mut sources, PIECE_SIZE)?;
+    Ok(database.job(alloc, text)?)
 }
 
 /// The job of the query over the small tables.

@@ -41,7 +41,7 @@ pub(crate) fn run_in_pieces<W: Write + Drop>(alloc: Global, writer: W) -> Result
     let mut out = Out::new(writer);
     run_alone_from(
         alloc,
-        catalog,
+        &catalog,
         &mut sources,
         REVENUE,
         MORSEL_SIZE,
@@ -101,7 +101,7 @@ fn run_joined<R: Threads + Wait + Sync, F: Read + Drop + Send, W: Write + Drop>(
     run_from(
         rt,
         alloc,
-        catalog,
+        &catalog,
         &mut sources,
         REVENUE,
         settings,

@@ -1,0 +1,43 @@
+// The tables of a folder, as sources.
+
+ghost use Rattle.std.specs.Prelude.{◌≡◌, IfOk, length, vec_len};
+
+use ssb_answer::{Joined, RunFault, Settings};
+use ssb_files::{ProgramFault, Section, names_of, open_all};
+use ssb_load::Catalog;
+use std::alloc::Global;
+use std::fs::File;
+use std::rt::Files;
+
+// Where the tables lie, and how the work over them is cut.
+#[derive(Clone, Copy)]
+pub(crate) struct Folder<'a> {
+    // The folder of the tables' files.
+    pub(crate) data: &'a str,
+    // The catalog's file, none for the built-in catalog.
+    pub(crate) catalog: Option<&'a str>,
+    pub(crate) settings: Settings,
+}
+
+// The files of a folder's tables as sources, in the catalog's order.
+pub(crate) fn sources_of<R: Files<File = File> + AllocGlobal>(
+    rt: &R,
+    folder: Folder<'_>,
+    catalog: &Catalog,
+) -> Result<Vec<Joined<Section<File>>>, ProgramFault>
+    ensures { IfOk result (λ sources. vec_len sources ≡ length catalog.now) }
+{
+    let files = open_all(rt, folder.data, catalog, folder.settings.workers)?;
+    Ok(Joined::of_each(rt.alloc(), files)?)
+}
+
+// A fault of a run over the tables of a catalog, whose names it may tell.
+pub(crate) fn fault_over(alloc: Global, catalog: &Catalog, fault: RunFault) -> ProgramFault {
+    match names_of(alloc, catalog) {
+        Ok(names) => ProgramFault::Run { names, fault },
+        Err(_) => {
+            drop(fault);
+            ProgramFault::Memory
+        }
+    }
+}

@@ -1,0 +1,4 @@
+pub mod Finding
+pub mod Looking
+pub mod Steps
+pub mod Told

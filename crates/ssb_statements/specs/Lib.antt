@@ -1,0 +1,3 @@
+pub mod Cutting
+pub mod Reading
+pub mod Telling

@@ -1,0 +1,167 @@
+// The statements of what a source gives.
+
+ghost use Rattle.std.specs.Prelude.{◌≡◌, ◌++◌, ◌≤◌, ◌<◌, ℕ, [], List, vec_len, false, IfOk};
+ghost use Rattle.ssb_tokens.specs.Statements.{statements_of};
+ghost use Rattle.ssb_statements.specs.Cutting.{cut};
+
+use crate::cutter::{Cutter, Statement};
+use crate::input::Input;
+use ssb_records::{History, Source, SourceFault};
+use std::alloc::{AllocError, Global};
+use std::mem;
+
+// How many bytes of a source are taken at once.
+const ROOM: usize = 65_536;
+
+/// The statements of what a source gives, one by one. A statement is told as soon as the bytes up to
+/// its `;` were given, and the last one at the end of the source.
+pub struct Statements<S: Source> {
+    input: Input<S>,
+    piece: Vec<u8>,
+    // The bytes of the piece from here to its end were not taken.
+    at: usize,
+    end: usize,
+    cutter: Cutter,
+    // The bytes that were taken since the last statement was told.
+    taken: History<u8>,
+    ghost inside: { at ≤ end },
+    ghost held: { end ≤ vec_len piece },
+    ghost room: { 0 < vec_len piece },
+    ghost known: { (more : List ℕ) → statements_of (taken.items ++ more) ≡ cut cutter more },
+}
+
+// Written out, so that the crates above need no proof of how its parts are let go.
+impl<S: Source + Drop> Drop for Statements<S> {
+    fn drop(self) {
+        drop(self.into_source());
+    }
+}
+
+impl<S: Source> Statements<S> {
+    ghost use Rattle.ssb_statements.specs.Telling.{Gave, ahead, has_ended, source_of, text_of};
+    ghost use Rattle.ssb_statements.specs.Reading.{Closes, Fills, Finds};
+
+    /// The statements of what a source gives from now on. `next` asks for no memory.
+    ///
+    /// # Errors
+    ///
+    /// Where the room for a piece and for a statement was refused.
+    pub fn new(alloc: Global, source: S) -> Result<Statements<S>, AllocError>
+    where
+        S: Drop,
+        ensures source { IfOk result (λ r. source_of r ≡ source) }
+        ensures ahead { IfOk result (λ r. ahead r ≡ []) }
+        ensures ended { IfOk result (λ r. has_ended r ≡ false) }
+    {
+        let cutter = Cutter::new(alloc)?;
+        let mut piece = Vec::new(alloc);
+        piece.resize(ROOM, 0)?;
+        Ok(Statements {
+            input: Input::new(source),
+            piece,
+            at: 0,
+            end: 0,
+            cutter,
+            taken: History::new(),
+        })
+    }
+
+    /// The source itself, as the reads left it.
+    pub fn into_source(self) -> S
+        ensures { result ≡ source_of self }
+    {
+        let Statements {
+            input,
+            piece: _,
+            at: _,
+            end: _,
+            cutter: _,
+            taken: _,
+        } = self;
+        input.into_source()
+    }
+
+    /// The source, which was read no further than the statements told, and one piece ahead.
+    pub fn source(&self) -> &S
+        ensures { result.now ≡ source_of self.now }
+    {
+        &self.input.source
+    }
+
+    /// Whether the source met its end.
+    pub fn has_ended(&self) -> bool
+        ensures { result ≡ has_ended self.now }
+    {
+        self.input.ended
+    }
+
+    /// The bytes of the statement told last, with its `;` where it has one, if it is not too long.
+    pub fn text(&self) -> &[u8]
+        ensures { result.now ≡ text_of self.now }
+    {
+        self.cutter.text()
+    }
+
+    // The next statement, where the piece has its end.
+    fn find(&mut self) -> Option<Statement>
+        ensures { Finds self.old result self.new }
+    {
+        match self.cutter.take_all(&self.piece[self.at..self.end]) {
+            Some(count) => {
+                self.at += count;
+                let statement = self.cutter.finish();
+                self.taken = History::new();
+                Some(statement)
+            }
+            None => {
+                let taken = mem::replace(&mut self.taken, History::new());
+                self.taken = taken.and_all(&self.piece[self.at..self.end]);
+                self.at = self.end;
+                None
+            }
+        }
+    }
+
+    // Reads the next piece, and says whether there is one.
+    fn fill(&mut self) -> Result<bool, SourceFault>
+        requires { self.old.at ≡ self.old.end }
+        ensures { Fills self.old result self.new }
+    {
+        let count = self.input.read(&mut self.piece)?;
+        self.at = 0;
+        self.end = count;
+        Ok(count > 0)
+    }
+
+    // The last statement, once the source met its end.
+    fn close(&mut self) -> Option<Statement>
+        requires { self.old.at ≡ self.old.end }
+        ensures { Closes self.old result self.new }
+    {
+        let last = self.cutter.close();
+        self.taken = History::new();
+        last
+    }
+
+    /// Goes on to the next statement, and says what it is, or that none comes. It reads the source only
+    /// where the bytes that it has do not reach to the statement's end, and never behind the end of the
+    /// source. Where a read failed, no byte is lost, and the next call goes on.
+    ///
+    /// # Errors
+    ///
+    /// Where a read failed, and after 2 ^ 64 - 1 bytes of one statement.
+    pub fn next(&mut self) -> Result<Option<Statement>, SourceFault>
+        ensures { Gave self.old result self.new }
+    {
+        for _ in 0..u64::MAX {
+            if let Some(statement) = self.find() {
+                return Ok(Some(statement));
+            }
+            if !self.fill()? {
+                return Ok(self.close());
+            }
+        }
+        // No statement has as many bytes.
+        Err(SourceFault)
+    }
+}

@@ -27,10 +27,11 @@ pub record IsClear (c : Cutter) : Type 0 where
 abbrev pub told_text : Cutter → List ℕ
 told_text c = take c.told c.text.items
 
--- some bytes were taken, and the statement goes on, or has its end here, before the rest of them
+-- all of some bytes were taken, and the statement has no end in them
 pub record GoesOn (old : Cutter) (bytes : List ℕ) (new : Cutter) : Type 0 where
   pub same : (more : List ℕ) → cut old (bytes ++ more) ≡ cut new more
 
+-- bytes were taken up to the end of the statement, and before the rest of them
 pub record HasEnd (old : Cutter) (bytes rest : List ℕ) (new : Cutter) : Type 0 where
   pub next : (more : List ℕ) → cut old (bytes ++ more) ≡ new.so_far.items ∷ statements_of (rest ++ more)
 
@@ -39,7 +40,7 @@ abbrev pub IsTaken : Bool → Cutter → ℕ → Cutter → Type 0
 IsTaken false old byte new = GoesOn old (byte ∷ []) new
 IsTaken true old byte new = HasEnd old (byte ∷ []) [] new
 
--- bytes were taken up to the end of the statement, or all of them
+-- bytes were taken up to the end of the statement, whose place among them is told, or all of them
 abbrev pub AreTaken : Option ℕ → Cutter → List ℕ → Cutter → Type 0
 AreTaken None old bytes new = GoesOn old bytes new
 AreTaken (Some n) old bytes new = (n ≤ length bytes) × HasEnd old bytes (drop n bytes) new

@@ -59,19 +59,19 @@ pub record Breaks {S : Type 0} {source : Source S} (old : Statements S source) (
   pub kept : ahead new ≡ ahead old ++ fresh
   pub ended : has_ended new ≡ false
 
+-- what `next` told
 abbrev pub Answers : {S : Type 0} {source : Source S} → Result (Option Statement) SourceFault → Statements S source → List ℕ → Statements S source → Type 0
 Answers (Ok (Some t)) old fresh new = Tells t old fresh new
 Answers (Ok None) old fresh new = Ends old fresh new
 Answers (Err e) old fresh new = Breaks old fresh new
 
--- What a call of `next` did.
+-- a call of `next`
 pub record Gave {S : Type 0} {source : Source S} (old : Statements S source) (result : Result (Option Statement) SourceFault) (new : Statements S source) : Type 0 where
   -- the source gave these bytes
   pub fresh : List ℕ
   pub given : source.given (source_of new) ≡ source.given (source_of old) ++ fresh
-  -- what was told
   pub answer : Answers result old fresh new
-  -- a statement that was ahead to its end is told with no read
+  -- a statement that is ahead to its end is told with no read
   pub prompt : (s rest : List ℕ) → IsCut (ahead old) s rest → source_of new ≡ source_of old
   -- the source has met its end where the reader says so, and is not read again then
   pub over : has_ended new ≡ true → 0 < source.ends (source_of new)

@@ -1,7 +1,7 @@
 // The bytes of the statement at hand.
 
+ghost use Rattle.std.specs.Prelude.{◌≡◌, ◌++◌, ◌≤◌, ◌∷◌, [], length, take, min, slice_set, vec_len, false, IfOk};
 ghost use Rattle.ssb_tokens.specs.Tokens.{is_blank};
-ghost use Rattle.std.specs.Prelude.{◌≡◌, ◌+◌, ◌++◌, ◌<◌, ◌≤◌, ◌∷◌, [], ℕ, List, length, take, drop, min, slice_set, vec_len, true, false, IfOk, MatchOption};
 
 use ssb_records::History;
 use std::alloc::{AllocError, Global};
@@ -9,12 +9,12 @@ use std::alloc::{AllocError, Global};
 /// How many bytes a statement may have.
 pub const STATEMENT_SIZE: usize = 65_536;
 
-/// What is told of a statement.
+/// What is told of a statement of a source.
 #[derive(Clone, Copy, PartialEq, Eq, Debug)]
 pub enum Statement {
-    /// It has at most `STATEMENT_SIZE` bytes, which are at hand.
+    /// It has at most `STATEMENT_SIZE` bytes: `Statements::text` gives them.
     Text,
-    /// It has more, which were passed over to its end.
+    /// It has more bytes, which were passed over to its end.
     TooLong,
 }
 
@@ -66,6 +66,7 @@ fn is_blank(byte: u8) -> bool
 
 impl Cutter {
     ghost use Rattle.ssb_statements.specs.Cutting.{AreTaken, IsClear, IsTaken, cut, told_text};
+    ghost use Rattle.ssb_statements.specs.Reading.{IsClosed};
     ghost use Rattle.ssb_statements.specs.Telling.{IsTold};
     ghost use Rattle.ssb_tokens.specs.Statements.{if_any, within};
 
@@ -73,7 +74,7 @@ impl Cutter {
     ///
     /// # Errors
     ///
-    /// Where the room was refused.
+    /// `AllocError` where the room was refused.
     pub(crate) fn new(alloc: Global) -> Result<Cutter, AllocError>
         ensures { IfOk result IsClear }
     {
@@ -115,7 +116,7 @@ impl Cutter {
         }
     }
 
-    // The `;` that ends the statement, where it has begun.
+    // A `;` outside text literals and comments, which ends the statement where it has begun.
     fn take_end(&mut self) -> bool
         requires { self.old.place ≡ Place.Plain }
         ensures { IsTaken result self.old 59 self.new }
@@ -248,7 +249,7 @@ impl Cutter {
 
     /// Tells the last statement, where some of it is at hand, and begins with none.
     pub(crate) fn close(&mut self) -> Option<Statement>
-        ensures told { MatchOption result (cut self.old [] ≡ []) (λ t. (s : List ℕ) × IsTold t (told_text self.new) s × (cut self.old [] ≡ s ∷ [])) }
+        ensures told { IsClosed result self.old self.new }
         ensures clear { IsClear self.new }
     {
         self.end_dash();

@@ -1,7 +1,6 @@
 // A source that is read up to its end.
 
-ghost use Rattle.std.specs.Prelude.{◌≡◌, ◌+◌, ◌++◌, ◌<◌, ◌≤◌, [], length, true, false, OnOk, OnErr, IfOk};
-ghost use Rattle.ssb_records.specs.Giving.{failures_of, given_of};
+ghost use Rattle.std.specs.Prelude.{◌≡◌, ◌<◌, length, true, false};
 
 use ssb_records::{Source, SourceFault};
 
@@ -39,7 +38,7 @@ impl<S: Source> Input<S> {
     ///
     /// # Errors
     ///
-    /// Where the read failed.
+    /// `SourceFault` where the read failed.
     pub(crate) fn read(&mut self, room: &mut [u8]) -> Result<usize, SourceFault>
         requires { 0 < length room.old }
         ensures { WasRead self.old result room.new self.new }

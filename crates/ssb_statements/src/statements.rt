@@ -13,8 +13,8 @@ use std::mem;
 // How many bytes of a source are taken at once.
 const ROOM: usize = 65_536;
 
-/// The statements of what a source gives, one by one. A statement is told as soon as the bytes up to
-/// its `;` were given, and the last one at the end of the source.
+/// The statements of what a source gives, one by one. A statement is told once the bytes up to its `;`
+/// were given, and the last one, if it has none, at the end of the source.
 pub struct Statements<S: Source> {
     input: Input<S>,
     piece: Vec<u8>,
@@ -45,7 +45,7 @@ impl<S: Source> Statements<S> {
     ///
     /// # Errors
     ///
-    /// Where the room for a piece and for a statement was refused.
+    /// `AllocError` where the room for a piece or for a statement was refused.
     pub fn new(alloc: Global, source: S) -> Result<Statements<S>, AllocError>
     where
         S: Drop,
@@ -81,7 +81,7 @@ impl<S: Source> Statements<S> {
         input.into_source()
     }
 
-    /// The source, which was read no further than the statements told, and one piece ahead.
+    /// The source, as the reads left it.
     pub fn source(&self) -> &S
         ensures { result.now ≡ source_of self.now }
     {
@@ -95,7 +95,7 @@ impl<S: Source> Statements<S> {
         self.input.ended
     }
 
-    /// The bytes of the statement told last, with its `;` where it has one, if it is not too long.
+    /// The bytes of the statement told last, with its `;` where it has one, if that was not too long.
     pub fn text(&self) -> &[u8]
         ensures { result.now ≡ text_of self.now }
     {
@@ -144,12 +144,12 @@ impl<S: Source> Statements<S> {
     }
 
     /// Goes on to the next statement, and says what it is, or that none comes. It reads the source only
-    /// where the bytes that it has do not reach to the statement's end, and never behind the end of the
-    /// source. Where a read failed, no byte is lost, and the next call goes on.
+    /// where the bytes that it has do not reach to the statement's end, and not again once that met its
+    /// end. After an error no byte is lost: the next call goes on.
     ///
     /// # Errors
     ///
-    /// Where a read failed, and after 2 ^ 64 - 1 bytes of one statement.
+    /// `SourceFault` where a read failed, and where one statement goes on for 2 ^ 64 - 1 bytes.
     pub fn next(&mut self) -> Result<Option<Statement>, SourceFault>
         ensures { Gave self.old result self.new }
     {

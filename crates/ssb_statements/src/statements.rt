@@ -144,8 +144,8 @@ impl<S: Source> Statements<S> {
     }
 
     /// Goes on to the next statement, and says what it is, or that none comes. It reads the source only
-    /// where the bytes that it has do not reach to the statement's end, and not again once that met its
-    /// end. After an error no byte is lost: the next call goes on.
+    /// where the bytes that it has do not reach to the statement's end, and never once the source met
+    /// its own. After an error no byte is lost: the next call goes on.
     ///
     /// # Errors
     ///

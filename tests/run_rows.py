@@ -22,8 +22,9 @@ ROWS = ROOT / "tests" / "rows"
 PROGRAM = ROOT / "crates" / "ssb_cli" / "out" / "ssb_cli"
 SECONDS = 120
 
-# The folder of a row's files, below the one that the program runs in.
+# The folder of a row's files, below the one that the program runs in, and the file of its standard input.
 DATA = "d"
+INPUT = "input"
 
 # The limits of the system that a row may set, with the letter of each in the shell's `ulimit`.
 LIMITS = {"stack": "s", "open_files": "n"}
@@ -38,6 +39,7 @@ DEFAULTS = {
     "base": "small",
     "files": {},
     "query": None,
+    "input": None,
     "options": [],
     "settings": {},
     "pipe": None,
@@ -154,6 +156,8 @@ def lay_out(row, folder):
                 (data / source.name).write_bytes(source.read_bytes())
     if row["query"] is not None:
         (data / "query.sql").write_bytes(content_bytes(row["query"]))
+    if row["input"] is not None:
+        (folder / INPUT).write_bytes(content_bytes(row["input"]))
     for name, content in row["files"].items():
         change_file(data / name, content)
 
@@ -163,6 +167,8 @@ def words_of(row):
     if row["words"] is not None:
         return [content_bytes(word) for word in row["words"]]
     words = ["run", "--data", DATA, "--query", f"{DATA}/query.sql", "--catalog", f"{DATA}/catalog"]
+    if row["input"] is not None:
+        words = ["shell", "--data", DATA, "--catalog", f"{DATA}/catalog"]
     return [word.encode() for word in words] + [content_bytes(word) for word in row["options"]]
 
 
@@ -210,24 +216,33 @@ def shell_of(row, limits):
 def run(row, choice, program, folder, limits=None):
     """Runs the program: its status, and what it wrote on its two outputs."""
     command = [str(program).encode()] + words_of(row) + [word.encode() for word in choice]
-    ended = subprocess.run(
-        shell_of(row, limits or {}) + command,
-        cwd=folder, stdin=subprocess.DEVNULL, capture_output=True, timeout=SECONDS,
-    )
+    with open(os.devnull if row["input"] is None else folder / INPUT, "rb") as source:
+        ended = subprocess.run(
+            shell_of(row, limits or {}) + command,
+            cwd=folder, stdin=source, capture_output=True, timeout=SECONDS,
+        )
     output = ended.stdout
     if row["standard_output"] == "short":
         output = (folder / "short").read_bytes()
     return ended.returncode, output, ended.stderr
 
 
+def pipes(row, folder):
+    """The files of a row that a named pipe stands in for, each in further runs."""
+    if row["input"] is not None:
+        yield folder / INPUT
+    if row["pipe"] is not None:
+        yield folder / DATA / row["pipe"]
+
+
 def runs(row, program, folder):
     """Each run of a row, by words that tell it from the others: its status and what it wrote."""
     for choice in choices(row):
         yield choice, run(row, choice, program, folder)
-        if row["pipe"] is not None:
-            with as_pipe(folder / DATA / row["pipe"]):
+        for path in pipes(row, folder):
+            with as_pipe(path):
                 ended = run(row, choice, program, folder)
-            yield [*choice, f"{row['pipe']} through a pipe:"], ended
+            yield [*choice, f"{path.name} through a pipe:"], ended
         if row["limits"]:
             limits = " ".join(f"{name} {limit}" for name, limit in row["limits"].items())
             yield [*choice, f"under {limits}:"], run(row, choice, program, folder, row["limits"])

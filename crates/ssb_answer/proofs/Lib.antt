@@ -3,6 +3,7 @@ mod Fresh
 mod InMemory
 mod Keyed
 pub mod Running
+pub mod SessionFacts
 mod WorkedOff
 pub mod WrittenBack
 pub use Rattle.ssb_lanes.proofs.Crossing

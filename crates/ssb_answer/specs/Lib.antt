@@ -1,6 +1,8 @@
 pub mod Asking
 pub mod Database
 pub mod Readers
+pub mod Session
+pub mod SessionStep
 pub mod Writing
 pub use Rattle.ssb_catalog.specs.Catalog
 pub use Rattle.ssb_groups.specs.Stands

@@ -1,12 +1,13 @@
 //! Answers: the whole path of a query, from the bytes of files to the bytes of the answer.
 //!
-//! - Offers: [`Database`], tables that are loaded once; [`run`] and [`run_alone`] over readers,
-//!   [`run_from`] and [`run_alone_from`] over sources, [`answer_bytes`] over files in memory; [`Settings`],
-//!   [`RunFault`], [`Gate`]; [`rows`], [`write_answer`], [`Answer`], [`Sink`], [`Out`].
+//! - Offers: [`Database`], tables loaded once; [`answer_each`], a session over them; [`run`] and [`run_alone`]
+//!   over readers, [`run_from`] and [`run_alone_from`] over sources, [`answer_bytes`] over files in memory;
+//!   [`Settings`], [`RunFault`], [`Gate`]; [`rows`], [`write_answer`], [`Answer`], [`Sink`], [`Out`].
 //! - Callers: the program; embedders.
-//! - Files: `database`; `whole`, `grouping`: by workers; `alone`: in the caller's thread; `readers`, `bytes`.
-//! - Definitions: `Database`, `Asking`, `Writing`, `Readers`; the reply that a run owes is handed on from
-//!   the crate below.
+//! - Files: `database`, `session`; `whole`, `grouping`: by workers; `alone`: in the caller's thread;
+//!   `readers`, `bytes`, `law`.
+//! - Definitions: `Database`, `Session`, `Asking`, `Writing`, `Readers`, `SessionStep`; the reply that a run
+//!   owes is handed on from the crate below.
 #![tactic(auto)]
 
 mod alone;
@@ -15,16 +16,19 @@ pub mod database;
 mod grouping;
 mod law;
 mod readers;
+pub mod session;
 mod whole;
 
 pub use alone::{answer_job, run_alone_from};
 pub use bytes::answer_bytes;
 pub use database::Database;
-pub use law::replies_of_files;
+pub use law::{outcomes_are_replies, replies_of_files};
 pub use readers::{run, run_alone};
+pub use session::{Session, SessionEnd, answer_each};
 pub use ssb_lanes::{Joined, Section, load_all_with, load_with, sections_of};
 pub use ssb_load::{In, Source};
 pub use ssb_pipeline::{Gate, NoGate};
 pub use ssb_reply::{RunFault, Settings, run_line};
 pub use ssb_rows::{Answer, AnswerFault, AnswerRow, Out, Sink, SinkFault, rows, write_answer};
+pub use ssb_statements::{Statement, Statements};
 pub use whole::{answer_of_groups, answer_shared, query_of, run_from, write_answered};

@@ -114,11 +114,7 @@ fn folder_of<'a>(tables: Tables<'a>) -> Result<Folder<'a>, ProgramFault> {
 fn act_on_task<
     R: Files<File = File> + Input + Print + Eprint + AllocGlobal + Threads + Wait + Sync,
     E: Write + Drop,
->(
-    rt: &R,
-    errors: E,
-    task: Task<'_>,
-) -> Result<u8, ProgramFault>
+>(rt: &R, errors: E, task: Task<'_>) -> Result<u8, ProgramFault>
     ensures { IfOk result IsStatus }
 {
     match task {
@@ -141,11 +137,7 @@ fn act_on_fault<R: Print + AllocGlobal>(rt: &R, fault: WordsFault) -> Result<(),
 fn act_on<
     R: Files<File = File> + Input + Print + Eprint + AllocGlobal + Threads + Wait + Sync,
     E: Write + Drop,
->(
-    rt: &R,
-    errors: E,
-    given: &[String],
-) -> Result<u8, ProgramFault>
+>(rt: &R, errors: E, given: &[String]) -> Result<u8, ProgramFault>
     ensures { IfOk result IsStatus }
 {
     match task_of(rt.alloc(), given) {
@@ -157,10 +149,7 @@ fn act_on<
 fn act<
     R: Files<File = File> + Input + Print + Eprint + Env + AllocGlobal + Threads + Wait + Sync,
     E: Write + Drop,
->(
-    rt: &R,
-    errors: E,
-) -> Result<u8, ProgramFault>
+>(rt: &R, errors: E) -> Result<u8, ProgramFault>
     ensures { IfOk result IsStatus }
 {
     let given = words(rt)?;
@@ -174,10 +163,7 @@ fn act<
 pub(crate) fn status_of_program<
     R: Files<File = File> + Input + Print + Eprint + Env + AllocGlobal + Threads + Wait + Sync,
     E: Write + Drop,
->(
-    rt: &R,
-    errors: E,
-) -> u8
+>(rt: &R, errors: E) -> u8
     ensures { IsStatus result }
 {
     match act(rt, errors) {

@@ -99,13 +99,7 @@ fn converse<R: Input + Print + Eprint + AllocGlobal + Threads + Wait + Sync, E: 
 fn shell_over<
     R: Files<File = File> + Input + Print + Eprint + AllocGlobal + Threads + Wait + Sync,
     E: Write + Drop,
->(
-    rt: &R,
-    errors: E,
-    folder: Folder<'_>,
-    catalog: &Catalog,
-    stops: bool,
-) -> Result<u8, ProgramFault>
+>(rt: &R, errors: E, folder: Folder<'_>, catalog: &Catalog, stops: bool) -> Result<u8, ProgramFault>
     ensures { IfOk result IsStatus }
 {
     let mut sources = sources_of(rt, folder, catalog)?;
@@ -126,12 +120,7 @@ fn shell_over<
 pub(crate) fn shell<
     R: Files<File = File> + Input + Print + Eprint + AllocGlobal + Threads + Wait + Sync,
     E: Write + Drop,
->(
-    rt: &R,
-    errors: E,
-    folder: Folder<'_>,
-    stops: bool,
-) -> Result<u8, ProgramFault>
+>(rt: &R, errors: E, folder: Folder<'_>, stops: bool) -> Result<u8, ProgramFault>
     ensures { IfOk result IsStatus }
 {
     let catalog = catalog_of(rt, folder.catalog)?;

@@ -26,6 +26,6 @@ pub use answer::{Answer, AnswerRow};
 pub use fault::AnswerFault;
 pub use order::one_order;
 pub use rows_of::rows;
-pub use sink::{Sink, SinkFault};
+pub use sink::{Sink, SinkFault, write_all};
 pub use write::write_answer;
 pub use writer::Out;

@@ -1,5 +1,5 @@
 -- Turns of a session, and how they go on one after the other.
-use Rattle.std.proofs.Common.{◌≡◌, ◌∙◌, ◌<◌, ◌≤◌, ◌++◌, [], ◌∷◌, ℕ, inl, inr, arith, Bool, true, false, List, Option, None, Some, Result, Ok, Err, length, map, refl, sym, ap, subst, append_assoc}
+use Rattle.std.proofs.Common.{◌≡◌, ◌∙◌, ◌<◌, ◌≤◌, ◌++◌, [], ◌∷◌, ℕ, ◌+◌, ◌^◌, inl, inr, arith, Bool, true, false, List, Option, None, Some, Result, Ok, Err, length, length-append, map, refl, sym, ap, subst, append_assoc}
 use Rattle.std.specs.List.{AllZip, flat_map}
 use Rattle.std.proofs.lemmas.Grind.{flat_map-append}
 use Rattle.std.proofs.lemmas.List.{append-nil}
@@ -128,6 +128,10 @@ answers-all (Err f ∷ rs) e = cc e
 
 pub stops-at : (rs last : List Outcome) → first_fault None rs ≡ None → length last ≤ 1 → StopsAtFault (rs ++ last)
 stops-at rs last e one = let a = answers-all rs e in record { answers = a.answers; last = last; all = ap (λ t. t ++ last) a.all; one = one }
+
+break-on : (m n k : ℕ) (f g : Bytes) (P : Type 0) → n ≡ m → (n < k) ⊎ (2 ^ 64 ≤ length g + 1) → (m < k) ⊎ ((2 ^ 64 ≤ length (f ++ g) + 1) ⊎ P)
+break-on m n k f g P same (inl rose) = inl (subst (λ x. x < k) same rose)
+break-on m n k f g P same (inr long) = let count = length-append f g in inr (inl (omega (arith, long, count)))
 
 -- ---- what comes of a statement
 
@@ -272,9 +276,12 @@ module _ {S : Type 0} {source : Source S} (c : List TableShape) (tables : List C
         record {
           went = went-unheard old new (Ok None) g f rows lines (ended-so (has_ended new) (λ more. statements_of (ahead old ++ (g.fresh ++ more)) ≡ [] ++ statements_of (ahead new ++ more)) g.answer.ended (none ∙ sym left));
           one = omega arith;
+          some = λ e. cc e;
+          calm = λ e. cc e;
           on = λ e. cc e;
           all = λ e. g.answer.none;
           stop = λ e. cc e;
+          broken = λ e. cc e;
         }
 
     pub turned-read : (f : Option RunFault) (rows lines : Desk) (e : SourceFault) → Gave old (Err e) new → Turned c tables stops (Some end.Read) old new f f rows rows lines lines
@@ -283,9 +290,12 @@ module _ {S : Type 0} {source : Source S} (c : List TableShape) (tables : List C
         record {
           went = went-unheard old new (Err e) g f rows lines (open-so (has_ended new) (λ more. statements_of (ahead old ++ (g.fresh ++ more)) ≡ [] ++ statements_of (ahead new ++ more)) g.answer.ended cut);
           one = omega arith;
+          some = λ e. cc e;
+          calm = λ e. cc e;
           on = λ e. cc e;
           all = λ e. cc e;
           stop = λ e. cc e;
+          broken = λ e. g.answer.failed;
         }
 
     module _ (t : Statement) (g : Gave old (Ok (Some t)) new) where
@@ -302,9 +312,12 @@ module _ {S : Type 0} {source : Source S} (c : List TableShape) (tables : List C
           record {
             went = went-told old new (Ok (Some t)) g statement (Ok a.rows) true true f f ro rn lines lines g.answer.next a.answers a.took (took-none lines) (first-rows f a.rows);
             one = omega arith;
+            some = λ e. refl;
+            calm = λ e. g.answer.failures;
             on = λ e s n. n;
             all = λ e. cc e;
             stop = λ e. cc e;
+            broken = λ e. cc e;
           }
 
       pub turned-unwritten : (f : Option RunFault) (ro rn lines : Desk) → RepliesToStatement c tables statement (Err (run.Answer answer.Write)) ro rn → Turned c tables stops (Some end.Rows) old new f f ro rn lines lines
@@ -313,9 +326,12 @@ module _ {S : Type 0} {source : Source S} (c : List TableShape) (tables : List C
           record {
             went = went-told old new (Ok (Some t)) g statement (Ok a.rows) false true f f ro rn lines lines g.answer.next a.answers a.took (took-none lines) (first-rows f a.rows);
             one = omega arith;
+            some = λ e. cc e;
+            calm = λ e. cc e;
             on = λ e. cc e;
             all = λ e. cc e;
             stop = λ e. cc e;
+            broken = λ e. cc e;
           }
 
       -- the fault that was told is that of the statement, or memory
@@ -334,9 +350,12 @@ module _ {S : Type 0} {source : Source S} (c : List TableShape) (tables : List C
       turned-fault fault told f h ro rn lo ln not r is line first goes = record {
         went = went-fault true fault told f h ro rn lo ln not r is line first;
         one = omega arith;
+        some = λ e. refl;
+        calm = λ e. g.answer.failures;
         on = λ e s n. cc (goes, s);
         all = λ e. cc e;
         stop = λ e. cc e;
+        broken = λ e. cc e;
       }
 
       pub turned-stop : (fault told : RunFault) (f h : Option RunFault) (ro rn lo ln : Desk) → (fault ≡ run.Answer answer.Write → ⊥) → RepliesToStatement c tables statement (Err fault) ro rn → (told ≡ fault) ⊎ (told ≡ run.Memory)
@@ -344,9 +363,12 @@ module _ {S : Type 0} {source : Source S} (c : List TableShape) (tables : List C
       turned-stop fault told f h ro rn lo ln not r is line first ends = record {
         went = went-fault true fault told f h ro rn lo ln not r is line first;
         one = omega arith;
+        some = λ e. cc e;
+        calm = λ e. cc e;
         on = λ e. cc e;
         all = λ e. cc e;
         stop = λ e. ends;
+        broken = λ e. cc e;
       }
 
       pub turned-untold : (fault told : RunFault) (f h : Option RunFault) (ro rn lo ln : Desk) → (fault ≡ run.Answer answer.Write → ⊥) → RepliesToStatement c tables statement (Err fault) ro rn → (told ≡ fault) ⊎ (told ≡ run.Memory)
@@ -354,9 +376,12 @@ module _ {S : Type 0} {source : Source S} (c : List TableShape) (tables : List C
       turned-untold fault told f h ro rn lo ln not r is line first = record {
         went = went-fault false fault told f h ro rn lo ln not r is line first;
         one = omega arith;
+        some = λ e. cc e;
+        calm = λ e. cc e;
         on = λ e. cc e;
         all = λ e. cc e;
         stop = λ e. cc e;
+        broken = λ e. cc e;
       }
 
   -- ---- a session
@@ -365,30 +390,41 @@ module _ {S : Type 0} {source : Source S} (c : List TableShape) (tables : List C
       → (has_ended now ≡ true → (g ≡ []) × (has_ended next ≡ true)) → statements_of (ahead start ++ (f ++ g)) ≡ ss ++ us
   input-all start now next f g ss us cut rest quiet = whatever-at (has_ended now) (λ more. statements_of (ahead start ++ (f ++ more)) ≡ ss ++ statements_of (ahead now ++ more)) g cut (λ e. (quiet e).0) ∙ ap (λ t. ss ++ t) rest
 
-  -- turns so far, after which the session goes on
-  pub record SoFar (stops : Bool) (start now : Statements S source) (first : Option RunFault) (ro rn lo ln : Desk) : Type 0 where
+  -- so many turns, after which the session goes on
+  pub record SoFar (stops : Bool) (turns : ℕ) (start now : Statements S source) (first : Option RunFault) (ro rn lo ln : Desk) : Type 0 where
     pub went : Goes true true start now None first ro rn lo ln
     pub none : stops ≡ true → first ≡ None
+    pub many : turns ≡ length went.outcomes
+    pub calm : source.failures (source_of now) ≡ source.failures (source_of start)
 
-  pub so-far-nothing : (stops : Bool) (start : Statements S source) (r l : Desk) → SoFar stops start start None r r l l
-  so-far-nothing stops start r l = record { went = went-nowhere start None r l; none = λ s. refl }
+  pub so-far-nothing : (stops : Bool) (start : Statements S source) (r l : Desk) → SoFar stops 0 start start None r r l l
+  so-far-nothing stops start r l = record { went = went-nowhere start None r l; none = λ s. refl; many = refl; calm = refl }
 
-  pub so-far-more : (stops : Bool) (start now next : Statements S source) (f h : Option RunFault) (r0 r1 r2 l0 l1 l2 : Desk) → SoFar stops start now f r0 r1 l0 l1 → Turned c tables stops None now next f h r1 r2 l1 l2 → SoFar stops start next h r0 r2 l0 l2
-  so-far-more stops start now next f h r0 r1 r2 l0 l1 l2 s t = record { went = went-on true true start now next None f h r0 r1 r2 l0 l1 l2 s.went t.went; none = λ e. t.on refl e (s.none e) }
+  pub so-far-more : (stops : Bool) (turns more : ℕ) (start now next : Statements S source) (f h : Option RunFault) (r0 r1 r2 l0 l1 l2 : Desk) → more ≡ turns + 1 → SoFar stops turns start now f r0 r1 l0 l1
+      → Turned c tables stops None now next f h r1 r2 l1 l2 → SoFar stops more start next h r0 r2 l0 l2
+  so-far-more stops turns more start now next f h r0 r1 r2 l0 l1 l2 is s t = record {
+    went = went-on true true start now next None f h r0 r1 r2 l0 l1 l2 s.went t.went;
+    none = λ e. t.on refl e (s.none e);
+    many = let count = length-append s.went.outcomes t.went.outcomes in let one = t.some refl in let so_far = s.many in omega (arith, is, count, one, so_far);
+    calm = t.calm refl ∙ s.calm;
+  }
 
-  pub session-ends : (stops : Bool) (start now next : Statements S source) (f h : Option RunFault) (e : SessionEnd) (r0 r1 r2 l0 l1 l2 : Desk) → SoFar stops start now f r0 r1 l0 l1 → Turned c tables stops (Some e) now next f h r1 r2 l1 l2
+  pub session-ends : (stops : Bool) (turns : ℕ) (start now next : Statements S source) (f h : Option RunFault) (e : SessionEnd) (r0 r1 r2 l0 l1 l2 : Desk) → SoFar stops turns start now f r0 r1 l0 l1 → Turned c tables stops (Some e) now next f h r1 r2 l1 l2
       → IsSession c tables stops (record { first = h; end = e }) start next r0 r2 l0 l2
-  session-ends stops start now next f h e r0 r1 r2 l0 l1 l2 s t = record {
+  session-ends stops turns start now next f h e r0 r1 r2 l0 l1 l2 s t = record {
     went = went-on (wrote_rows (Some e)) (wrote_lines (Some e)) start now next None f h r0 r1 r2 l0 l1 l2 s.went t.went;
     all = λ is. input-all start now next s.went.fresh t.went.fresh s.went.statements t.went.statements s.went.cut (t.all (ap Some is)) t.went.quiet;
     stopped = λ is. stops-at s.went.outcomes t.went.outcomes (sym s.went.first ∙ s.none is) t.one;
     stop = λ is. t.stop (ap Some is);
+    broken = λ is. break-on (source.failures (source_of start)) (source.failures (source_of now)) (source.failures (source_of next)) s.went.fresh t.went.fresh (2 ^ 64 ≤ length (s.went.outcomes ++ t.went.outcomes) + 1) s.calm (t.broken (ap Some is));
   }
 
-  pub session-spent : (stops : Bool) (start now : Statements S source) (f : Option RunFault) (r0 r1 l0 l1 : Desk) → SoFar stops start now f r0 r1 l0 l1 → IsSession c tables stops (record { first = f; end = end.Read }) start now r0 r1 l0 l1
-  session-spent stops start now f r0 r1 l0 l1 s = record {
+  pub session-spent : (stops : Bool) (turns : ℕ) (start now : Statements S source) (f : Option RunFault) (r0 r1 l0 l1 : Desk) → 2 ^ 64 ≤ turns + 1 → SoFar stops turns start now f r0 r1 l0 l1
+      → IsSession c tables stops (record { first = f; end = end.Read }) start now r0 r1 l0 l1
+  session-spent stops turns start now f r0 r1 l0 l1 spent s = record {
     went = s.went;
     all = λ is. cc is;
     stopped = λ is. subst StopsAtFault (append-nil s.went.outcomes) (stops-at s.went.outcomes [] (sym s.went.first ∙ s.none is) (omega arith));
     stop = λ is. cc is;
+    broken = λ is. inr (inr (subst (λ n. 2 ^ 64 ≤ n + 1) s.many spent));
   }

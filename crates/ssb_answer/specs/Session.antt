@@ -1,6 +1,6 @@
 -- A session: each statement of an input is answered over tables that were loaded once, one after the other.
 -- Source: own.
-use Rattle.std.specs.Prelude.{◌≡◌, ◌<◌, ◌≤◌, ◌++◌, [], ◌∷◌, ℕ, Bool, true, false, List, Option, None, Some, Result, Ok, Err, IsUtf8, length, map}
+use Rattle.std.specs.Prelude.{◌≡◌, ◌<◌, ◌≤◌, ◌+◌, ◌^◌, ◌⊎◌, ◌++◌, [], ◌∷◌, ℕ, Bool, true, false, List, Option, None, Some, Result, Ok, Err, IsUtf8, length, map}
 use Rattle.std.specs.List.{AllZip, flat_map}
 use Rattle.ssb_catalog.specs.Shapes.{TableShape}
 use Rattle.ssb_cells.specs.Tables.{Columns}
@@ -75,7 +75,7 @@ pub record Went {S : Type 0} {source : Source S} (c : List TableShape) (tables :
   pub rows : Took rows_whole (flat_map rows_text outcomes) rows_old rows_new
   pub lines : Took lines_whole (flat_map fault_text outcomes) lines_old lines_new
   pub first : first_new ≡ first_fault first_old outcomes
-  -- what was given before stays, and so does the end of the input
+  -- once the input has ended, it gives no byte, and stays so
   pub quiet : has_ended old ≡ true → (fresh ≡ []) × (has_ended new ≡ true)
 
 -- whether the rows, and the lines, were written whole
@@ -103,6 +103,8 @@ pub record IsSession {S : Type 0} {source : Source S} (c : List TableShape) (tab
   -- where the first fault is to end it, no statement behind that is answered; else no fault ends it
   pub stopped : stops ≡ true → StopsAtFault went.outcomes
   pub stop : r.end ≡ end.Stop → stops ≡ true
+  -- it gives the input up only where a read failed, or bytes or statements came without an end
+  pub broken : r.end ≡ end.Read → (source.failures (source_of old) < source.failures (source_of new)) ⊎ ((2 ^ 64 ≤ length went.fresh + 1) ⊎ (2 ^ 64 ≤ length went.outcomes + 1))
 
 -- what a run tells of an outcome
 abbrev pub told : Outcome → Result (Unit {0}) RunFault

@@ -1,6 +1,6 @@
 -- One turn of a session.
 -- For the contracts inside this crate.
-use Rattle.std.specs.Prelude.{◌≡◌, ◌≤◌, ◌++◌, Bool, true, false, List, Option, None, Some, Result, Ok, Err, length}
+use Rattle.std.specs.Prelude.{◌≡◌, ◌<◌, ◌≤◌, ◌+◌, ◌^◌, ◌⊎◌, ◌++◌, Bool, true, false, List, Option, None, Some, Result, Ok, Err, length}
 use Rattle.ssb_catalog.specs.Shapes.{TableShape}
 use Rattle.ssb_cells.specs.Tables.{Columns}
 use Rattle.ssb_load.specs.Files.{Bytes}
@@ -8,7 +8,7 @@ use Rattle.ssb_records.specs.declared.source.Source.{Ghosts as Source}
 use Rattle.ssb_reply.specs.declared.run_fault.RunFault.{RunFault}
 use Rattle.ssb_reply.specs.declared.run_fault.RunFault.TheVariants as run
 use Rattle.ssb_rows.specs.declared.fault.AnswerFault.TheVariants as answer
-use Rattle.ssb_statements.specs.Telling.{ahead}
+use Rattle.ssb_statements.specs.Telling.{ahead, source_of}
 use Rattle.ssb_statements.specs.declared.statements.Statements.{Statements}
 use Rattle.ssb_tokens.specs.Statements.{statements_of}
 use Rattle.ssb_answer.specs.Session.{AnswersStatement, Desk, Outcome, Went, wrote_lines, wrote_rows}
@@ -38,6 +38,9 @@ pub record Turned {S : Type 0} {source : Source S} (c : List TableShape) (tables
     (first_old first_new : Option RunFault) (rows_old rows_new lines_old lines_new : Desk) : Type 0 where
   pub went : Went c tables (wrote_rows r) (wrote_lines r) old new first_old first_new rows_old rows_new lines_old lines_new
   pub one : length went.outcomes ≤ 1
+  pub some : r ≡ None → length went.outcomes ≡ 1
+  pub calm : r ≡ None → source.failures (source_of new) ≡ source.failures (source_of old)
   pub on : r ≡ None → stops ≡ true → first_old ≡ None → first_new ≡ None
   pub all : r ≡ Some end.Input → statements_of (ahead old ++ went.fresh) ≡ went.statements
   pub stop : r ≡ Some end.Stop → stops ≡ true
+  pub broken : r ≡ Some end.Read → (source.failures (source_of old) < source.failures (source_of new)) ⊎ (2 ^ 64 ≤ length went.fresh + 1)

@@ -110,7 +110,8 @@ impl<'a> Database<'a> {
     }
 
     /// The tables of a catalog, each of what its sources give, in the catalog's order, loaded as
-    /// [`load_all_with`] does by as many threads as there are workers.
+    /// [`load_all_with`] does in as many threads as there are workers, and one more for the other tables than
+    /// the fact table; by one worker in the caller's.
     ///
     /// # Errors
     ///

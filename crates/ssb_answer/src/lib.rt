@@ -6,8 +6,8 @@
 //! - Callers: the program; embedders.
 //! - Files: `database`, `session`; `whole`, `grouping`: by workers; `alone`: in the caller's thread;
 //!   `readers`, `bytes`, `law`.
-//! - Definitions: `Database`, `Session`, `Asking`, `Writing`, `Readers`, `SessionStep`; the reply that a run
-//!   owes is handed on from the crate below.
+//! - Definitions: `Database`, `Session`, `Asking`, `Writing`, `Readers`; the reply that a run owes is
+//!   handed on from the crate below. `SessionStep`: for the contracts inside.
 #![tactic(auto)]
 
 mod alone;

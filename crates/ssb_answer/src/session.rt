@@ -24,7 +24,7 @@ pub enum SessionEnd {
     Input,
     /// A fault was told, and the first one was to end it.
     Stop,
-    /// The input could not be read further.
+    /// The input could not be read further: a read failed, or 2^64 - 1 bytes came without an end.
     Read,
     /// The last statement's rows could not be written.
     Rows,
@@ -35,7 +35,7 @@ pub enum SessionEnd {
 /// What came of a session.
 #[derive(Drop)]
 pub struct Session {
-    /// The first statement's fault that was told, none where there is none.
+    /// The first fault that a statement has, none where none has any but that its rows were not written.
     pub first: Option<RunFault>,
     /// Why it ended.
     pub end: SessionEnd,
@@ -170,7 +170,7 @@ pub fn answer_each<R: Threads + Wait + Sync, S: Source, G: Gate + Sync, W: Sink,
 {
     let mut first = None;
     // No input has as many statements.
-    for _ in 0..u64::MAX {
+    for _turn in 0..u64::MAX {
         let (now, end) = answer_next(
             rt, alloc, database, statements, settings, gate, stops, first, rows, lines,
         );

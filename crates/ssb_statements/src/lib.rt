@@ -1,6 +1,6 @@
 //! Statements: the statements of what a source gives, one by one, wherever it cuts its bytes.
 //!
-//! - Offers: [`Statements`], which reads no further than the end of the next statement;
+//! - Offers: [`Statements`], which reads nothing where it has the next statement to its end;
 //!   [`Statement`], what it tells of one; [`STATEMENT_SIZE`], how long one may be.
 //! - Callers: `ssb_answer`, which answers the statements of a source.
 //! - Apart: bytes are cut here before any of them is read as a token.

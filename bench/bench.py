@@ -5,6 +5,7 @@ Usage: bench.py load FOLDER [--old PROGRAM]
        bench.py query FOLDER [--old PROGRAM] [--queries NAME..] [--morsels N..] [--times N]
        bench.py threads FOLDER [--queries NAME..] [--workers N..] [--parts N..] [--morsels N..]
                                 [--batches N..] [--times N]
+       bench.py session FOLDER [--times N]
        bench.py check
 
 Each takes [--runs N] [--ssb PROGRAM] [--ssb-bench PROGRAM] too. FOLDER has tables and their catalog, as
@@ -59,6 +60,13 @@ SUMS = {
     "max-text": "sum-number",
     "max-joined-text": "sum-joined",
 }
+
+# The inputs of a session: nothing, the benchmark's queries, and one statement a few times and many times.
+NOTHING = "load alone"
+THIRTEEN = "the thirteen"
+FEW = 10
+MANY = 1000
+NO_ROW = "select count(*) from lineorder where lo_orderkey < 0;\n"
 
 # What `check` reads.
 CATALOG = "t|a|int|null\n"
@@ -220,6 +228,39 @@ def threads(given, texts):
     measure.print_table(["Query", f"Milliseconds alone, in morsels of {first:,}", *head], rows)
 
 
+def shell(given, path):
+    """The command of a session whose input is a file."""
+    program = [given.ssb, "shell", "--data", given.folder, "--workers", WORKERS]
+    return ["sh", "-c", 'exec "$@" <"$0"', path, *program]
+
+
+def session(given, texts):
+    """Sessions: the thirteen against one load and their own times; what a further statement takes."""
+    queries = thirteen()
+    paths = measure.write_texts(texts, queries)
+    inputs = texts / "inputs"
+    inputs.mkdir()
+    statements = {NOTHING: "", THIRTEEN: "\n".join(queries.values())}
+    statements |= {count: NO_ROW * count for count in (FEW, MANY)}
+    sessions = measure.write_texts(inputs, statements)
+    commands = {name: answering(given.ssb_bench, given, path, 10_000, WORKERS, 1, 1) for name, path in paths.items()}
+    measure.print_setting(given, f"{given.folder}, {WORKERS} workers")
+    runs = measure.run_all(commands | {name: shell(given, path) for name, path in sessions.items()}, given.runs)
+    own = sum(measure.least_told(runs[name]) for name in paths) / 1000
+    took = {name: measure.least_seconds(runs[name]) for name in sessions}
+    peak = {name: measure.least_peak(runs[name]) / 1e6 for name in sessions}
+    rows = [
+        ["a load, seconds", f"{took[NOTHING]:.3f}"],
+        [f"{THIRTEEN}, their own times", f"{own:.3f}"],
+        ["a session of them", f"{took[THIRTEEN]:.3f}"],
+        ["against a load and own times", f"{took[THIRTEEN] / (took[NOTHING] + own):.2f}"],
+        [f"peak memory after {FEW} statements, MB", f"{peak[FEW]:.1f}"],
+        [f"after {MANY}, more", f"{peak[MANY] - peak[FEW]:.1f}"],
+        [f"a statement of {MANY}, milliseconds", f"{1000 * (took[MANY] - took[FEW]) / (MANY - FEW):.2f}"],
+    ]
+    measure.print_table(["Session", "Figure"], rows)
+
+
 def filled(first, again, last):
     """A text of at most MAX_BYTES: the first part, another as often as there is room, the last."""
     times = (MAX_BYTES - len(first) - len(last)) // len(again)
@@ -261,6 +302,7 @@ COMMANDS = {
     load: (["ssb", "ssb_bench"], ["folder", "--old"]),
     query: (["ssb_bench"], ["folder", "--old", "--queries", "--morsels", "--times"]),
     threads: (["ssb_bench"], ["folder", "--queries", "--workers", "--parts", "--morsels", "--batches", "--times"]),
+    session: (["ssb", "ssb_bench"], ["folder", "--times"]),
     check: (["ssb"], []),
 }
 

@@ -28,7 +28,10 @@ MOST = 10_000
 REFUSED = b"refused\n"
 
 MEMORY = b"Memory\n"
+LINE = b"ssb: Memory\n"
 ROWS = b"799|1993|ASIA\n194|1993|EUROPE\n380|1994|\n294|1994|ASIA\n"
+COUNT = b"7\n"
+GREATEST = b"700\n"
 DONE = b"done\n"
 DONE_AGAIN = b"done again\n"
 
@@ -43,6 +46,7 @@ TRIALS = {
     "give_back": [DONE, DONE_AGAIN],
     "merge": [DONE, DONE_AGAIN],
     "partial": [DONE, DONE_AGAIN],
+    "session": [COUNT + GREATEST, LINE + GREATEST, COUNT + LINE],
 }
 
 

@@ -2,10 +2,14 @@
 
 use crate::ends::{Done, Stop};
 use crate::files::{CATALOG, DATES, FACTS, REVENUE, SUPPLIERS, readers, sources};
-use ssb_answer::{Joined, Out, Settings, run, run_alone, run_alone_from, run_from};
-use ssb_load::{Catalog, In};
+use ssb_answer::{
+    Database, Joined, Out, SessionEnd, Settings, Statements, answer_each, run, run_alone,
+    run_alone_from, run_from,
+};
+use ssb_load::{Catalog, In, PIECE_SIZE};
 use ssb_pipeline::NoGate;
 use std::alloc::{AllocError, Global};
+use std::io;
 use std::io::{Read, Write};
 use std::sync::Wait;
 use std::thread::Threads;
@@ -119,4 +123,40 @@ pub(crate) fn run_over_sections<R: Threads + Wait + Sync, W: Write + Drop>(
 ) -> Result<Done, Stop> {
     let sources = joined(alloc)?;
     run_joined(rt, alloc, sources, writer)
+}
+
+// Two statements over the small tables.
+const SESSION: &[u8] = b"select count(*) from lineorder; select max(lo_revenue) from lineorder";
+
+/// A session of two statements by two workers. The rows and the lines go to the standard output, one behind
+/// the other.
+pub(crate) fn run_session<R: Print + Threads + Wait + Sync>(
+    rt: &R,
+    alloc: Global,
+) -> Result<Done, Stop> {
+    let settings = settings()?;
+    let catalog = Catalog::read(alloc, CATALOG)?;
+    let mut sources = sources(alloc)?;
+    if sources.len() != catalog.tables().len() {
+        return Err(Stop::Wrong);
+    }
+    let database = Database::load_alone(alloc, &catalog, &mut sources, PIECE_SIZE)?;
+    let mut statements = Statements::new(alloc, In::new(SESSION))?;
+    let mut rows = Out::new(io::writer(rt));
+    let mut lines = Out::new(io::writer(rt));
+    let session = answer_each(
+        rt,
+        alloc,
+        &database,
+        &mut statements,
+        settings,
+        &NoGate,
+        false,
+        &mut rows,
+        &mut lines,
+    );
+    match session.end {
+        SessionEnd::Input => Ok(Done::Written),
+        _ => Err(Stop::Wrong),
+    }
 }

@@ -83,6 +83,17 @@ fn shared_job(
     }
 }
 
+// In how many threads tables are loaded: in the caller's alone for one worker, and otherwise in two for each,
+// since sections of one size take unequal times where cores differ.
+fn loading_threads(settings: Settings) -> u32
+    ensures { 0 < result }
+{
+    if settings.workers == 1 {
+        return 1;
+    }
+    2 * settings.workers
+}
+
 impl<'a> Database<'a> {
     ghost use Rattle.ssb_answer.specs.Database.{LoadsTables, RepliesOver};
 
@@ -110,8 +121,8 @@ impl<'a> Database<'a> {
     }
 
     /// The tables of a catalog, each of what its sources give, in the catalog's order, loaded as
-    /// [`load_all_with`] does in as many threads as there are workers, and one more for the other tables than
-    /// the fact table; by one worker in the caller's.
+    /// [`load_all_with`] does in up to two threads for each worker, and one more for the other tables than the
+    /// fact table; by one worker in the caller's.
     ///
     /// # Errors
     ///
@@ -130,7 +141,8 @@ impl<'a> Database<'a> {
         ensures failed { IfErr result (FailedRead joined_source catalog.now sources.old sources.new) }
         ensures told { (files : List Bytes) → map ⟦<Joined<S> as Source>⟧.whole sources.old ≡ map Some files → LoadsTables catalog.now (given_each (map ⟦<Joined<S> as Source>⟧.given sources.old) files) result }
     {
-        let tables = load_all_with(rt, alloc, catalog, sources, PIECE_SIZE, settings.workers)?;
+        let threads = loading_threads(settings);
+        let tables = load_all_with(rt, alloc, catalog, sources, PIECE_SIZE, threads)?;
         Database::of_tables(alloc, catalog, tables)
     }
 

@@ -98,10 +98,10 @@ pub fn write_answered<W: Sink>(
 /// the first fault ends it, and nothing is written before the answer is complete.
 ///
 /// One worker loads in the caller's thread. Otherwise a table without a key is read from the sources that
-/// stand joined for it in as many threads as workers, the caller's among them, and the other tables by one
-/// more; then workers take the morsels of the fact table from parts, and make the groups of each in threads
-/// of their own. They may wait for each other. How a table's bytes are cut into sources, how many workers
-/// and parts there are, and how large a morsel is, changes no answer.
+/// stand joined for it in up to two threads for each worker, and the other tables by one more; then workers
+/// take the morsels of the fact table from parts, and make the groups of each in threads of their own. They
+/// may wait for each other. How a table's bytes are cut into sources, how many workers and parts there are,
+/// and how large a morsel is, changes no answer.
 ///
 /// # Errors
 ///

@@ -133,12 +133,12 @@ fn path_of(alloc: Global, data: &str, table: &str) -> Result<String, AllocError>
     format!(in alloc; "{data}/{table}.tbl")
 }
 
-// How often the file of a table is opened: the fact table's once for each worker.
+// How often the file of a table is opened: the fact table's twice for each worker.
 fn section_count(table: &TableDef, workers: u32) -> u64
     ensures { result ≡ section_count table.now workers }
 {
     if table.is_fact() {
-        u64::from(workers)
+        2 * u64::from(workers)
     } else {
         1
     }
@@ -216,8 +216,9 @@ fn add_file<R: Files + AllocGlobal>(
 }
 
 /// The files of the tables, in the catalog's order, each in sections of which nothing was read. The fact
-/// table's has one for each worker, and fewer where so many handles can't be had; each other file is one
-/// section. A handle for each table is had before the further ones.
+/// table's has two for each worker, so that each may be read by a thread of its own, and fewer where so
+/// many handles can't be had; each other file is one section. A handle for each table is had before the
+/// further ones.
 ///
 /// # Errors
 ///

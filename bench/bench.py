@@ -5,7 +5,7 @@ Usage: bench.py load FOLDER [--old PROGRAM]
        bench.py query FOLDER [--old PROGRAM] [--queries NAME..] [--morsels N..] [--times N]
        bench.py threads FOLDER [--queries NAME..] [--workers N..] [--parts N..] [--morsels N..]
                                 [--batches N..] [--times N]
-       bench.py session FOLDER [--times N]
+       bench.py session FOLDER
        bench.py check
 
 Each takes [--runs N] [--ssb PROGRAM] [--ssb-bench PROGRAM] too. FOLDER has tables and their catalog, as
@@ -64,6 +64,7 @@ SUMS = {
 # The inputs of a session: nothing, the benchmark's queries, and one statement a few times and many times.
 NOTHING = "load alone"
 THIRTEEN = "the thirteen"
+THRICE = "the thirteen three times"
 FEW = 10
 MANY = 1000
 NO_ROW = "select count(*) from lineorder where lo_orderkey < 0;\n"
@@ -236,27 +237,22 @@ def shell(given, path):
 
 def session(given, texts):
     """Sessions: the thirteen against one load and their own times; what a further statement takes."""
-    queries = thirteen()
-    paths = measure.write_texts(texts, queries)
-    inputs = texts / "inputs"
-    inputs.mkdir()
-    statements = {NOTHING: "", THIRTEEN: "\n".join(queries.values())}
-    statements |= {count: NO_ROW * count for count in (FEW, MANY)}
-    sessions = measure.write_texts(inputs, statements)
-    commands = {name: answering(given.ssb_bench, given, path, 10_000, WORKERS, 1, 1) for name, path in paths.items()}
+    queries = "\n".join(thirteen().values())
+    statements = {NOTHING: "", THIRTEEN: queries, THRICE: 3 * queries, FEW: FEW * NO_ROW, MANY: MANY * NO_ROW}
+    paths = measure.write_texts(texts, statements)
     measure.print_setting(given, f"{given.folder}, {WORKERS} workers")
-    runs = measure.run_all(commands | {name: shell(given, path) for name, path in sessions.items()}, given.runs)
-    own = sum(measure.least_told(runs[name]) for name in paths) / 1000
-    took = {name: measure.least_seconds(runs[name]) for name in sessions}
-    peak = {name: measure.least_peak(runs[name]) / 1e6 for name in sessions}
+    runs = measure.run_all({name: shell(given, path) for name, path in paths.items()}, given.runs)
+    took = {name: measure.least_seconds(some) for name, some in runs.items()}
+    peak = {name: measure.least_peak(some) / 1e6 for name, some in runs.items()}
+    own = (took[THRICE] - took[THIRTEEN]) / 2
     rows = [
-        ["a load, seconds", f"{took[NOTHING]:.3f}"],
-        [f"{THIRTEEN}, their own times", f"{own:.3f}"],
-        ["a session of them", f"{took[THIRTEEN]:.3f}"],
-        ["against a load and own times", f"{took[THIRTEEN] / (took[NOTHING] + own):.2f}"],
-        [f"peak memory after {FEW} statements, MB", f"{peak[FEW]:.1f}"],
-        [f"after {MANY}, more", f"{peak[MANY] - peak[FEW]:.1f}"],
-        [f"a statement of {MANY}, milliseconds", f"{1000 * (took[MANY] - took[FEW]) / (MANY - FEW):.2f}"],
+        [f"{NOTHING}, seconds", f"{took[NOTHING]:.3f}"],
+        [f"{THIRTEEN} once more, seconds", f"{own:.3f}"],
+        [f"{THIRTEEN}, with the load", f"{took[THIRTEEN]:.3f}"],
+        ["against the load and their own times", f"{took[THIRTEEN] / (took[NOTHING] + own):.2f}"],
+        ["a statement without a row, milliseconds", f"{1000 * (took[MANY] - took[FEW]) / (MANY - FEW):.2f}"],
+        [f"peak memory of {FEW} such, MB", f"{peak[FEW]:.1f}"],
+        [f"of {MANY}, more", f"{peak[MANY] - peak[FEW]:.1f}"],
     ]
     measure.print_table(["Session", "Figure"], rows)
 
@@ -302,7 +298,7 @@ COMMANDS = {
     load: (["ssb", "ssb_bench"], ["folder", "--old"]),
     query: (["ssb_bench"], ["folder", "--old", "--queries", "--morsels", "--times"]),
     threads: (["ssb_bench"], ["folder", "--queries", "--workers", "--parts", "--morsels", "--batches", "--times"]),
-    session: (["ssb", "ssb_bench"], ["folder", "--times"]),
+    session: (["ssb"], ["folder"]),
     check: (["ssb"], []),
 }
 

@@ -22,7 +22,7 @@ use Rattle.ssb_reply.specs.FaultLine.{line_of, run_words}
 use Rattle.ssb_reply.specs.Reply.{Replies}
 use Rattle.ssb_reply.specs.declared.run_fault.RunFault.TheVariants as run
 use Rattle.ssb_load.specs.Files.{loaded}
-use Rattle.std.specs.Prelude.{IsUtf8, OnErr, OnOk, is_ok, ◌⊎◌}
+use Rattle.std.specs.Prelude.{IsSome, IsUtf8, OnErr, OnOk, is_ok, ◌⊎◌}
 use Rattle.ssb_rows.specs.declared.sink.SinkFault.{SinkFault}
 use Rattle.ssb_answer.specs.Asking.{AnswersText}
 use Rattle.ssb_answer.specs.Database.{RepliesOver}
@@ -334,6 +334,10 @@ module _ {S : Type 0} {source : Source S} (c : List TableShape) (tables : List C
             broken = λ e. cc e;
           }
 
+      some-fault : (f : Option RunFault) (fault : RunFault) → IsSome (first_fault f (Err fault ∷ []))
+      some-fault None fault = refl
+      some-fault (Some x) fault = refl
+
       -- the fault that was told is that of the statement, or memory
       told-answers : (f g : RunFault) → AnswersStatement c tables statement (Err f) → (g ≡ f) ⊎ (g ≡ run.Memory) → AnswersStatement c tables statement (Err g)
       told-answers f g a (inl e) = rw e a
@@ -367,7 +371,7 @@ module _ {S : Type 0} {source : Source S} (c : List TableShape) (tables : List C
         calm = λ e. cc e;
         on = λ e. cc e;
         all = λ e. cc e;
-        stop = λ e. ends;
+        stop = λ e. (ends, subst IsSome (sym first) (some-fault f told));
         broken = λ e. cc e;
       }
 

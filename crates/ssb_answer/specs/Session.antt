@@ -1,6 +1,6 @@
 -- A session: each statement of an input is answered over tables that were loaded once, one after the other.
 -- Source: own.
-use Rattle.std.specs.Prelude.{◌≡◌, ◌<◌, ◌≤◌, ◌+◌, ◌^◌, ◌⊎◌, ◌++◌, [], ◌∷◌, ℕ, Bool, true, false, List, Option, None, Some, Result, Ok, Err, IsUtf8, length, map}
+use Rattle.std.specs.Prelude.{◌≡◌, ◌<◌, ◌≤◌, ◌+◌, ◌^◌, ◌⊎◌, ◌++◌, [], ◌∷◌, ℕ, Bool, true, false, List, Option, None, Some, Result, Ok, Err, IsSome, IsUtf8, length, map}
 use Rattle.std.specs.List.{AllZip, flat_map}
 use Rattle.ssb_catalog.specs.Shapes.{TableShape}
 use Rattle.ssb_cells.specs.Tables.{Columns}
@@ -102,7 +102,7 @@ pub record IsSession {S : Type 0} {source : Source S} (c : List TableShape) (tab
   pub all : r.end ≡ end.Input → statements_of (ahead old ++ went.fresh) ≡ went.statements
   -- where the first fault is to end it, no statement behind that is answered; else no fault ends it
   pub stopped : stops ≡ true → StopsAtFault went.outcomes
-  pub stop : r.end ≡ end.Stop → stops ≡ true
+  pub stop : r.end ≡ end.Stop → (stops ≡ true) × IsSome r.first
   -- it gives the input up only where a read failed, or bytes or statements came without an end
   pub broken : r.end ≡ end.Read → (source.failures (source_of old) < source.failures (source_of new)) ⊎ ((2 ^ 64 ≤ length went.fresh + 1) ⊎ (2 ^ 64 ≤ length went.outcomes + 1))
 

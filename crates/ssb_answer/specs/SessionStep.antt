@@ -1,6 +1,6 @@
 -- One turn of a session.
 -- For the contracts inside this crate.
-use Rattle.std.specs.Prelude.{◌≡◌, ◌<◌, ◌≤◌, ◌+◌, ◌^◌, ◌⊎◌, ◌++◌, Bool, true, false, List, Option, None, Some, Result, Ok, Err, length}
+use Rattle.std.specs.Prelude.{◌≡◌, ◌<◌, ◌≤◌, ◌+◌, ◌^◌, ◌⊎◌, ◌++◌, Bool, true, false, List, Option, None, Some, IsSome, Result, Ok, Err, length}
 use Rattle.ssb_catalog.specs.Shapes.{TableShape}
 use Rattle.ssb_cells.specs.Tables.{Columns}
 use Rattle.ssb_load.specs.Files.{Bytes}
@@ -42,5 +42,5 @@ pub record Turned {S : Type 0} {source : Source S} (c : List TableShape) (tables
   pub calm : r ≡ None → source.failures (source_of new) ≡ source.failures (source_of old)
   pub on : r ≡ None → stops ≡ true → first_old ≡ None → first_new ≡ None
   pub all : r ≡ Some end.Input → statements_of (ahead old ++ went.fresh) ≡ went.statements
-  pub stop : r ≡ Some end.Stop → stops ≡ true
+  pub stop : r ≡ Some end.Stop → (stops ≡ true) × IsSome first_new
   pub broken : r ≡ Some end.Read → (source.failures (source_of old) < source.failures (source_of new)) ⊎ (2 ^ 64 ≤ length went.fresh + 1)

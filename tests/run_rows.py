@@ -10,6 +10,7 @@ import contextlib
 import itertools
 import json
 import os
+import re
 import shutil
 import subprocess
 import sys
@@ -48,6 +49,8 @@ DEFAULTS = {
     "standard_output": "",
     "output": "",
     "error": "",
+    "error_pattern": None,
+    "written": {},
     "status": None,
 }
 
@@ -146,9 +149,10 @@ def change_file(path, content):
         path.write_bytes(content_bytes(content))
 
 
-def lay_out(row, folder):
-    """Writes the files of a row."""
+def lay_data(row, folder):
+    """Writes the files of a row's folder, in place of those that are there."""
     data = folder / DATA
+    shutil.rmtree(data, ignore_errors=True)
     data.mkdir()
     if row["base"] is not None:
         for source in sorted((ROOT / "examples" / row["base"]).iterdir()):
@@ -156,10 +160,15 @@ def lay_out(row, folder):
                 (data / source.name).write_bytes(source.read_bytes())
     if row["query"] is not None:
         (data / "query.sql").write_bytes(content_bytes(row["query"]))
-    if row["input"] is not None:
-        (folder / INPUT).write_bytes(content_bytes(row["input"]))
     for name, content in row["files"].items():
         change_file(data / name, content)
+
+
+def lay_out(row, folder):
+    """Writes the files of a row."""
+    lay_data(row, folder)
+    if row["input"] is not None:
+        (folder / INPUT).write_bytes(content_bytes(row["input"]))
 
 
 def words_of(row):
@@ -215,6 +224,8 @@ def shell_of(row, limits):
 
 def run(row, choice, program, folder, limits=None):
     """Runs the program: its status, and what it wrote on its two outputs."""
+    if row["written"]:
+        lay_data(row, folder)
     command = [str(program).encode()] + words_of(row) + [word.encode() for word in choice]
     with open(os.devnull if row["input"] is None else folder / INPUT, "rb") as source:
         ended = subprocess.run(
@@ -248,6 +259,26 @@ def runs(row, program, folder):
             yield [*choice, f"under {limits}:"], run(row, choice, program, folder, row["limits"])
 
 
+def error_difference(row, error):
+    """What is not as the row says of the error output, nothing where all is."""
+    if row["error_pattern"] is not None:
+        if re.fullmatch(row["error_pattern"], error.decode("utf-8", "replace")):
+            return []
+        return [f"error {error[:200]!r}, wanted the pattern {row['error_pattern']!r}"]
+    wanted = f"{row['error']}\n".encode() if row["error"] else b""
+    return [] if error == wanted else [f"error {error[:200]!r}, wanted {wanted!r}"]
+
+
+def written_differences(row, folder):
+    """What is not as the row says of the files that were written, one text for each difference."""
+    for name, content in row["written"].items():
+        wanted = content_bytes(content)
+        path = folder / DATA / name
+        held = path.read_bytes() if path.is_file() else None
+        if held != wanted:
+            yield f"{name} has {held!r}, wanted {wanted!r}"
+
+
 def differences(row, status, output, error):
     """What is not as the row says, one text for each difference."""
     found = []
@@ -258,10 +289,7 @@ def differences(row, status, output, error):
             found.append("nothing on the standard output, wanted some text")
     elif output != content_bytes(row["output"]):
         found.append(f"output {output[:200]!r}, wanted {content_bytes(row['output'])[:200]!r}")
-    wanted = f"{row['error']}\n".encode() if row["error"] else b""
-    if error != wanted:
-        found.append(f"error {error[:200]!r}, wanted {wanted!r}")
-    return found
+    return found + error_difference(row, error)
 
 
 def check(path, program):
@@ -272,7 +300,7 @@ def check(path, program):
             folder = Path(name)
             lay_out(row, folder)
             for words, ended in runs(row, program, folder):
-                wrong = differences(row, *ended)
+                wrong = [*differences(row, *ended), *written_differences(row, folder)]
                 if wrong:
                     return [" ".join([*words, text]) for text in wrong]
             return []

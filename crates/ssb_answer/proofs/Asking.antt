@@ -37,7 +37,7 @@ unasked c text tables (run.Bind f) h = h
 unasked c text tables (run.Answer f) h = absurd h
 unasked c text tables run.Memory h = tt
 
-over : (tables : List Columns) (j : JobShape) (r : Result (List Row) AnswerFault) → j.tables ≡ tables → Answers j.query (seen_rows j) r → Answers j.query (seen_rows (record { query = j.query; tables = tables })) r
+pub over : (tables : List Columns) (j : JobShape) (r : Result (List Row) AnswerFault) → j.tables ≡ tables → Answers j.query (seen_rows j) r → Answers j.query (seen_rows (record { query = j.query; tables = tables })) r
 over tables j r t h = subst (λ ts. Answers j.query (seen_rows (record { query = j.query; tables = ts })) r) t h
 
 pub answered : (c : List TableShape) (text : Bytes) (tables : List Columns) (j : JobShape) (rows : List Row) → Asks c text j.query → j.tables ≡ tables → Answers j.query (seen_rows j) (Ok rows) → AnswersText c tables text (Ok rows)

@@ -4,6 +4,7 @@ mod InMemory
 mod Keyed
 pub mod Running
 pub mod SessionFacts
+mod ShownFacts
 mod WorkedOff
 pub mod WrittenBack
 pub use Rattle.ssb_lanes.proofs.Crossing

@@ -85,7 +85,7 @@ before_load t (load.BadCatalog f n) P Q q = q
 before_load t (load.Read n) P Q q = q
 before_load t load.Memory P Q q = q
 
-before_answer : (c : List TableShape) (ts : List Columns) (text : Bytes) (f : RunFault) → AnswersText c ts text (Err f) → IsBefore f
+pub before_answer : (c : List TableShape) (ts : List Columns) (text : Bytes) (f : RunFault) → AnswersText c ts text (Err f) → IsBefore f
 before_answer c ts text (run.Load t f) h P Q q = q
 before_answer c ts text (run.Sql e) h P Q q = q
 before_answer c ts text (run.Bind e) h P Q q = q

@@ -10,7 +10,7 @@ use Rattle.ssb_records.specs.declared.source.Source.{Ghosts as Source}
 use Rattle.ssb_rows.specs.Order.{Row}
 use Rattle.ssb_rows.specs.Taking.{IsBeginning}
 use Rattle.ssb_reply.specs.declared.run_fault.RunFault.{RunFault}
-use Rattle.ssb_statements.specs.Telling.{Gave, IsTold, Whatever, ahead, has_ended, source_of, text_of}
+use Rattle.ssb_statements.specs.Telling.{Gave, Whatever, ahead, has_ended, source_of}
 use Rattle.ssb_statements.specs.declared.cutter.Statement.{Statement}
 use Rattle.ssb_statements.specs.declared.statements.Statements.{Statements}
 use Rattle.ssb_records.specs.declared.source.SourceFault.{SourceFault}
@@ -30,7 +30,6 @@ use Rattle.ssb_answer.specs.Session.{AnswersStatement, Desk, IsSession, Outcome,
 use Rattle.ssb_answer.specs.Session.AnswersStatement.{asked, too_long, no_text, refused}
 use Rattle.ssb_answer.specs.SessionStep.{RepliesToStatement, Turned, is_unwritten}
 use Rattle.ssb_answer.specs.Writing.{Writes}
-use Rattle.ssb_answer.specs.declared.session.Session.{Session}
 use Rattle.ssb_answer.specs.declared.session.SessionEnd.{SessionEnd}
 use Rattle.ssb_answer.specs.declared.session.SessionEnd.TheVariants as end
 use Rattle.ssb_answer.proofs.Running.{replied-over}

@@ -3,6 +3,8 @@ pub mod Database
 pub mod Readers
 pub mod Session
 pub mod SessionStep
+pub mod Showing
+pub mod ShownStep
 pub mod Writing
 pub use Rattle.ssb_catalog.specs.Catalog
 pub use Rattle.ssb_groups.specs.Stands
@@ -21,3 +23,6 @@ pub use Rattle.ssb_rows.specs.Order
 pub use Rattle.ssb_rows.specs.Result
 pub use Rattle.ssb_rows.specs.Taking
 pub use Rattle.ssb_rows.specs.Text
+pub use Rattle.ssb_show.specs.Columns
+pub use Rattle.ssb_show.specs.Shown
+pub use Rattle.ssb_show.specs.Titles

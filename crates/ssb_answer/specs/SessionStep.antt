@@ -1,6 +1,6 @@
 -- One turn of a session.
 -- For the contracts inside this crate.
-use Rattle.std.specs.Prelude.{◌≡◌, ◌<◌, ◌≤◌, ◌+◌, ◌^◌, ◌⊎◌, ◌++◌, Bool, true, false, List, Option, None, Some, IsSome, Result, Ok, Err, length}
+use Rattle.std.specs.Prelude.{◌≡◌, ◌<◌, ◌≤◌, ◌+◌, ◌^◌, ◌⊎◌, ◌++◌, Bool, true, false, List, Option, None, Some, IsSome, Result, length}
 use Rattle.ssb_catalog.specs.Shapes.{TableShape}
 use Rattle.ssb_cells.specs.Tables.{Columns}
 use Rattle.ssb_load.specs.Files.{Bytes}

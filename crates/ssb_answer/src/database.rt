@@ -83,17 +83,6 @@ fn shared_job(
     }
 }
 
-// In how many threads tables are loaded: in the caller's alone for one worker, and otherwise in two for each,
-// since sections of one size take unequal times where cores differ.
-fn loading_threads(settings: Settings) -> u32
-    ensures { 0 < result }
-{
-    if settings.workers == 1 {
-        return 1;
-    }
-    2 * settings.workers
-}
-
 impl<'a> Database<'a> {
     ghost use Rattle.ssb_answer.specs.Database.{LoadsTables, RepliesOver};
 
@@ -121,13 +110,13 @@ impl<'a> Database<'a> {
     }
 
     /// The tables of a catalog, each of what its sources give, in the catalog's order, loaded as
-    /// [`load_all_with`] does in up to two threads for each worker, and one more for the other tables than the
-    /// fact table; by one worker in the caller's.
+    /// [`load_all_with`] does in at most as many threads as there are workers, the caller's among them; they may
+    /// wait for each other. One worker loads in the caller's alone.
     ///
     /// # Errors
     ///
     /// As of [`load_all`]; also `Memory`, as of the first table, where no room was had to share them.
-    pub fn load<S: Source + Send, R: Threads + Sync>(
+    pub fn load<S: Source + Send + Drop, R: Threads + Wait + Sync>(
         rt: &R,
         alloc: Global,
         catalog: &'a Catalog,
@@ -141,7 +130,7 @@ impl<'a> Database<'a> {
         ensures failed { IfErr result (FailedRead joined_source catalog.now sources.old sources.new) }
         ensures told { (files : List Bytes) → map ⟦<Joined<S> as Source>⟧.whole sources.old ≡ map Some files → LoadsTables catalog.now (given_each (map ⟦<Joined<S> as Source>⟧.given sources.old) files) result }
     {
-        let threads = loading_threads(settings);
+        let threads = settings.workers;
         let tables = load_all_with(rt, alloc, catalog, sources, PIECE_SIZE, threads)?;
         Database::of_tables(alloc, catalog, tables)
     }
@@ -174,6 +163,13 @@ impl<'a> Database<'a> {
         ensures { result.now ≡ self.now.catalog }
     {
         self.catalog
+    }
+
+    /// The tables, in the catalog's order.
+    pub fn tables(&self) -> &[Table]
+        ensures { result.now ≡ self.now.tables }
+    {
+        self.tables.as_slice()
     }
 
     /// The job of a text's query over these tables.

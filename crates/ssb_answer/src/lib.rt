@@ -2,12 +2,12 @@
 //!
 //! - Offers: [`Database`], tables loaded once; [`answer_each`], a session over them; [`run`] and [`run_alone`]
 //!   over readers, [`run_from`] and [`run_alone_from`] over sources, [`answer_bytes`] over files in memory;
-//!   [`Settings`], [`RunFault`], [`Gate`]; [`rows`], [`write_answer`], [`Answer`], [`Sink`], [`Out`].
+//!   [`Settings`], [`RunFault`], [`Gate`], [`Laps`]; [`Shape`], in which [`Database::show`] writes; [`rows`], [`write_answer`], [`Answer`], [`Sink`], [`Out`].
 //! - Callers: the program; embedders.
-//! - Files: `database`, `session`; `whole`, `grouping`: by workers; `alone`: in the caller's thread;
+//! - Files: `database`, `session`; `show`: for people; `whole`, `grouping`: by workers; `alone`: in the caller's thread;
 //!   `readers`, `bytes`, `law`.
-//! - Definitions: `Database`, `Session`, `Asking`, `Writing`, `Readers`; the reply that a run owes is
-//!   handed on from the crate below. `SessionStep`: for the contracts inside.
+//! - Definitions: `Database`, `Session`, `Showing`, `Asking`, `Writing`, `Readers`; the reply that a run owes is
+//!   handed on from the crate below. `SessionStep`, `ShownStep`: for the contracts inside.
 #![tactic(auto)]
 
 mod alone;
@@ -17,6 +17,7 @@ mod grouping;
 mod law;
 mod readers;
 pub mod session;
+pub mod show;
 mod whole;
 
 pub use alone::{answer_job, run_alone_from};
@@ -25,10 +26,13 @@ pub use database::Database;
 pub use law::{outcomes_are_replies, replies_of_files};
 pub use readers::{run, run_alone};
 pub use session::{Session, SessionEnd, answer_each};
+pub use show::{Laps, NoLaps, Step, plain_shows_replies};
 pub use ssb_lanes::{Joined, Section, load_all_with, load_with, sections_of};
 pub use ssb_load::{In, Source};
 pub use ssb_pipeline::{Gate, NoGate};
 pub use ssb_reply::{RunFault, Settings, run_line};
 pub use ssb_rows::{Answer, AnswerFault, AnswerRow, Out, Sink, SinkFault, rows, write_answer};
-pub use ssb_statements::{Statement, Statements};
+pub use ssb_show::{Mode, Shape};
+pub use ssb_sql::SqlFault;
+pub use ssb_statements::{Next, NoPrompts, Prompts, Script, Statement, Statements};
 pub use whole::{answer_of_groups, answer_shared, query_of, run_from, write_answered};

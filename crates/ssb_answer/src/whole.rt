@@ -98,9 +98,9 @@ pub fn write_answered<W: Sink>(
 /// the first fault ends it, and nothing is written before the answer is complete.
 ///
 /// One worker loads in the caller's thread. Otherwise a table without a key is read from the sources that
-/// stand joined for it in up to two threads for each worker, and the other tables by one more; then workers
-/// take the morsels of the fact table from parts, and make the groups of each in threads of their own. They
-/// may wait for each other. How a table's bytes are cut into sources, how many workers and parts there are,
+/// stand joined for it in at most a thread for each worker, of which one loads the other tables too; then
+/// workers take the morsels of the fact table from parts, and make the groups of each in threads of their
+/// own. They may wait for each other. How a table's bytes are cut into sources, how many workers and parts there are,
 /// and how large a morsel is, changes no answer.
 ///
 /// # Errors
@@ -109,7 +109,7 @@ pub fn write_answered<W: Sink>(
 /// `Load` with `Read` only where a read of that table's source failed, and `Answer(Write)` only where
 /// the sink failed, and then what it took is a beginning of the answer; `Memory` where a growth was
 /// refused.
-pub fn run_from<R: Threads + Wait + Sync, S: Source + Send, G: Gate + Sync, W: Sink>(
+pub fn run_from<R: Threads + Wait + Sync, S: Source + Send + Drop, G: Gate + Sync, W: Sink>(
     rt: &R,
     alloc: Global,
     catalog: &Catalog,

@@ -9,11 +9,12 @@ use ssb_load::{Catalog, In};
 use std::fs::File;
 use std::io::Read;
 use std::rt::{Clock, Files};
+use std::sync::Wait;
 use std::thread::Threads;
 use std::time::Instant;
 
 // How long it takes to load tables from sources that stand joined, in microseconds.
-fn time_of<R: Clock + Threads + Sync + AllocGlobal, F: Read + Drop + Send>(
+fn time_of<R: Clock + Threads + Wait + Sync + AllocGlobal, F: Read + Drop + Send>(
     rt: &R,
     catalog: &Catalog,
     sources: &mut [Joined<In<F>>],
@@ -29,10 +30,10 @@ fn time_of<R: Clock + Threads + Sync + AllocGlobal, F: Read + Drop + Send>(
 }
 
 /// How long it takes to load the tables of a folder, whose catalog lies in it as `catalog`, in
-/// microseconds: the fact table in so many threads, each from a section of its file, where that has more
-/// than 16 MB, and the others in one more; one thread alone loads all. None where the threads are not 1 to
+/// microseconds, in at most so many threads: the fact table from as many sections of its file, where that
+/// has more than 16 MB, and the others by one of the threads; one thread alone loads all. None where the threads are not 1 to
 /// 64, or a file is missing or not what it should be.
-pub(crate) fn loading_time<R: Files<File = File> + Clock + Threads + Sync + AllocGlobal>(
+pub(crate) fn loading_time<R: Files<File = File> + Clock + Threads + Wait + Sync + AllocGlobal>(
     rt: &R,
     folder: &str,
     threads: u32,

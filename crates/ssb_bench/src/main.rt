@@ -74,7 +74,7 @@ fn print_micros<R: Print>(rt: &R, what: &str, micros: u128) -> io::Result<()> {
 }
 
 // Prints the milliseconds of loading in so many threads.
-fn print_loading_time<R: Files<File = File> + Clock + Print + Threads + Sync + AllocGlobal>(
+fn print_loading_time<R: Files<File = File> + Clock + Print + Threads + Wait + Sync + AllocGlobal>(
     rt: &R,
     given: &[String],
 ) -> u8 {

@@ -3,11 +3,12 @@
 ghost use Rattle.std.specs.Prelude.{◌≡◌, IfOk, length, vec_len};
 
 use ssb_answer::{Joined, RunFault, Settings};
-use ssb_files::{ProgramFault, Section, names_of, open_all};
+use ssb_files::{Counted, ProgramFault, Section, counted_all, names_of, open_all};
 use ssb_load::Catalog;
 use std::alloc::Global;
 use std::fs::File;
 use std::rt::Files;
+use std::sync::atomic::AtomicU64;
 
 // Where the tables lie, and how the work over them is cut.
 #[derive(Clone, Copy)]
@@ -19,15 +20,18 @@ pub(crate) struct Folder<'a> {
     pub(crate) settings: Settings,
 }
 
-// The files of a folder's tables as sources, in the catalog's order.
-pub(crate) fn sources_of<R: Files<File = File> + AllocGlobal>(
+// The files of a folder's tables as sources, in the catalog's order, with the count of the bytes that they
+// give.
+pub(crate) fn sources_of<'a, R: Files<File = File> + AllocGlobal>(
     rt: &R,
     folder: Folder<'_>,
     catalog: &Catalog,
-) -> Result<Vec<Joined<Section<File>>>, ProgramFault>
+    count: &'a AtomicU64,
+) -> Result<Vec<Joined<Counted<'a, Section<File>>>>, ProgramFault>
     ensures { IfOk result (λ sources. vec_len sources ≡ length catalog.now) }
 {
     let files = open_all(rt, folder.data, catalog, folder.settings.workers)?;
+    let files = counted_all(rt.alloc(), files, count)?;
     Ok(Joined::of_each(rt.alloc(), files)?)
 }
 

@@ -6,8 +6,8 @@ ghost use Rattle.std.specs.Prelude.{IfOk};
 ghost use Rattle.ssb_files.specs.Faults.{IsStatus};
 
 use crate::folder::Folder;
-use crate::run::run;
-use crate::shell::shell;
+use crate::run::{Showing, run};
+use crate::shell::{Manner, shell};
 use crate::tell::{tell, write_fault};
 use ssb_answer::{Settings, query_of};
 use ssb_files::{ProgramFault, catalog_of, read_query};
@@ -16,10 +16,17 @@ use ssb_words::{Tables, Task, WordsFault, task_of};
 use std::alloc::AllocError;
 use std::fs::File;
 use std::io::Write;
-use std::rt::{Env, Files};
+use std::rt::{Clock, Env, Files};
 use std::sync::Wait;
 use std::thread::Threads;
 use std::{env, io};
+
+/// Which of the program's streams are terminals.
+#[derive(Clone, Copy)]
+pub(crate) struct Terminals {
+    pub(crate) input: bool,
+    pub(crate) errors: bool,
+}
 
 fn print_text<R: Print + AllocGlobal>(rt: &R, text: &str) -> Result<(), ProgramFault> {
     match rt.print(text) {
@@ -112,14 +119,33 @@ fn folder_of<'a>(tables: Tables<'a>) -> Result<Folder<'a>, ProgramFault> {
 }
 
 fn act_on_task<
-    R: Files<File = File> + Input + Print + Eprint + AllocGlobal + Threads + Wait + Sync,
+    R: Files<File = File> + Input + Print + Eprint + AllocGlobal + Threads + Wait + Clock + Sync,
     E: Write + Drop,
->(rt: &R, errors: E, task: Task<'_>) -> Result<u8, ProgramFault>
+>(rt: &R, errors: E, terminals: Terminals, task: Task<'_>) -> Result<u8, ProgramFault>
     ensures { IfOk result IsStatus }
 {
     match task {
-        Task::Run { tables, query } => done(run(rt, folder_of(tables)?, query)),
-        Task::Shell { tables, stop } => shell(rt, errors, folder_of(tables)?, stop),
+        Task::Run {
+            tables,
+            query,
+            headers,
+            timing,
+        } => {
+            let showing = Showing {
+                headers,
+                timing,
+                is_watched: terminals.errors,
+            };
+            done(run(rt, folder_of(tables)?, query, showing))
+        }
+        Task::Shell { tables, stop } => {
+            let manner = Manner {
+                stops: stop,
+                is_typed: terminals.input && terminals.errors,
+                is_watched: terminals.errors,
+            };
+            shell(rt, errors, folder_of(tables)?, manner)
+        }
         Task::Check { query, catalog } => done(check(rt, query, catalog)),
     }
 }
@@ -135,25 +161,34 @@ fn act_on_fault<R: Print + AllocGlobal>(rt: &R, fault: WordsFault) -> Result<(),
 
 // Does what these words ask.
 fn act_on<
-    R: Files<File = File> + Input + Print + Eprint + AllocGlobal + Threads + Wait + Sync,
+    R: Files<File = File> + Input + Print + Eprint + AllocGlobal + Threads + Wait + Clock + Sync,
     E: Write + Drop,
->(rt: &R, errors: E, given: &[String]) -> Result<u8, ProgramFault>
+>(rt: &R, errors: E, terminals: Terminals, given: &[String]) -> Result<u8, ProgramFault>
     ensures { IfOk result IsStatus }
 {
     match task_of(rt.alloc(), given) {
-        Ok(task) => act_on_task(rt, errors, task),
+        Ok(task) => act_on_task(rt, errors, terminals, task),
         Err(fault) => done(act_on_fault(rt, fault)),
     }
 }
 
 fn act<
-    R: Files<File = File> + Input + Print + Eprint + Env + AllocGlobal + Threads + Wait + Sync,
+    R: Files<File = File>
+        + Input
+        + Print
+        + Eprint
+        + Env
+        + AllocGlobal
+        + Threads
+        + Wait
+        + Clock
+        + Sync,
     E: Write + Drop,
->(rt: &R, errors: E) -> Result<u8, ProgramFault>
+>(rt: &R, errors: E, terminals: Terminals) -> Result<u8, ProgramFault>
     ensures { IfOk result IsStatus }
 {
     let given = words(rt)?;
-    let acted = act_on(rt, errors, given.as_slice());
+    let acted = act_on(rt, errors, terminals, given.as_slice());
     drop(given);
     acted
 }
@@ -161,12 +196,21 @@ fn act<
 /// Does what the words of the command line ask, and gives the exit status. The writer is the error output,
 /// for what a session tells.
 pub(crate) fn status_of_program<
-    R: Files<File = File> + Input + Print + Eprint + Env + AllocGlobal + Threads + Wait + Sync,
+    R: Files<File = File>
+        + Input
+        + Print
+        + Eprint
+        + Env
+        + AllocGlobal
+        + Threads
+        + Wait
+        + Clock
+        + Sync,
     E: Write + Drop,
->(rt: &R, errors: E) -> u8
+>(rt: &R, errors: E, terminals: Terminals) -> u8
     ensures { IsStatus result }
 {
-    match act(rt, errors) {
+    match act(rt, errors, terminals) {
         Ok(status) => status,
         Err(fault) => {
             let status = tell(rt, &fault);

@@ -3,9 +3,11 @@
 ghost use Rattle.std.specs.Prelude.{◌≡◌, ◌⊎◌};
 ghost use Rattle.ssb_files.specs.Faults.{out_of_memory, program_status};
 
+use crate::timing::Stopwatch;
 use ssb_answer::{AnswerFault, RunFault};
 use ssb_files::{MEMORY_LINE, OUT_OF_MEMORY, ProgramFault, program_line, program_status_of};
 use std::alloc::Global;
+use std::rt::Clock;
 
 // What is told where rows can't be written.
 pub(crate) fn write_fault(alloc: Global) -> ProgramFault {
@@ -29,5 +31,12 @@ pub(crate) fn tell<R: Eprint + AllocGlobal>(rt: &R, fault: &ProgramFault) -> u8
             let _ = rt.eprint(MEMORY_LINE);
             OUT_OF_MEMORY
         }
+    }
+}
+
+/// Tells how long the steps of an answer took.
+pub(crate) fn tell_time<R: Eprint + AllocGlobal + Clock>(rt: &R, watch: &Stopwatch<'_, R>) {
+    if let Ok(line) = watch.line(rt.alloc()) {
+        let _ = rt.eprint(line.as_str());
     }
 }

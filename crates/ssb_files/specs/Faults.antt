@@ -22,7 +22,7 @@ use Rattle.ssb_files.specs.declared.fault.ProgramFault.TheVariants as program
 abbrev pub at_fault : ℕ
 at_fault = 1
 
--- 2: the words of the command line are refused
+-- 2: the words of the command line, or a command, are refused
 abbrev pub bad_words : ℕ
 bad_words = 2
 
@@ -76,6 +76,7 @@ status run.Memory = out_of_memory
 -- the exit status of the program's fault
 abbrev pub program_status : ProgramFault → ℕ
 program_status program.BadWords = bad_words
+program_status (program.BadCommand word) = bad_words
 program_status (program.CannotOpen path) = input_or_output
 program_status (program.Catalog fault) = load_status fault
 program_status (program.Run names fault) = status fault
@@ -92,6 +93,7 @@ name_told names run.Memory = []
 -- the words of the program's fault
 abbrev pub program_words : ProgramFault → List (List ℕ)
 program_words program.BadWords = codes "U1 BadWords" ∷ []
+program_words (program.BadCommand word) = codes "U2 BadCommand" ∷ shown_path (string_bytes word) ∷ []
 program_words (program.CannotOpen path) = codes "F1 CannotOpen" ∷ shown_path (string_bytes path) ∷ []
 program_words (program.Catalog fault) = load_words (codes "catalog") fault
 program_words (program.Run names fault) = run_words (name_told names.items fault) fault
@@ -104,6 +106,7 @@ IsStatus s = (s ≡ 0) ⊎ ((fault : ProgramFault) × (s ≡ program_status faul
 -- a file can't be opened, or memory ran out
 abbrev pub IsOpenFault : ProgramFault → Type 0
 IsOpenFault program.BadWords = ⊥
+IsOpenFault (program.BadCommand word) = ⊥
 IsOpenFault (program.CannotOpen path) = ⊤
 IsOpenFault (program.Catalog fault) = ⊥
 IsOpenFault (program.Run names fault) = ⊥
@@ -112,6 +115,7 @@ IsOpenFault program.Memory = ⊤
 -- a catalog's file can't be opened, or is no catalog, or memory ran out
 abbrev pub IsNoCatalog : ProgramFault → Type 0
 IsNoCatalog program.BadWords = ⊥
+IsNoCatalog (program.BadCommand word) = ⊥
 IsNoCatalog (program.CannotOpen path) = ⊤
 IsNoCatalog (program.Catalog fault) = IsCatalogFault fault
 IsNoCatalog (program.Run names fault) = ⊥
@@ -120,6 +124,7 @@ IsNoCatalog program.Memory = ⊤
 -- a run had this fault of its query
 abbrev pub IsQueryFault : SqlFault → ProgramFault → Type 0
 IsQueryFault expected program.BadWords = ⊥
+IsQueryFault expected (program.BadCommand word) = ⊥
 IsQueryFault expected (program.CannotOpen path) = ⊥
 IsQueryFault expected (program.Catalog fault) = ⊥
 IsQueryFault expected (program.Run names fault) = fault ≡ run.Sql expected

@@ -1,5 +1,6 @@
 pub mod Faults
 pub mod Files
+pub mod Listing
 pub mod Opening
 pub mod Shown
 pub use Rattle.ssb_catalog.specs.BuiltIn

@@ -9,6 +9,8 @@ use std::alloc::AllocError;
 pub enum ProgramFault {
     /// The words of the command line ask for nothing that the program does.
     BadWords,
+    /// A line of a shell is no command; this is its first word.
+    BadCommand(String),
     /// The file of this path can't be opened, or is a query file that can't be read.
     CannotOpen(String),
     /// The catalog could not be loaded.

@@ -34,10 +34,29 @@ fn open_fault(alloc: Global, path: &str, error: &io::Error) -> ProgramFault
     }
 }
 
-fn open<R: Files + AllocGlobal>(rt: &R, path: &str) -> Result<R::File, ProgramFault>
+/// A handle for the file of a path, to read it.
+///
+/// # Errors
+///
+/// `CannotOpen` where the file can't be opened; `Memory` where a growth was refused.
+pub fn open<R: Files + AllocGlobal>(rt: &R, path: &str) -> Result<R::File, ProgramFault>
     ensures { IfErr result IsOpenFault }
 {
     match fs::open(rt, path) {
+        Ok(file) => Ok(file),
+        Err(error) => Err(open_fault(rt.alloc(), path, &error)),
+    }
+}
+
+/// A handle for an empty file of a path, to write it: what the file held is lost.
+///
+/// # Errors
+///
+/// As of [`open`].
+pub fn create<R: Files + AllocGlobal>(rt: &R, path: &str) -> Result<R::File, ProgramFault>
+    ensures { IfErr result IsOpenFault }
+{
+    match fs::create(rt, path) {
         Ok(file) => Ok(file),
         Err(error) => Err(open_fault(rt.alloc(), path, &error)),
     }
@@ -133,12 +152,13 @@ fn path_of(alloc: Global, data: &str, table: &str) -> Result<String, AllocError>
     format!(in alloc; "{data}/{table}.tbl")
 }
 
-// How often the file of a table is opened: the fact table's twice for each worker.
+// How often the file of a table is opened: the fact table's four times for each worker, but two times fewer,
+// since one worker loads the other tables too.
 fn section_count(table: &TableDef, workers: u32) -> u64
     ensures { result ≡ section_count table.now workers }
 {
     if table.is_fact() {
-        2 * u64::from(workers)
+        (4 * u64::from(workers)).saturating_sub(2)
     } else {
         1
     }
@@ -175,6 +195,29 @@ fn open_each<R: Files + AllocGlobal>(
         };
     }
     Ok(files)
+}
+
+// How many bytes a table's file has, none where the system does not tell. It is not opened: a pipe would wait
+// for its writer.
+fn size_of_file<R: Files + AllocGlobal>(rt: &R, data: &str, table: &TableDef) -> u64 {
+    let Ok(path) = path_of(rt.alloc(), data, table.name()) else {
+        return 0;
+    };
+    let known = fs::metadata(rt, path.as_str());
+    drop(path);
+    match known {
+        Ok(known) => known.len(),
+        Err(_) => 0,
+    }
+}
+
+/// How many bytes the files of the tables have, as far as the system tells: for people alone.
+pub fn size_of_files<R: Files + AllocGlobal>(rt: &R, data: &str, catalog: &Catalog) -> u64 {
+    let mut size: u64 = 0;
+    for table in catalog.tables() {
+        size = size.saturating_add(size_of_file(rt, data, table));
+    }
+    size
 }
 
 // The sections of a table's file, which was just opened.
@@ -216,7 +259,7 @@ fn add_file<R: Files + AllocGlobal>(
 }
 
 /// The files of the tables, in the catalog's order, each in sections of which nothing was read. The fact
-/// table's has two for each worker, so that each may be read by a thread of its own, and fewer where so
+/// table's has four for each worker but two, so that a fast worker may read more than a slow one, and fewer where so
 /// many handles can't be had; each other file is one section. A handle for each table is had before the
 /// further ones.
 ///

@@ -17,7 +17,7 @@ use std::alloc::{AllocError, Global};
 // The files, the query or the data are at fault.
 const AT_FAULT: u8 = 1;
 
-// The words of the command line are refused.
+// The words of the command line, or a command, are refused.
 const BAD_WORDS: u8 = 2;
 
 /// Memory ran out.
@@ -82,7 +82,7 @@ pub fn program_status_of(fault: &ProgramFault) -> u8
     ensures { result ≡ program_status fault.now }
 {
     match fault {
-        ProgramFault::BadWords => BAD_WORDS,
+        ProgramFault::BadWords | ProgramFault::BadCommand(_) => BAD_WORDS,
         ProgramFault::CannotOpen(_) => INPUT_OR_OUTPUT,
         ProgramFault::Catalog(fault) => load_status(*fault),
         ProgramFault::Run { names: _, fault } => status_of(fault),
@@ -103,17 +103,17 @@ fn name_in<'a>(names: &'a [String], fault: &RunFault) -> &'a str
     }
 }
 
-// The line of a file that can't be opened.
-fn open_line(alloc: Global, path: &str) -> Result<String, AllocError>
-    ensures { IfOk result (λ line. string_bytes line ≡ line_of (codes "F1 CannotOpen" ∷ shown_path path.now ∷ [])) }
+// The line of a fault of this title, with what it is about.
+fn shown_line(alloc: Global, title: &str, about: &str) -> Result<String, AllocError>
+    ensures { IfOk result (λ line. string_bytes line ≡ line_of (title.now ∷ shown_path about.now ∷ [])) }
 {
-    let path = shown_path(alloc, path)?;
-    let line = words_line(alloc, &["F1 CannotOpen", path.as_str()]);
-    drop(path);
+    let about = shown_path(alloc, about)?;
+    let line = words_line(alloc, &[title, about.as_str()]);
+    drop(about);
     line
 }
 
-/// The line of the program's fault. Control characters of a path are shown escaped, so that it is one.
+/// The line of the program's fault. Control characters of a path or a word are shown escaped, so that it is one.
 ///
 /// # Errors
 ///
@@ -123,7 +123,8 @@ pub fn program_line(alloc: Global, fault: &ProgramFault) -> Result<String, Alloc
 {
     match fault {
         ProgramFault::BadWords => words_line(alloc, &["U1 BadWords"]),
-        ProgramFault::CannotOpen(path) => open_line(alloc, path.as_str()),
+        ProgramFault::BadCommand(word) => shown_line(alloc, "U2 BadCommand", word.as_str()),
+        ProgramFault::CannotOpen(path) => shown_line(alloc, "F1 CannotOpen", path.as_str()),
         ProgramFault::Catalog(fault) => load_line(alloc, "catalog", *fault),
         ProgramFault::Run { names, fault } => {
             run_line(alloc, name_in(names.as_slice(), fault), fault)

@@ -1,6 +1,5 @@
 -- Columns of parts, put behind those before them and joined.
-use Rattle.std.proofs.Common.{◌≡◌, ◌∙◌, ◌+◌, ◌<◌, ◌++◌, ℕ, suc, List, [], ◌∷◌, Result, Ok, IfOk, length, map, get_or, set, refl, sym, ap, arith, subst, append_assoc, length-append}
-use Rattle.std.specs.Bool.{⊤}
+use Rattle.std.proofs.Common.{◌≡◌, ◌∙◌, ◌+◌, ◌<◌, ◌++◌, ℕ, suc, List, [], ◌∷◌, Ok, length, map, get_or, set, refl, sym, ap, arith, subst, append_assoc, length-append}
 use Rattle.std.proofs.lemmas.Grind.{flat_map-append}
 use Rattle.std.proofs.lemmas.List.{append-nil, length-map, map-append}
 use Rattle.ssb_cells.specs.Tables.{Filled, AreLong, rows_in}

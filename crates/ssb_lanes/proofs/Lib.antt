@@ -1,7 +1,10 @@
 mod AssemblyFacts
 mod AssemblyLines
+mod BerthMoves
 mod BesideFacts
+mod BoardFacts
 pub mod Crossing
+mod CrossingBerths
 pub mod JoinedFacts
 mod JoiningFacts
 mod LaneFacts

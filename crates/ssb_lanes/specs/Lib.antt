@@ -1,4 +1,5 @@
 pub mod Assembly
+pub mod Berth
 pub mod Joined
 pub mod JoinedLaws
 pub mod JoinedSource

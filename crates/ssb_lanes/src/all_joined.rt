@@ -1,23 +1,25 @@
 // Loading the tables of a catalog, each of several sources, at the same time.
 //
-// `load_all_with` loads the fact table, in several threads, beside the others, which one more thread loads
-// one after the other. A thread that can't be made is no fault: what it was to load is loaded by the thread
-// that asked for it. In one thread all tables are loaded by `load_all`.
+// `load_all_with` loads the fact table in several threads, and one of them loads the others, one after the
+// other, once it finds no more of the fact table to read. A thread that can't be made is no fault: what it
+// was to load is loaded by the thread that asked for it. In one thread all tables are loaded by `load_all`.
 
-ghost use Rattle.std.specs.Prelude.{◌≡◌, ◌≤◌, ◌<◌, ◌+◌, ◌∷◌, [], IfErr, IfOk, List, OnOk, Some, length, map};
+ghost use Rattle.std.specs.Prelude.{◌≡◌, ◌≤◌, ◌<◌, ◌+◌, ◌∷◌, [], IfErr, IfOk, IfSome, IsSome, List, OnOk, Some, length, map};
 ghost use Rattle.std.specs.Thread.{IsSend, IsSync};
 ghost use Rattle.ssb_catalog.specs.Catalog.{IsCatalog};
 ghost use Rattle.ssb_load.specs.Files.{AreLawful, Bytes, GrewEach, LoadsAll, RoseEach, given_each};
-ghost use Rattle.ssb_lanes.specs.JoinedSource.{joined_source};
+ghost use Rattle.ssb_lanes.specs.JoinedSource.{LoadsJoined, joined_source};
+ghost use Rattle.ssb_load.specs.Loading.{rules_at};
 ghost use Rattle.ssb_load.specs.Runs.{ArePutTogether, FailedRead, RanFrom};
 
 use crate::joined::Joined;
-use crate::read_joined::load_with;
+use crate::read_joined::{load_beside, load_with};
 use ssb_catalog::Catalog;
 use ssb_cells::Table;
 use ssb_load::{FileFault, load_all, load_tables};
 use ssb_records::{LoadFault, Source};
 use std::alloc::Global;
+use std::sync::Wait;
 use std::thread::{Threads, join_mut};
 
 // Which catalog's tables are loaded, with which allocator, in pieces of how many bytes and in at most how
@@ -55,32 +57,90 @@ fn put_together(
     }
 }
 
-// The table of this number alone.
-fn load_one<S: Source + Send, R: Threads + Sync>(
+// The table of this number, by the caller's thread and others, and in one thread more what is beside.
+fn load_apart<S: Source + Send + Drop, R: Threads + Wait + Sync, F: FnMut() + Send>(
     rt: &R,
     loading: &Loading<'_>,
     number: u32,
     source: &mut Joined<S>,
-) -> Result<Vec<Table>, FileFault>
-    requires { number < length loading.now.catalog.now }
-    ensures { RanFrom joined_source loading.now.catalog.now number (source.old ∷ []) (source.new ∷ []) result }
+    beside: &mut F,
+) -> Result<Table, LoadFault>
+    requires number { number < length loading.now.catalog.now }
+    requires beside { F.pre beside.old }
+    ensures loads { LoadsJoined (rules_at loading.now.catalog.now number) 4294967295 source.old source.new result }
+    ensures beside { F.step beside.old tt beside.new }
 {
-    let alloc = loading.alloc;
-    let place = number as usize;
-    let size = loading.piece_size;
-    let threads = loading.threads;
-    match load_with(
-        rt,
+    let Loading {
         alloc,
+        catalog,
+        piece_size,
+        threads,
+    } = *loading;
+    let place = number as usize;
+    let mut own = || -> Result<Table, LoadFault>
+        requires { IsSync R.row × IsSend S.row × (place < length catalog.now) × (0 < threads) }
+        ensures { LoadsJoined (rules_at catalog.entry.now place) 4294967295 source.entry.now source.exit.now result }
+    {
+        load_with(
+            rt,
+            alloc,
+            catalog,
+            place,
+            u32::MAX,
+            source,
+            piece_size,
+            threads,
+        )
+    };
+    join_mut(rt, beside, &mut own).1
+}
+
+// The table of this number, and beside it what is beside: by a thread that reads some of the sources too,
+// where there are several.
+fn load_table<S: Source + Send + Drop, R: Threads + Wait + Sync, F: FnMut() + Send>(
+    rt: &R,
+    loading: &Loading<'_>,
+    number: u32,
+    source: &mut Joined<S>,
+    beside: &mut F,
+) -> Result<Table, LoadFault>
+    requires number { number < length loading.now.catalog.now }
+    requires beside { F.pre beside.old }
+    ensures loads { LoadsJoined (rules_at loading.now.catalog.now number) 4294967295 source.old source.new result }
+    ensures beside { F.step beside.old tt beside.new }
+{
+    if !source.is_divided() {
+        return load_apart(rt, loading, number, source, beside);
+    }
+    load_beside(
+        rt,
+        loading.alloc,
         loading.catalog,
-        place,
+        number as usize,
         u32::MAX,
         source,
-        size,
-        threads,
-    ) {
+        loading.piece_size,
+        loading.threads,
+        beside,
+    )
+}
+
+// The table of this number alone, and what is beside it.
+fn load_one<S: Source + Send + Drop, R: Threads + Wait + Sync, F: FnMut() + Send>(
+    rt: &R,
+    loading: &Loading<'_>,
+    number: u32,
+    source: &mut Joined<S>,
+    beside: &mut F,
+) -> Result<Vec<Table>, FileFault>
+    requires number { number < length loading.now.catalog.now }
+    requires beside { F.pre beside.old }
+    ensures ran { RanFrom joined_source loading.now.catalog.now number (source.old ∷ []) (source.new ∷ []) result }
+    ensures beside { F.step beside.old tt beside.new }
+{
+    match load_table(rt, loading, number, source, beside) {
         Ok(table) => {
-            let mut tables = Vec::new(alloc);
+            let mut tables = Vec::new(loading.alloc);
             match tables.push(table) {
                 Ok(()) => Ok(tables),
                 Err(_) => Err(FileFault {
@@ -129,9 +189,8 @@ fn load_in_turn<S: Source + Send>(
     load_tables(alloc, catalog, first as usize, sources, piece_size)
 }
 
-// The tables before the fact table and those behind it by a thread of its own, where one can be made, beside
-// the fact table.
-fn load_beside<S: Source + Send, R: Threads + Sync>(
+// The tables before the fact table and those behind it beside the fact table.
+fn load_others_beside<S: Source + Send + Drop, R: Threads + Wait + Sync>(
     rt: &R,
     loading: &Loading<'_>,
     fact: u32,
@@ -147,31 +206,34 @@ fn load_beside<S: Source + Send, R: Threads + Sync>(
     ensures back { RanFrom joined_source loading.now.catalog.now (fact + 1) back.old back.new result.0.1 }
 {
     let behind = fact + 1;
-    let mut others = || -> Others
+    let mut answer = None;
+    let mut others = ||
         requires { IsSend S.row × (length front.now ≤ length loading.now.catalog.now) × (behind + length back.now ≤ length loading.now.catalog.now) }
-        ensures front { RanFrom joined_source loading.entry.now.catalog.now 0 front.entry.now front.exit.now result.0 }
-        ensures back { RanFrom joined_source loading.entry.now.catalog.now behind back.entry.now back.exit.now result.1 }
+        ensures some { IsSome answer.exit }
+        ensures front { IfSome answer.exit (λ o. RanFrom joined_source loading.entry.now.catalog.now 0 front.entry.now front.exit.now o.0) }
+        ensures back { IfSome answer.exit (λ o. RanFrom joined_source loading.entry.now.catalog.now behind back.entry.now back.exit.now o.1) }
     {
-        (
+        answer = Some((
             load_in_turn(loading, 0, front),
             load_in_turn(loading, behind, back),
-        )
+        ));
     };
-    let mut own = || -> Result<Vec<Table>, FileFault>
-        requires { IsSync R.row × IsSend S.row × (fact < length loading.now.catalog.now) }
-        ensures { RanFrom joined_source loading.entry.now.catalog.now fact (source.entry.now ∷ []) (source.exit.now ∷ []) result }
-    { load_one(rt, loading, fact, source) };
-    join_mut(rt, &mut others, &mut own)
+    let own = load_one(rt, loading, fact, source, &mut others);
+    match answer {
+        Some(others) => (others, own),
+        None => unreachable!(),
+    }
 }
 
-/// [`load_all`](ssb_load::load_all) over threads: the fact table is loaded as [`load_with`](crate::load_with)
-/// does, in at most so many threads, the caller's among them, and the other tables in one more beside it.
+/// [`load_all`](ssb_load::load_all) over at most so many threads, the caller's among them, which may wait for
+/// each other: the fact table is loaded as [`load_with`](crate::load_with) does, and one of the threads loads
+/// the other tables, after what it reads of the fact table; where that is not divided, a second thread does.
 /// One thread is the caller's alone.
 ///
 /// # Errors
 ///
 /// As of [`load_all`](ssb_load::load_all).
-pub fn load_all_with<S: Source + Send, R: Threads + Sync>(
+pub fn load_all_with<S: Source + Send + Drop, R: Threads + Wait + Sync>(
     rt: &R,
     alloc: Global,
     catalog: &Catalog,
@@ -201,7 +263,7 @@ pub fn load_all_with<S: Source + Send, R: Threads + Sync>(
     let fact = fact_number(catalog);
     let (front, rest) = sources.split_at_mut(fact as usize);
     let (own, back) = rest.split_at_mut(1);
-    let ((first, last), middle) = load_beside(rt, &loading, fact, front, &mut own[0], back);
+    let ((first, last), middle) = load_others_beside(rt, &loading, fact, front, &mut own[0], back);
     let rest = put_together(fact + 1, middle, last);
     put_together(fact, first, rest)
 }

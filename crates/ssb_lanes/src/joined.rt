@@ -15,6 +15,7 @@ use crate::lane::Lane;
 use crate::lanes::{Stop, read_together};
 use ssb_records::{History, LoadFault, Source, SourceFault};
 use std::alloc::{AllocError, Global};
+use std::sync::Wait;
 use std::thread::Threads;
 
 /// Sources one after the other as one source: it gives what they give, in their order, and meets its
@@ -112,7 +113,7 @@ fn count_failure(failed: &mut History<()>, fault: LoadFault)
     }
 }
 
-impl<S: Source + Send> Joined<S> {
+impl<S: Source + Send + Drop> Joined<S> {
     // Whether there are several sources, and nothing was read of them.
     pub(crate) fn is_divided(&self) -> bool
         ensures { IsTrue result ↔ ((self.now.begun ≡ false) × (1 < length self.now.lanes.items)) }
@@ -120,18 +121,21 @@ impl<S: Source + Send> Joined<S> {
         !self.begun && self.lanes.len() > 1
     }
 
-    // Reads each source to its end, in at most so many threads, and puts together what they gave.
-    pub(crate) fn read_together<R: Threads + Sync>(
+    // Reads each source to its end, in at most so many threads, one of which does as well what is
+    // beside, and puts together what they gave.
+    pub(crate) fn read_together<R: Threads + Wait + Sync, F: FnMut() + Send>(
         &mut self,
         rt: &R,
         alloc: Global,
         size: usize,
         threads: u32,
         assembly: &mut Assembly,
+        beside: &mut F,
     ) -> Result<(), LoadFault>
         requires threads { 0 < threads }
         requires unread { self.old.begun ≡ false }
         requires none { IsAssembled assembly.old [] }
+        requires beside { F.pre beside.old }
         ensures grows { ⟦<Joined<S> as Source>⟧.given self.new ≡ ⟦<Joined<S> as Source>⟧.given self.old ++ given_since (⟦<Joined<S> as Source>⟧.given self.old) (⟦<Joined<S> as Source>⟧.given self.new) }
         ensures whole { ⟦<Joined<S> as Source>⟧.whole self.new ≡ ⟦<Joined<S> as Source>⟧.whole self.old }
         ensures subject { OnOk result (subject_in assembly.new ≡ subject_in assembly.old) }
@@ -139,9 +143,10 @@ impl<S: Source + Send> Joined<S> {
         ensures ended { OnOk result (⟦<Joined<S> as Source>⟧.ends self.old < ⟦<Joined<S> as Source>⟧.ends self.new) }
         ensures stops { IfErr result (Stops ⟦<Joined<S> as Source>⟧.given ⟦<Joined<S> as Source>⟧.whole (judge (subject_in assembly.old)) self.old self.new) }
         ensures broken { IfErr result (λ e. IfRead e (λ n. ⟦<Joined<S> as Source>⟧.failures self.old < ⟦<Joined<S> as Source>⟧.failures self.new)) }
+        ensures beside { F.step beside.old tt beside.new }
     {
         self.begun = true;
-        match read_together(rt, alloc, size, threads, &mut self.lanes, assembly) {
+        match read_together(rt, alloc, size, threads, &mut self.lanes, assembly, beside) {
             Ok(()) => {
                 self.at = self.lanes.len();
                 self.ended = self.ended.and(&());

@@ -1,17 +1,13 @@
 // The sources of a `Joined`, each with what was read of it.
 
-ghost use Rattle.std.specs.Prelude.{◌≡◌, ◌<◌, [], map};
-ghost use Rattle.std.specs.List.{All};
+ghost use Rattle.std.specs.Prelude.{◌≡◌, [], None};
 ghost use Rattle.ssb_load.specs.Subject.{table};
-ghost use Rattle.ssb_lanes.specs.Joined.{sources_in};
 ghost use Rattle.ssb_lanes.specs.Lane.{IsLaneRead};
 
 use crate::part::Part;
 use ssb_records::{LoadFault, Source};
 use ssb_terms::Rule;
 use std::alloc::Global;
-use std::thread;
-use std::thread::Threads;
 
 // A source, with what a thread read of it.
 #[derive(Drop)]
@@ -27,21 +23,26 @@ pub(crate) struct Reading {
     pub(crate) stop: Option<LoadFault>,
 }
 
-// Reads a source to its end, as rows of a table under these rules.
-fn read_lane<S: Source>(
-    alloc: Global,
-    rules: &[Rule],
-    max_rows: u32,
-    size: usize,
-    lane: &mut Lane<S>,
-)
+// How sources are read: with which allocator, as rows of a table under which rules, of at most how many
+// rows, and in pieces of how many bytes.
+#[derive(Clone, Copy)]
+pub(crate) struct Way<'a> {
+    pub(crate) alloc: Global,
+    pub(crate) rules: &'a [Rule],
+    pub(crate) max_rows: u32,
+    pub(crate) size: usize,
+}
+
+// Reads a source to its end, unless memory for a part is refused.
+pub(crate) fn read_lane<S: Source>(way: &Way<'_>, lane: &mut Lane<S>)
     requires { S.given lane.old.source ≡ [] }
     ensures whole { S.whole lane.new.source ≡ S.whole lane.old.source }
-    ensures read { IsLaneRead S.given S.ends (table rules.now max_rows) lane.new }
+    ensures silent { lane.new.read ≡ None → S.given lane.new.source ≡ [] }
+    ensures read { IsLaneRead S.given S.ends (table way.now.rules.now way.now.max_rows) lane.new }
 {
-    lane.read = match Part::new(alloc, rules, max_rows) {
+    lane.read = match Part::new(way.alloc, way.rules, way.max_rows) {
         Ok(mut part) => {
-            let stop = match part.read(alloc, &mut lane.source, size) {
+            let stop = match part.read(way.alloc, &mut lane.source, way.size) {
                 Ok(()) => None,
                 Err(fault) => Some(fault),
             };
@@ -49,30 +50,4 @@ fn read_lane<S: Source>(
         }
         Err(_) => None,
     };
-}
-
-// Reads each source to its end, in at most so many threads, the caller's among them.
-pub(crate) fn read_each<S: Source + Send, R: Threads + Sync>(
-    rt: &R,
-    alloc: Global,
-    rules: &[Rule],
-    max_rows: u32,
-    size: usize,
-    threads: u32,
-    lanes: &mut [Lane<S>],
-)
-    requires threads { 0 < threads }
-    requires silent { All (λ l. S.given l.source ≡ []) lanes.old }
-    ensures whole { map S.whole (sources_in lanes.new) ≡ map S.whole (sources_in lanes.old) }
-    ensures read { All (IsLaneRead S.given S.ends (table rules.now max_rows)) lanes.new }
-{
-    thread::for_each_mut(
-        rt,
-        lanes,
-        threads as usize,
-        &|_: usize, lane: &mut Lane<S>|
-            requires { S.given lane.now.source ≡ [] }
-            ensures { (S.whole lane.exit.now.source ≡ S.whole lane.entry.now.source) × IsLaneRead S.given S.ends (table rules.entry.now max_rows) lane.exit.now }
-        { read_lane(alloc, rules, max_rows, size, lane) },
-    );
 }

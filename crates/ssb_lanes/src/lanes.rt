@@ -8,10 +8,12 @@ ghost use Rattle.ssb_lanes.specs.Lane.{IsLaneRead};
 ghost use Rattle.ssb_lanes.specs.Lanes.{AreAdded, StopsAt};
 
 use crate::assembly::Assembly;
-use crate::lane::{Lane, Reading, read_each};
+use crate::board::read_each;
+use crate::lane::{Lane, Reading, Way};
 use ssb_records::{LoadFault, Source};
 use std::alloc::Global;
 use std::mem;
+use std::sync::Wait;
 use std::thread::Threads;
 
 // Why sources stop: the place of the one that does, from 0, and the fault of all bytes up to there.
@@ -66,24 +68,34 @@ pub(crate) fn add_all<S: Source>(
     Ok(())
 }
 
-// Reads each source to its end, in at most so many threads, and puts together what they gave.
-pub(crate) fn read_together<S: Source + Send, R: Threads + Sync>(
+// Reads each source to its end, in at most so many threads, one of which does what is beside as well,
+// and puts together what they gave.
+pub(crate) fn read_together<S: Source + Send + Drop, R: Threads + Wait + Sync, F: FnMut() + Send>(
     rt: &R,
     alloc: Global,
     size: usize,
     threads: u32,
-    lanes: &mut [Lane<S>],
+    lanes: &mut Vec<Lane<S>>,
     assembly: &mut Assembly,
+    beside: &mut F,
 ) -> Result<(), Stop>
     requires threads { 0 < threads }
-    requires silent { All (λ l. S.given l.source ≡ []) lanes.old }
+    requires silent { All (λ l. S.given l.source ≡ []) lanes.old.items }
     requires none { IsAssembled assembly.old [] }
-    ensures whole { map S.whole (sources_in lanes.new) ≡ map S.whole (sources_in lanes.old) }
+    requires beside { F.pre beside.old }
+    ensures whole { map S.whole (sources_in lanes.new.items) ≡ map S.whole (sources_in lanes.old.items) }
     ensures subject { OnOk result (subject_in assembly.new ≡ subject_in assembly.old) }
-    ensures taken { OnOk result (AreAdded S.given S.ends assembly.new (sources_in lanes.new)) }
-    ensures stops { IfErr result (StopsAt S.given S.ends (subject_in assembly.old) (sources_in lanes.new)) }
+    ensures taken { OnOk result (AreAdded S.given S.ends assembly.new (sources_in lanes.new.items)) }
+    ensures stops { IfErr result (StopsAt S.given S.ends (subject_in assembly.old) (sources_in lanes.new.items)) }
+    ensures beside { F.step beside.old tt beside.new }
 {
     let rows = &assembly.last;
-    read_each(rt, alloc, rows.rules(), rows.max_rows, size, threads, lanes);
+    let way = Way {
+        alloc,
+        rules: rows.rules(),
+        max_rows: rows.max_rows,
+        size,
+    };
+    read_each(rt, &way, rows, threads, lanes, beside);
     add_all(alloc, lanes, assembly)
 }

@@ -5,13 +5,15 @@
 //! - Callers: `ssb_answer`, which loads by `load_all_with`; `ssb_files`, which opens files in sections.
 //! - Apart: it starts threads, and `ssb_load`, which it stands on, starts none.
 //! - Files: `sections`, `spans`; `joined`; `all_joined`, `read_joined`, which tells the way of a load;
-//!   `lane`, `lanes`, `part`, `assembly`, `moved`, `joining`: its steps.
-//! - Definitions: `Sections`; `Joined`, `JoinedSource`, `JoinedLaws`; `Lane`, `Lanes`, `Part`,
+//!   `lane`, `berth`, `board`, `lanes`, `part`, `assembly`, `moved`, `joining`: its steps.
+//! - Definitions: `Sections`; `Joined`, `JoinedSource`, `JoinedLaws`; `Lane`, `Berth`, `Lanes`, `Part`,
 //!   `Assembly`, `Moved`, `Joining`: for the contracts inside.
 #![tactic(auto)]
 
 mod all_joined;
 mod assembly;
+mod berth;
+mod board;
 pub mod joined;
 mod joining;
 mod lane;

@@ -1,8 +1,8 @@
 // Reading a table of several sources side by side, in threads.
 //
-// `load_with` asks the `Joined` to read together what it joins. `read_each` shares the sources out among
-// threads, which make a `Part` of each: the bytes up to the first line feed, the rows of the whole lines,
-// and what is left. `add_all` puts the parts into an `Assembly`, in the order of the sources; there the
+// `load_with` asks the `Joined` to read together what it joins. `read_each` lays each source into a queue of
+// its own, from which threads take it and make a `Part` of it: the bytes up to the first line feed, the rows
+// of the whole lines, and what is left. `add_all` puts the parts into an `Assembly`, in the order of the sources; there the
 // line over a cut is read, faults get their number in the whole, and rows are counted against the limit.
 // `join_parts` makes one column of each column's parts. Where the table has a key, there is one source
 // alone, or the sources were read before, `load_with` is `load_from`.
@@ -18,17 +18,56 @@ use ssb_cells::Table;
 use ssb_load::{key_place, load_in_pieces, rules_at};
 use ssb_records::{LoadFault, Source};
 use std::alloc::Global;
+use std::sync::Wait;
 use std::thread::Threads;
 
+// `load_with`, where one of the threads does what is beside as well.
+pub(crate) fn load_beside<S: Source + Send + Drop, R: Threads + Wait + Sync, F: FnMut() + Send>(
+    rt: &R,
+    alloc: Global,
+    catalog: &Catalog,
+    table: usize,
+    max_rows: u32,
+    source: &mut Joined<S>,
+    size: usize,
+    threads: u32,
+    beside: &mut F,
+) -> Result<Table, LoadFault>
+    requires table { table < length catalog.now }
+    requires threads { 0 < threads }
+    requires beside { F.pre beside.old }
+    ensures loads { LoadsFrom ⟦<Joined<S> as Source>⟧.given ⟦<Joined<S> as Source>⟧.failures ⟦<Joined<S> as Source>⟧.ends ⟦<Joined<S> as Source>⟧.whole (rules_at catalog.now table) max_rows source.old source.new result }
+    ensures beside { F.step beside.old tt beside.new }
+{
+    let Ok(rules) = rules_at(alloc, catalog, table) else {
+        beside();
+        return Err(LoadFault::Memory);
+    };
+    if !source.is_divided() || key_place(&rules).is_some() {
+        beside();
+        return load_in_pieces(alloc, catalog, table, max_rows, source, size);
+    }
+    let Ok(mut assembly) = Assembly::new(alloc, &rules, max_rows) else {
+        beside();
+        return Err(LoadFault::Memory);
+    };
+    source.read_together(rt, alloc, size, threads, &mut assembly, beside)?;
+    let parts = assembly.finish(alloc)?;
+    match join_parts(rt, alloc, &rules, parts, threads) {
+        Ok(table) => Ok(table),
+        Err(_) => Err(LoadFault::Memory),
+    }
+}
+
 /// [`load_in_pieces`](ssb_load::load_in_pieces) over sources one after the other, where a table without a
-/// key is read in at most so many threads, the caller's among them: the sources in runs of one length, each
-/// run by a thread, where one can be made. The answer is the same. A table with a key is read by the
-/// caller's thread, and so is any table of one source, or of sources that were read before.
+/// key is read in at most so many threads, the caller's among them, which may wait for each other: each takes
+/// the next source that no other has. The answer is the same. A table with a key is read by the caller's
+/// thread, and so is any table of one source, or of sources that were read before.
 ///
 /// # Errors
 ///
 /// As of [`load_from`](ssb_load::load_from).
-pub fn load_with<S: Source + Send, R: Threads + Sync>(
+pub fn load_with<S: Source + Send + Drop, R: Threads + Wait + Sync>(
     rt: &R,
     alloc: Global,
     catalog: &Catalog,
@@ -42,19 +81,15 @@ pub fn load_with<S: Source + Send, R: Threads + Sync>(
     requires threads { 0 < threads }
     ensures { LoadsFrom ⟦<Joined<S> as Source>⟧.given ⟦<Joined<S> as Source>⟧.failures ⟦<Joined<S> as Source>⟧.ends ⟦<Joined<S> as Source>⟧.whole (rules_at catalog.now table) max_rows source.old source.new result }
 {
-    let Ok(rules) = rules_at(alloc, catalog, table) else {
-        return Err(LoadFault::Memory);
-    };
-    if !source.is_divided() || key_place(&rules).is_some() {
-        return load_in_pieces(alloc, catalog, table, max_rows, source, size);
-    }
-    let Ok(mut assembly) = Assembly::new(alloc, &rules, max_rows) else {
-        return Err(LoadFault::Memory);
-    };
-    source.read_together(rt, alloc, size, threads, &mut assembly)?;
-    let parts = assembly.finish(alloc)?;
-    match join_parts(rt, alloc, &rules, parts, threads) {
-        Ok(table) => Ok(table),
-        Err(_) => Err(LoadFault::Memory),
-    }
+    load_beside(
+        rt,
+        alloc,
+        catalog,
+        table,
+        max_rows,
+        source,
+        size,
+        threads,
+        &mut || {},
+    )
 }

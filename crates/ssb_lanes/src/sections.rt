@@ -14,6 +14,9 @@ use std::io::{Read, Seek, SeekFrom, Take};
 use std::os::unix::fs::MetadataExt;
 use std::rt::Files;
 
+// A section has at least so many bytes: 8 MiB. Each thread keeps some memory of its own for each that it reads.
+const SECTION_SIZE: u64 = 8_388_608;
+
 /// Some bytes of a file, from where its handle stands.
 pub type Section<F> = In<Take<F>>;
 
@@ -150,13 +153,16 @@ fn division_of<R: Files + AllocGlobal>(
     ensures alone { count ≤ 1 → IfOk result (λ d. vec_len d.1 ≡ 0) }
 {
     match file.metadata() {
-        Ok(known) if known.is_file() => divide(rt, path, &known, count),
+        Ok(known) if known.is_file() => {
+            divide(rt, path, &known, count.min(known.len() / SECTION_SIZE))
+        }
         _ => Ok(undivided(rt.alloc())),
     }
 }
 
 /// The sections of a file that was just opened by this path, in the order of their bytes: as many as
-/// asked for, where it is a regular file of more than 16 MB, and one otherwise. The last goes to the
+/// asked for, where it is a regular file of more than 16 MB and has 8 MiB for each, fewer where it has not, and
+/// one otherwise. The last goes to the
 /// file's end, wherever that is when it is read.
 ///
 /// The first is read through the handle given. The others have new ones. Where so many can't be had,

@@ -1,5 +1,5 @@
 -- What a call that writes did, to a sink and to the page before it.
--- For the contracts inside this crate.
+-- For the contracts of what puts bytes behind those that wait.
 use Rattle.std.specs.Prelude.{◌≡◌, ◌<◌, ◌++◌, ◌∷◌, [], ℕ, List, Option, Result, Ok, Err}
 use Rattle.ssb_rows.specs.Taking.{GrewAlike, IsBeginning}
 

@@ -65,7 +65,9 @@ fn put_line<W: Sink>(page: &mut Page, out: &mut W, row: &AnswerRow) -> Result<()
     put_row(page, out, row.fields())
 }
 
-fn put_rows<W: Sink>(page: &mut Page, out: &mut W, rows: &[AnswerRow]) -> Result<(), SinkFault>
+/// Puts the text of rows behind what waits in a page. A fault leaves what a failed write left, and says no more
+/// of the page.
+pub fn put_rows<W: Sink>(page: &mut Page, out: &mut W, rows: &[AnswerRow]) -> Result<(), SinkFault>
     ensures { Writes result (desk (W.taken out.old) page.old (W.failures out.old) (W.contents out.old)) (desk (W.taken out.new) page.new (W.failures out.new) (W.contents out.new)) (text_of rows.now) }
 {
     let mut rest = rows;

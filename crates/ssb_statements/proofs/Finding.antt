@@ -12,11 +12,11 @@ use Rattle.ssb_statements.proofs.Steps.{if_any-put}
 abbrev nil : List ℕ
 nil = []
 
-drop-nil : (n : ℕ) → drop n nil ≡ nil
+pub drop-nil : (n : ℕ) → drop n nil ≡ nil
 drop-nil zero = refl
 drop-nil (suc n) = refl
 
-drop-drop : (n a : ℕ) (xs : List ℕ) → drop n (drop a xs) ≡ drop (a + n) xs
+pub drop-drop : (n a : ℕ) (xs : List ℕ) → drop n (drop a xs) ≡ drop (a + n) xs
 drop-drop n zero xs = let e : n ≡ 0 + n = omega arith in ap (λ k. drop k xs) e
 drop-drop n (suc a) [] = drop-nil n ∙ sym (drop-nil (suc a + n))
 drop-drop n (suc a) (x ∷ xs) = let e : suc (a + n) ≡ suc a + n = omega arith in drop-drop n a xs ∙ ap (λ k. drop k (x ∷ xs)) e
@@ -25,7 +25,7 @@ drop-drop n (suc a) (x ∷ xs) = let e : suc (a + n) ≡ suc a + n = omega arith
 pub between : (a e : ℕ) (xs : List ℕ) → a ≤ e → take (e - a) (drop a xs) ≡ drop a (take e xs)
 between a e xs le = let same : a + (e - a) ≡ e = omega arith in sym (drop-take a (e - a) xs) ∙ ap (λ k. drop a (take k xs)) same
 
-none-behind : (e : ℕ) (xs : List ℕ) → drop e (take e xs) ≡ []
+pub none-behind : (e : ℕ) (xs : List ℕ) → drop e (take e xs) ≡ []
 none-behind e xs = drop_all e (take e xs) (omega (arith, length-take e xs))
 
 -- the end of the next statement is in the piece

@@ -1,4 +1,6 @@
 pub mod Finding
+pub mod Giving
 pub mod Looking
+pub mod Standing
 pub mod Steps
 pub mod Told

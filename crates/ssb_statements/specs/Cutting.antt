@@ -44,3 +44,8 @@ IsTaken true old byte new = HasEnd old (byte ∷ []) [] new
 abbrev pub AreTaken : Option ℕ → Cutter → List ℕ → Cutter → Type 0
 AreTaken None old bytes new = GoesOn old bytes new
 AreTaken (Some n) old bytes new = (n ≤ length bytes) × HasEnd old bytes (drop n bytes) new
+
+-- a byte was taken, and with the end of a statement nothing is at hand
+abbrev pub Passes : Bool → Cutter → ℕ → Cutter → Type 0
+Passes false old byte new = GoesOn old (byte ∷ []) new
+Passes true old byte new = (s : List ℕ) × ((more : List ℕ) → cut old (byte ∷ more) ≡ s ∷ statements_of more) × IsClear new

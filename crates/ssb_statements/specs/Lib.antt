@@ -1,3 +1,5 @@
 pub mod Cutting
+pub mod Parting
 pub mod Reading
+pub mod Scripts
 pub mod Telling

@@ -1,6 +1,6 @@
 // The bytes of the statement at hand.
 
-ghost use Rattle.std.specs.Prelude.{◌≡◌, ◌++◌, ◌≤◌, ◌∷◌, [], length, take, min, slice_set, vec_len, false, IfOk};
+ghost use Rattle.std.specs.Prelude.{◌≡◌, ◌++◌, ◌≤◌, ◌∷◌, [], length, take, min, slice_set, vec_len, false, ◌↔◌, IfOk, IsTrue};
 ghost use Rattle.ssb_tokens.specs.Tokens.{is_blank};
 
 use ssb_records::History;
@@ -49,7 +49,7 @@ pub(crate) struct Cutter {
 }
 
 // Stores a byte, where there is room.
-fn store(text: &mut Vec<u8>, at: usize, byte: u8)
+pub(crate) fn store(text: &mut Vec<u8>, at: usize, byte: u8)
     ensures items { text.new.items ≡ slice_set text.old.items at byte }
     ensures len { vec_len text.new ≡ vec_len text.old }
 {
@@ -94,6 +94,16 @@ impl Cutter {
         ensures { result.now ≡ told_text self.now }
     {
         &self.text[..self.told]
+    }
+
+    /// Whether nothing is at hand, not even a comment.
+    pub(crate) fn is_clear(&self) -> bool
+        ensures { IsTrue result ↔ IsClear self.now }
+    {
+        match self.place {
+            Place::Plain => self.count == 0,
+            Place::Dash | Place::Literal | Place::Comment => false,
+        }
     }
 
     // One byte more of the statement.
@@ -191,8 +201,8 @@ impl Cutter {
         }
     }
 
-    // Takes one byte, and says whether the statement ends with it.
-    fn take(&mut self, byte: u8) -> bool
+    /// Takes one byte, and says whether the statement ends with it.
+    pub(crate) fn take(&mut self, byte: u8) -> bool
         ensures { IsTaken result self.old byte self.new }
     {
         match self.place {

@@ -1,16 +1,22 @@
-//! Statements: the statements of what a source gives, one by one, wherever it cuts its bytes.
+//! Statements: the statements of what a source gives, one by one, wherever it cuts its bytes; and scripts, in
+//! which lines that are commands stand between statements.
 //!
 //! - Offers: [`Statements`], which reads nothing where it has the next statement to its end;
-//!   [`Statement`], what it tells of one; [`STATEMENT_SIZE`], how long one may be.
-//! - Callers: `ssb_answer`, which answers the statements of a source.
+//!   [`Statement`], what it tells of one; [`STATEMENT_SIZE`], how long one may be; [`Script`], a source that
+//!   ends before each command, with [`Next`] and [`Prompts`].
+//! - Callers: `ssb_answer`, which answers the statements of a source; the program, which obeys commands.
 //! - Apart: bytes are cut here before any of them is read as a token.
-//! - Files: `statements`, `input`; `cutter`, which takes bytes one by one.
-//! - Definitions: `Telling`; `Cutting`, `Reading`: for the contracts inside.
+//! - Files: `statements`, `input`; `cutter`, which takes bytes one by one; `script`, `position`, `line`.
+//! - Definitions: `Telling`; `Parting`, `Scripts`; `Cutting`, `Reading`: for the contracts inside.
 #![tactic(auto)]
 
 mod cutter;
 mod input;
+mod line;
+mod position;
+pub mod script;
 pub mod statements;
 
 pub use cutter::{STATEMENT_SIZE, Statement};
+pub use script::{Next, NoPrompts, Prompts, Script};
 pub use statements::Statements;

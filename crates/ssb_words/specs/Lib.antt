@@ -1,2 +1,3 @@
 pub mod Benchmark
+pub mod Commands
 pub mod Words

@@ -16,6 +16,6 @@ IsFileOrBenchmark (query.Text text) = (name : List ℕ) × (lookup (bytes_eq nam
 
 -- the task's query is that of a file or of the benchmark
 abbrev pub AsksKnownQuery : Task → Type 0
-AsksKnownQuery (task.Run tables query) = IsFileOrBenchmark query
+AsksKnownQuery (task.Run tables query headers timing) = IsFileOrBenchmark query
 AsksKnownQuery (task.Shell tables stop) = ⊤
 AsksKnownQuery (task.Check query catalog) = ⊤

@@ -43,6 +43,10 @@ pub enum Task<'a> {
         tables: Tables<'a>,
         /// The query.
         query: QuerySource<'a>,
+        /// Whether to write the names of the select columns before the rows.
+        headers: bool,
+        /// Whether to tell how long loading, answering and writing take.
+        timing: bool,
     },
     /// To load tables once, and to answer each query of the standard input over them.
     Shell {
@@ -152,15 +156,31 @@ const STOP: Choice = Choice {
     is_required: false,
 };
 
+const HEADERS: Choice = Choice {
+    name: "headers",
+    value: None,
+    help: "Writes the names of the select columns before the rows",
+    is_required: false,
+};
+
+const TIMING: Choice = Choice {
+    name: "timing",
+    value: None,
+    help: "Tells how many milliseconds loading, answering and writing take",
+    is_required: false,
+};
+
 static RUN: Action = Action {
     name: "run",
     about: "Answers a query over tables",
-    choices: &[DATA, QUERY, NAME, CATALOG, WORKERS, MORSEL, PARTS, BATCH],
+    choices: &[
+        DATA, QUERY, NAME, CATALOG, WORKERS, MORSEL, PARTS, BATCH, HEADERS, TIMING,
+    ],
 };
 
 static SHELL: Action = Action {
     name: "shell",
-    about: "Loads tables once and answers each query of the standard input",
+    about: "Loads tables once, answers each query of the standard input, obeys commands as .help",
     choices: &[DATA, CATALOG, WORKERS, MORSEL, PARTS, BATCH, STOP],
 };
 
@@ -259,6 +279,8 @@ fn run_task<'a>(found: &ArgMatches<'a>) -> Option<Task<'a>>
     Some(Task::Run {
         tables: tables_in(found)?,
         query: query_source(found)?,
+        headers: found.get_flag("headers"),
+        timing: found.get_flag("timing"),
     })
 }
 

@@ -1,4 +1,4 @@
-use Rattle.std.proofs.Common.{None, Option, Some, arith, subst}
+use Rattle.std.proofs.Common.{Option, arith, subst}
 use Rattle.ssb_answer.specs.Session.{desk}
 use Rattle.ssb_answer.specs.SessionStep.{Turned}
 use Rattle.ssb_answer.specs.declared.session.SessionEnd.{SessionEnd}

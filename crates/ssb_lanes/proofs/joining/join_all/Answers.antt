@@ -1,4 +1,4 @@
-use Rattle.std.proofs.Common.{◌∙◌, ap, arith, get_or, length, map, subst}
+use Rattle.std.proofs.Common.{◌∙◌, ap, arith, get_or, length, subst}
 use Rattle.std.proofs.lemmas.List.{length-map}
 use Rattle.ssb_lanes.specs.Joining.{Joins}
 use Rattle.ssb_lanes.specs.declared.joining.Joining.TheVariants as now

@@ -8,7 +8,7 @@ pub returns-in-Ok-clause-divided : goal.returns-in-Ok-clause-divided
 returns-in-Ok-clause-divided g c = c.divide.ensures.divided
 
 pub returns-in-Ok-clause-alone : goal.returns-in-Ok-clause-alone
-returns-in-Ok-clause-alone g c = c.divide.ensures.alone
+returns-in-Ok-clause-alone g c = λ few. c.divide.ensures.alone (omega (arith, few, c.min.ensures))
 
 pub returns-in_default-clause-unread : goal.returns-in_default-clause-unread
 returns-in_default-clause-unread g c = rw c.undivided.ensures.alone (λ k d below. absurd (omega (arith, below)))

@@ -1,0 +1,4 @@
+mod Putting
+mod Spelt
+mod Lines
+mod Widths

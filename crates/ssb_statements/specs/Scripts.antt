@@ -1,0 +1,113 @@
+-- What a script gives, and what comes next in it. What it gives as a source is a stretch: the bytes behind its last command.
+-- Source: own.
+use Rattle.std.specs.Prelude.{◌≡◌, ◌≤◌, ◌<◌, ◌+◌, ◌^◌, ◌⊎◌, ℕ, Bool, true, ◌==◌, List, [], ◌∷◌, ◌++◌, length, take, drop, Option, Some, None, Result, Ok, Err, OnOk, if◌then◌else◌}
+use Rattle.std.specs.Result.{is_err}
+use Rattle.ssb_records.specs.Lines.{IsPartOfLine}
+use Rattle.ssb_records.specs.declared.source.Source.{Ghosts as Source}
+use Rattle.ssb_records.specs.declared.source.SourceFault.{SourceFault}
+use Rattle.ssb_tokens.specs.Tokens.{begins}
+use Rattle.ssb_statements.specs.Parting.{IsBeforeCommand}
+use Rattle.ssb_statements.specs.declared.script.Next.{Next}
+use Rattle.ssb_statements.specs.declared.script.Next.TheVariants.{Command, Statements, End}
+use Rattle.ssb_statements.specs.declared.script.Script.{Script}
+
+-- the source, as the reads left it
+abbrev pub source_in : {S P : Type 0} {source : Source S} → Script S P source → S
+source_in s = s.input.source
+
+-- whether the source met its end
+abbrev pub has_met_end : {S P : Type 0} {source : Source S} → Script S P source → Bool
+has_met_end s = s.input.ended
+
+-- the bytes that it gave behind the last command
+abbrev pub stretch : {S P : Type 0} {source : Source S} → Script S P source → List ℕ
+stretch s = s.position.all.items
+
+-- the bytes that the source gave, and that it has not given
+abbrev pub waiting : {S P : Type 0} {source : Source S} → Script S P source → List ℕ
+waiting s = drop s.at (take s.end s.piece.items)
+
+-- what is kept of the command told last
+abbrev pub line_of : {S P : Type 0} {source : Source S} → Script S P source → List ℕ
+line_of s = take 4096 s.line.all.items
+
+abbrev pub is_dot : ℕ → Bool
+is_dot b = b == 46
+
+-- these bytes begin with a command, where these were given before
+pub record IsAtCommand (given bytes : List ℕ) : Type 0 where
+  pub here : IsBeforeCommand given
+  pub dot : begins is_dot bytes ≡ true
+
+-- the next piece was read, where no byte waited; then none waits only at the end of the source
+pub record Refills {S P : Type 0} {source : Source S} (old : Script S P source) (result : Result (Unit {0}) SourceFault) (new : Script S P source) : Type 0 where
+  pub fresh : List ℕ
+  pub given : source.given (source_in new) ≡ source.given (source_in old) ++ fresh
+  pub bytes : waiting new ≡ waiting old ++ fresh
+  pub over : OnOk result (waiting new ≡ [] → has_met_end new ≡ true)
+  pub failures : source.failures (source_in new) ≡ source.failures (source_in old) + (if is_err result then 1 else 0)
+  pub same : stretch new ≡ stretch old
+  pub line : new.line ≡ old.line
+  pub ended : new.ended ≡ old.ended
+
+-- the first byte that waits was taken
+abbrev pub TakesFirst : Option ℕ → List ℕ → List ℕ → Type 0
+TakesFirst None old new = (old ≡ []) × (new ≡ [])
+TakesFirst (Some b) old new = old ≡ b ∷ new
+
+pub record TakesByte {S P : Type 0} {source : Source S} (old : Script S P source) (result : Option ℕ) (new : Script S P source) : Type 0 where
+  pub byte : TakesFirst result (waiting old) (waiting new)
+  pub input : new.input ≡ old.input
+  pub same : stretch new ≡ stretch old
+  pub line : new.line ≡ old.line
+
+-- a line was taken to its line feed, or to the end of the source
+pub record IsLine (bytes text rest : List ℕ) (over : Bool) : Type 0 where
+  pub part : IsPartOfLine text
+  pub split : (bytes ≡ text ++ 10 ∷ rest) ⊎ ((bytes ≡ text) × (rest ≡ []) × (over ≡ true))
+
+abbrev pub TakesBy : {S P : Type 0} {source : Source S} → Result (Unit {0}) SourceFault → Script S P source → List ℕ → Script S P source → Type 0
+TakesBy (Ok u) old fresh new = IsLine (waiting old ++ fresh) new.line.all.items (waiting new) (has_met_end new)
+TakesBy {source = source} (Err e) old fresh new = (source.failures (source_in old) < source.failures (source_in new)) ⊎ (2 ^ 64 ≤ length (waiting old ++ fresh) + 1)
+
+-- the line that begins here was taken
+pub record TakesLine {S P : Type 0} {source : Source S} (old : Script S P source) (result : Result (Unit {0}) SourceFault) (new : Script S P source) : Type 0 where
+  pub fresh : List ℕ
+  pub given : source.given (source_in new) ≡ source.given (source_in old) ++ fresh
+  pub taken : TakesBy result old fresh new
+  pub anew : stretch new ≡ []
+
+-- a command came next: behind it a new stretch begins
+pub record IsCommand {S P : Type 0} {source : Source S} (old : Script S P source) (fresh : List ℕ) (new : Script S P source) : Type 0 where
+  pub here : IsAtCommand (stretch old) (waiting old ++ fresh)
+  pub text : List ℕ
+  pub taken : IsLine (waiting old ++ fresh) text (waiting new) (has_met_end new)
+  pub line : line_of new ≡ take 4096 text
+  pub anew : stretch new ≡ []
+
+-- statements come next: bytes wait, and they begin with no command
+pub record AreStatements {S P : Type 0} {source : Source S} (old : Script S P source) (fresh : List ℕ) (new : Script S P source) : Type 0 where
+  pub bytes : waiting new ≡ waiting old ++ fresh
+  pub some : 0 < length (waiting new)
+  pub none : ¬ IsAtCommand (stretch new) (waiting new)
+  pub same : stretch new ≡ stretch old
+
+-- nothing comes: the source met its end
+pub record IsOver {S P : Type 0} {source : Source S} (old : Script S P source) (fresh : List ℕ) (new : Script S P source) : Type 0 where
+  pub none : waiting old ++ fresh ≡ []
+  pub rest : waiting new ≡ []
+  pub ended : has_met_end new ≡ true
+  pub same : stretch new ≡ stretch old
+
+abbrev pub ComesBy : {S P : Type 0} {source : Source S} → Result Next SourceFault → Script S P source → List ℕ → Script S P source → Type 0
+ComesBy (Ok Command) old fresh new = IsCommand old fresh new
+ComesBy (Ok Statements) old fresh new = AreStatements old fresh new
+ComesBy (Ok End) old fresh new = IsOver old fresh new
+ComesBy {source = source} (Err e) old fresh new = (source.failures (source_in old) < source.failures (source_in new)) ⊎ (2 ^ 64 ≤ length (waiting old ++ fresh) + 1)
+
+-- a call of `next`
+pub record Comes {S P : Type 0} {source : Source S} (old : Script S P source) (result : Result Next SourceFault) (new : Script S P source) : Type 0 where
+  -- the source gave these bytes
+  pub fresh : List ℕ
+  pub given : source.given (source_in new) ≡ source.given (source_in old) ++ fresh
+  pub comes : ComesBy result old fresh new

@@ -20,7 +20,7 @@ DEFINITIONS = DOCS / "DEFINITIONS.md"
 BUILT_IN = CRATES / "ssb_catalog" / "specs" / "BuiltIn.antt"
 CATALOG = ROOT / "examples" / "ssb.catalog"
 
-MOST_WORDS = 22_200
+MOST_WORDS = 24_000
 MOST_HEAD_LINES = 12
 
 # What no limit of the product stands in: what only tests, measures or shows, and the texts of the benchmark's queries.

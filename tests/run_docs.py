@@ -20,7 +20,7 @@ import tempfile
 from pathlib import Path
 
 ROOT = Path(__file__).resolve().parent.parent
-DOCUMENTS = (ROOT / "README.md", ROOT / "docs" / "SHELL.md")
+DOCUMENTS = (ROOT / "README.md", ROOT / "docs" / "FAQ.md", ROOT / "docs" / "SHELL.md")
 SMALL = ROOT / "examples" / "small"
 PROGRAM = ROOT / "crates" / "ssb_cli" / "out" / "ssb_cli"
 SECONDS = 60

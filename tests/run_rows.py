@@ -39,6 +39,7 @@ DEFAULTS = {
     "shows": "",
     "base": "small",
     "files": {},
+    "script": None,
     "query": None,
     "input": None,
     "options": [],
@@ -162,6 +163,13 @@ def lay_data(row, folder):
         (data / "query.sql").write_bytes(content_bytes(row["query"]))
     for name, content in row["files"].items():
         change_file(data / name, content)
+    if row["script"] is not None:
+        script, *words = row["script"]
+        ended = subprocess.run(
+            [sys.executable, ROOT / script, *words], cwd=folder, capture_output=True, timeout=SECONDS, check=False
+        )
+        if ended.returncode != 0:
+            raise BadRow(f"{script}: status {ended.returncode}: {ended.stderr[:200]!r}")
 
 
 def lay_out(row, folder):

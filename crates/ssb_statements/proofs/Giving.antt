@@ -1,16 +1,16 @@
 -- What a script gives of the bytes that wait.
-use Rattle.std.proofs.Common.{◌≡◌, ◌∙◌, ℕ, zero, suc, ◌+◌, ◌-◌, ◌^◌, ◌<◌, ◌≤◌, ◌==◌, Bool, true, List, [], ◌∷◌, ◌++◌, length, take, drop, get_or, Some, None, Result, Ok, Err, refl, sym, ap, subst, arith, append_assoc, length-append, inl, inr}
+use Rattle.std.proofs.Common.{◌≡◌, ◌∙◌, ℕ, zero, suc, ◌+◌, ◌-◌, ◌^◌, ◌<◌, ◌≤◌, ◌==◌, Bool, true, false, List, [], ◌∷◌, ◌++◌, length, take, drop, get_or, Some, None, Result, Ok, Err, refl, sym, ap, subst, arith, append_assoc, length-append, inl, inr, not, if◌then◌else◌}
 use Rattle.std.proofs.lemmas.List.{append-nil, drop-append-le, drop_more, length-drop, length-take, take-append-drop}
-use Rattle.std.proofs.lemmas.Bool.{false≢true, ne_eqb}
+use Rattle.std.proofs.lemmas.Bool.{eqb-false, eqb-true, false≢true, ne_eqb}
 use Rattle.std.proofs.Math.Seq.{drop-append_seam}
 use Rattle.std.proofs.lemmas.List.Folds.{list_any-append}
 use Rattle.ssb_tokens.specs.Tokens.{begins}
 use Rattle.ssb_records.specs.Lines.{IsPartOfLine}
 use Rattle.ssb_records.specs.declared.source.Source.{Ghosts as Source}
 use Rattle.ssb_records.specs.declared.source.SourceFault.{SourceFault}
-use Rattle.ssb_statements.specs.Parting.{IsBeforeCommand, IsEndOf}
+use Rattle.ssb_statements.specs.Parting.{EndsBefore, HasNoCommand, IsAtCommand, IsBeforeCommand, IsEndOf, is_dot}
 use Rattle.ssb_statements.proofs.Finding.{drop-drop}
-use Rattle.ssb_statements.specs.Scripts.{Comes, IsAtCommand, IsLine, Refills, TakesByte, TakesLine, has_met_end, is_dot, source_in, stretch, waiting}
+use Rattle.ssb_statements.specs.Scripts.{Comes, IsLine, Refills, TakesByte, TakesLine, has_met_end, source_in, stretch, waiting}
 use Rattle.ssb_statements.specs.declared.input.Input.{Input}
 use Rattle.ssb_statements.specs.declared.line.Line.{Line}
 use Rattle.ssb_statements.specs.declared.script.Next.TheVariants.{Command, Statements}
@@ -93,6 +93,43 @@ begins-more p (x ∷ xs) ys e = e
 
 part-more : (xs : List ℕ) (b : ℕ) → IsPartOfLine xs → (b ≡ 10 → ⊥) → IsPartOfLine (xs ++ b ∷ [])
 part-more xs b part n = list_any-append (λ x. x == 10) xs (b ∷ []) ∙ rw (part, ne_eqb b 10 n) refl
+
+-- ---- where a stretch ends
+
+-- a byte that was given begins no command
+gives-none : (n : ℕ) (old now bytes : List ℕ) → now ≡ old ++ take n bytes → HasNoCommand now → IsAtCommand old bytes → n ≡ 0
+gives-none zero old now bytes passed none at = refl
+gives-none (suc n) old now [] passed none at = absurd (false≢true at.dot)
+gives-none (suc n) old now (b ∷ bs) passed none at = absurd (none old (take n bs) (passed ∙ ap (λ x. old ++ x ∷ take n bs) (eqb-true b 46 at.dot)) at.here)
+
+-- behind its end a stretch gives no byte
+pub gives-no-more : (n : ℕ) (old now bytes : List ℕ) (over : Bool) → now ≡ old ++ take n bytes → HasNoCommand now → n ≤ length bytes → (n ≡ 0 → ⊥) → EndsBefore old bytes over → ⊥
+gives-no-more n old now bytes over passed none few some ends =
+    let is : bytes ≡ [] = (ends (λ at. some (gives-none n old now bytes passed none at))).0 in
+    some (omega (arith, few, ap length is))
+
+pub no-end : (ended : List (Unit {0})) (stretch bytes : List ℕ) (over : Bool) → ended ≡ [] → 0 < length ended → EndsBefore stretch bytes over
+no-end ended stretch bytes over none l = absurd (omega (arith, l, ap length none))
+
+pub ends-here : (old bytes : List ℕ) (over : Bool) → (0 < length bytes → IsAtCommand old bytes) → (bytes ≡ [] → over ≡ true) → EndsBefore old bytes over
+ends-here old [] over at met = λ not. (refl, met refl)
+ends-here old (b ∷ bs) over at met = λ not. absurd (not (at (omega arith)))
+
+-- one end more was counted, or none
+pub not-counted : (m k : ℕ) (b : Bool) → b ≡ false → m ≡ k + (if b then 1 else 0) → 0 < m → 0 < k
+not-counted m k b off is l = omega (arith, l, is ∙ ap (λ c. k + (if c then 1 else 0)) off)
+
+pub ends-counted : (m k long : ℕ) (e b : Bool) (P : Type 0) → e ≡ (long == 0) → b ≡ not e → m ≡ k + (if b then 1 else 0) → 0 < m → (0 < k → P) → (0 < long → P) → P
+ends-counted m k long true b P empty off is l was now = was (not-counted m k b off is l)
+ends-counted m k long false b P empty on is l was now =
+    let some : long ≡ 0 → ⊥ = eqb-false long 0 (sym empty) in
+    now (omega (arith, some))
+
+pub ends-same : (n a : ℕ) (old now bytes all : List ℕ) (over : Bool) → n ≡ 0 → now ≡ old ++ take n bytes → EndsBefore old (drop a all) over → EndsBefore now (drop (a + n) all) over
+ends-same n a old now bytes all over z passed ends =
+    let is : now ≡ old = passed ∙ ap (λ k. old ++ take k bytes) z ∙ append-nil old in
+    let rest : drop (a + n) all ≡ drop a all = ap (λ k. drop k all) (omega (arith, z)) in
+    subst (λ t. EndsBefore t (drop (a + n) all) over) (sym is) (subst (λ t. EndsBefore old t over) (sym rest) ends)
 
 -- ---- a line that is taken byte by byte
 

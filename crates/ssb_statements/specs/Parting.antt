@@ -2,6 +2,7 @@
 -- Source: own, as the shells of databases have it.
 use Rattle.std.specs.Prelude.{◌≡◌, ◌≤◌, ◌-◌, ℕ, Bool, true, ◌==◌, List, [], ◌∷◌, ◌++◌, drop, length}
 use Rattle.ssb_tokens.specs.Statements.{statements_of}
+use Rattle.ssb_tokens.specs.Tokens.{begins}
 
 -- whether a line begins behind these bytes
 unfoldable pub begins_line : List ℕ → Bool
@@ -17,6 +18,18 @@ IsBetween text = (more : List ℕ) → statements_of (text ++ more) ≡ statemen
 pub record IsBeforeCommand (text : List ℕ) : Type 0 where
   pub line : begins_line text ≡ true
   pub between : IsBetween text
+
+abbrev pub is_dot : ℕ → Bool
+is_dot b = b == 46
+
+-- these bytes begin with a command, where these were given before
+pub record IsAtCommand (given bytes : List ℕ) : Type 0 where
+  pub here : IsBeforeCommand given
+  pub dot : begins is_dot bytes ≡ true
+
+-- a stretch ends before these bytes: unless they begin with a command, none is left and the source met its end
+abbrev pub EndsBefore : List ℕ → List ℕ → Bool → Type 0
+EndsBefore stretch bytes over = ¬ IsAtCommand stretch bytes → (bytes ≡ []) × (over ≡ true)
 
 -- no byte of these begins a command
 abbrev pub HasNoCommand : List ℕ → Type 0

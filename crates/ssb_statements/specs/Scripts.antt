@@ -1,12 +1,11 @@
 -- What a script gives, and what comes next in it. What it gives as a source is a stretch: the bytes behind its last command.
 -- Source: own.
-use Rattle.std.specs.Prelude.{◌≡◌, ◌≤◌, ◌<◌, ◌+◌, ◌^◌, ◌⊎◌, ℕ, Bool, true, ◌==◌, List, [], ◌∷◌, ◌++◌, length, take, drop, Option, Some, None, Result, Ok, Err, OnOk, if◌then◌else◌}
+use Rattle.std.specs.Prelude.{◌≡◌, ◌≤◌, ◌<◌, ◌+◌, ◌^◌, ◌⊎◌, ℕ, Bool, true, List, [], ◌∷◌, ◌++◌, length, take, drop, Option, Some, None, Result, Ok, Err, OnOk, if◌then◌else◌}
 use Rattle.std.specs.Result.{is_err}
 use Rattle.ssb_records.specs.Lines.{IsPartOfLine}
 use Rattle.ssb_records.specs.declared.source.Source.{Ghosts as Source}
 use Rattle.ssb_records.specs.declared.source.SourceFault.{SourceFault}
-use Rattle.ssb_tokens.specs.Tokens.{begins}
-use Rattle.ssb_statements.specs.Parting.{IsBeforeCommand}
+use Rattle.ssb_statements.specs.Parting.{IsAtCommand}
 use Rattle.ssb_statements.specs.declared.script.Next.{Next}
 use Rattle.ssb_statements.specs.declared.script.Next.TheVariants.{Command, Statements, End}
 use Rattle.ssb_statements.specs.declared.script.Script.{Script}
@@ -30,14 +29,6 @@ waiting s = drop s.at (take s.end s.piece.items)
 -- what is kept of the command told last
 abbrev pub line_of : {S P : Type 0} {source : Source S} → Script S P source → List ℕ
 line_of s = take 4096 s.line.all.items
-
-abbrev pub is_dot : ℕ → Bool
-is_dot b = b == 46
-
--- these bytes begin with a command, where these were given before
-pub record IsAtCommand (given bytes : List ℕ) : Type 0 where
-  pub here : IsBeforeCommand given
-  pub dot : begins is_dot bytes ≡ true
 
 -- the next piece was read, where no byte waited; then none waits only at the end of the source
 pub record Refills {S P : Type 0} {source : Source S} (old : Script S P source) (result : Result (Unit {0}) SourceFault) (new : Script S P source) : Type 0 where

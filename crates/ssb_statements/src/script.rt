@@ -1,7 +1,7 @@
 // Statements mixed with lines that are commands.
 
 ghost use Rattle.std.specs.Prelude.{◌≡◌, ◌≤◌, ◌<◌, ◌++◌, [], drop, length, take, vec_len, ◌↔◌, None, IfOk, IsTrue};
-ghost use Rattle.ssb_statements.specs.Parting.{IsEndOf};
+ghost use Rattle.ssb_statements.specs.Parting.{EndsBefore, IsAtCommand, IsEndOf};
 
 use crate::input::Input;
 use crate::line::Line;
@@ -51,11 +51,13 @@ pub struct Script<S: Source, P: Prompts> {
     // Behind the bytes of this stretch.
     position: Position,
     line: Line,
+    // How often this stretch was told to have ended.
     ended: History<()>,
     ghost inside: { at ≤ end },
     ghost held: { end ≤ vec_len piece },
     ghost room: { 0 < vec_len piece },
     ghost kept: { IsEndOf (S.given input.source) (position.all.items ++ drop at (take end piece.items)) },
+    ghost over: { 0 < length ended.items → EndsBefore position.all.items (drop at (take end piece.items)) input.ended },
 }
 
 // Written out, so that the crates above need no proof of how its parts are let go.
@@ -83,6 +85,7 @@ fn give(bytes: &[u8], position: &mut Position, room: &mut [u8]) -> usize
     ensures length { length room.new ≡ length room.old }
     ensures given { take result room.new ≡ take result bytes.now }
     ensures passed { position.new.all.items ≡ position.old.all.items ++ take result bytes.now }
+    ensures none { result ≡ 0 → 0 < length bytes.now → 0 < length room.old → IsAtCommand position.old.all.items bytes.now }
 {
     let most = bytes.len().min(room.len());
     for at in 0..most {
@@ -104,7 +107,7 @@ fn announce<P: Prompts>(prompts: &mut P, is_over: bool, position: &Position) {
 }
 
 impl<S: Source, P: Prompts> Script<S, P> {
-    ghost use Rattle.ssb_statements.specs.Scripts.{Comes, IsAtCommand, Refills, TakesByte, TakesLine, line_of, source_in, stretch, waiting};
+    ghost use Rattle.ssb_statements.specs.Scripts.{Comes, Refills, TakesByte, TakesLine, line_of, source_in, stretch, waiting};
 
     /// What a source gives from now on.
     ///
@@ -173,6 +176,7 @@ impl<S: Source, P: Prompts> Script<S, P> {
         }
         let byte = self.piece[self.at];
         self.at += 1;
+        self.ended = History::new();
         Some(byte)
     }
 
@@ -191,6 +195,7 @@ impl<S: Source, P: Prompts> Script<S, P> {
         ensures { TakesLine self.old result self.new }
     {
         self.position.restart();
+        self.ended = History::new();
         self.line.clear();
         for _ in 0..u64::MAX {
             self.refill()?;

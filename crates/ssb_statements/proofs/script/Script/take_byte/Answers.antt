@@ -1,7 +1,7 @@
 use Rattle.std.proofs.Common.{◌+◌, ◌++◌, ◌∷◌, [], arith, drop, refl, subst, sym, take}
 use Rattle.ssb_statements.specs.Parting.{IsEndOf}
 use Rattle.ssb_statements.specs.Scripts.{waiting}
-use Rattle.ssb_statements.proofs.Giving.{end-rest, next-waits}
+use Rattle.ssb_statements.proofs.Giving.{end-rest, next-waits, no-end}
 use Rattle.ssb_statements.proofs.script.Script.take_byte.Goals as goal
 
 pub invariant_of-self : goal.invariant_of-self
@@ -14,6 +14,7 @@ invariant_of-self g c =
       inside = omega (arith, s.inside, c.if-self.false);
       held = s.held;
       room = s.room;
+      over = no-end c.new-self.result.items _ _ s.input.ended c.new-self.ensures;
       kept = subst (λ t. IsEndOf all (t ++ rest)) (sym c.requires) (end-rest all s.position.all.items (waiting s) (c.index-byte.result.now ∷ []) rest s.kept w);
     }
 

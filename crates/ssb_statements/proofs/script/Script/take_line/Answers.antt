@@ -2,7 +2,7 @@ use Rattle.std.proofs.Common.{◌++◌, [], refl, subst, sym}
 use Rattle.ssb_statements.specs.Parting.{IsEndOf}
 use Rattle.ssb_statements.specs.Scripts.{waiting}
 use Rattle.std.proofs.lemmas.Result.{err_from_is_err_and}
-use Rattle.ssb_statements.proofs.Giving.{end-rest, line-ended, line-more, line-over, line-stopped}
+use Rattle.ssb_statements.proofs.Giving.{end-rest, line-ended, line-more, line-over, line-stopped, no-end}
 use Rattle.ssb_statements.proofs.script.Script.take_line.Goals as goal
 
 pub invariant_of-self : goal.invariant_of-self
@@ -13,6 +13,7 @@ invariant_of-self g c =
       inside = s.inside;
       held = s.held;
       room = s.room;
+      over = no-end c.new-self.result.items _ _ s.input.ended c.new-self.ensures;
       kept = subst (λ t. IsEndOf all (t ++ waiting s)) (sym c.restart.ensures) (end-rest all s.position.all.items (waiting s) [] (waiting s) s.kept refl);
     }
 

@@ -40,12 +40,12 @@ class Failed(Exception):
     """A session that failed."""
 
 
-def printed(words, text, environment=None):
+def printed(words, text):
     """What a program prints that is given a text, both outputs, and its seconds."""
     start = time.perf_counter()
     ended = subprocess.run(
         words, input=text, stdout=subprocess.PIPE, stderr=subprocess.STDOUT, encoding="utf-8", timeout=SECONDS,
-        env={**os.environ, "LC_ALL": "C", **(environment or {})}, check=False,
+        env={**os.environ, "LC_ALL": "C"}, check=False,
     )
     seconds = time.perf_counter() - start
     if ended.returncode != 0:
@@ -179,14 +179,14 @@ class PostgreSQL:
             self.as_server(words), stdout=subprocess.DEVNULL, stderr=subprocess.DEVNULL, stdin=subprocess.DEVNULL
         ))
         self.stack.callback(server.terminate)
-        self.psql("", "template1", "", times=100)
+        self.psql("", "template1", times=100)
 
-    def psql(self, text, database=DATABASE, flags="", times=1):
+    def psql(self, text, database=DATABASE, times=1):
         """What psql prints of a text, and its seconds. It is tried as often as is said, until the server answers."""
         words = [self.program("psql"), "-X", "-q", "-A", "-t", "-h", str(self.folder), "-U", SERVER_USER, "-d", database]
         for left in range(times, 0, -1):
             try:
-                return printed([*words, "-v", "ON_ERROR_STOP=1", *flags.split()], text)
+                return printed([*words, "-v", "ON_ERROR_STOP=1"], text)
             except Failed:
                 if left == 1:
                     raise

@@ -6,7 +6,7 @@ Usage: check_edits.py LOG
 LOG is what `rt ci` printed. The first line of each of these edits is `# goal: FILE GOAL`, by the names of that log:
 a clause that a function ensures, as `returns-clause-stands`, or what a type keeps, as `invariant_of-self`. The
 function's name may stand before it, and has to where the log names no clause, as `is_join.returns`: that is of a
-function with one clause alone.
+function with one clause alone. Of functions that call each other the log has it, as `has_join-returns`.
 
 Prints a line for each edit that is missing, was not tried, or was refused for another reason than that goal, and
 last `N passed, M failed`, where each edit counts as one.
@@ -43,8 +43,8 @@ WRONG_BODIES = {
 }
 
 GOAL_LINE = re.compile(r"# goal: (\S+) (\S+)")
-CLAUSE = re.compile(r"(?:(\w+)\.)?(returns(?:-\S+)?|invariant_of-\S+)")
-NAMED_CLAUSE = re.compile(r"returns(-\S+)?-clause-\w+|invariant_of-\S+")
+CLAUSE = re.compile(r"(?:(\w+)\.)?((?:(\w+)-)?returns(?:-\S+)?|invariant_of-\S+)")
+NAMED_CLAUSE = re.compile(r"(\w+-)?returns(-\S+)?-clause-\w+|invariant_of-\S+")
 FUNCTION = re.compile(r"\s*(?:pub(?:\(\w+\))? )?fn (\w+)")
 
 TRIED = re.compile(r"(?:rt: )?must-fail (\w+)/(\S+)\.edit: (.*)")
@@ -77,9 +77,10 @@ def named_goal(path):
     if not file.startswith("src/"):
         raise WrongEdit(f"its goal stands in {file}, and not below src/")
     clause = CLAUSE.fullmatch(goal)
-    if clause is None or not (clause[1] or NAMED_CLAUSE.fullmatch(goal)):
+    function = clause and (clause[1] or clause[3])
+    if clause is None or not (function or NAMED_CLAUSE.fullmatch(goal)):
         raise WrongEdit(f"its goal {goal} names no clause that a function ensures")
-    return file, clause[2], clause[1]
+    return file, clause[2], function
 
 
 def told_goal(said):

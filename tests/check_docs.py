@@ -20,7 +20,8 @@ DEFINITIONS = DOCS / "DEFINITIONS.md"
 BUILT_IN = CRATES / "ssb_catalog" / "specs" / "BuiltIn.antt"
 CATALOG = ROOT / "examples" / "ssb.catalog"
 
-MOST_WORDS = 24_000
+# Of all documents but DEFINITIONS, which grows as the definitions do.
+MOST_WORDS = 21_000
 MOST_HEAD_LINES = 12
 
 # What no limit of the product stands in: what only tests, measures or shows, and the texts of the benchmark's queries.
@@ -243,9 +244,9 @@ def wrong_in_counts():
 
 def wrong_in_length():
     """Whether the documents are too long to be read."""
-    words = sum(len(text_of(path).split()) for path in documents())
+    words = sum(len(text_of(path).split()) for path in documents() if path != DEFINITIONS)
     if words >= MOST_WORDS:
-        yield f"the documents have {words} words"
+        yield f"the documents without {DEFINITIONS.name} have {words} words"
 
 
 def wrong_in_dates():

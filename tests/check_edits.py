@@ -94,14 +94,18 @@ def told_goal(said):
 
 
 def function_at(path, number):
-    """The name of the function that has a line of a file, and how many clauses it ensures."""
+    """The name of the function that has a line of a file, or an attribute there, and how many clauses it ensures."""
     lines = path.read_text(encoding="utf-8").splitlines()
-    starts = [at for at, line in enumerate(lines[:number]) if FUNCTION.match(line)]
-    if not starts:
+    starts = [at for at, line in enumerate(lines) if FUNCTION.match(line)]
+    if lines[number - 1].lstrip().startswith("#["):
+        start = next((at for at in starts if at >= number), None)
+    else:
+        start = next((at for at in reversed(starts) if at < number), None)
+    if start is None:
         return None, 0
-    body = next((at for at in range(starts[-1], len(lines)) if lines[at].strip() in ("{", "{}")), len(lines))
-    clauses = [line for line in lines[starts[-1]:body] if line.lstrip().startswith("ensures ")]
-    return FUNCTION.match(lines[starts[-1]])[1], len(clauses)
+    body = next((at for at in range(start, len(lines)) if lines[at].strip() in ("{", "{}")), len(lines))
+    clauses = [line for line in lines[start:body] if line.lstrip().startswith("ensures ")]
+    return FUNCTION.match(lines[start])[1], len(clauses)
 
 
 def check(crate, name, said):

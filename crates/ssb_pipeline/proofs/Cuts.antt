@@ -44,6 +44,16 @@ module _ (cut : ℕ → ℕ) (begins : cut 0 ≡ 0) (rises : (i : ℕ) → cut i
   apart : (i k x : ℕ) → i < k → x < cut (i + 1) → cut k ≤ x → ⊥
   apart i k x lt here there = let r = rest-of i k lt in absurd-between (cut (i + 1)) (cut k) x here (rising (i + 1) r.0 k r.1) there
 
+  -- no number lies in two pieces
+  pub only-piece : (i k x : ℕ) → LiesIn cut x i → LiesIn cut x k → i ≡ k
+  only-piece i k x a b = elim (cases_lt i k) [
+    | inl less ↦ absurd (apart i k x less a.1 b.0)
+    | inr more ↦ elim (cases_lt k i) [ inl less ↦ absurd (apart k i x less b.1 a.0) | inr most ↦ same i k more most ]
+  ]
+    where
+      same : (a b : ℕ) → b ≤ a → a ≤ b → a ≡ b
+      same a b h l = omega (arith, h, l)
+
   -- each number before the last cut point lies in one piece
   pub one-piece : (k x : ℕ) → x < cut k → IsOneOf k (LiesIn cut x)
   one-piece zero x lt = absurd (none x (subst (λ m. x < m) begins lt))

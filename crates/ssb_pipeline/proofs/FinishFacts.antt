@@ -1,7 +1,7 @@
 -- Groups over sections, one after the other.
-use Rattle.std.proofs.Common.{◌≡◌, ◌≢◌, ◌∙◌, ◌++◌, ◌≤◌, ◌<◌, ◌+◌, ◌-◌, ◌^◌, inl, inr, true, ℕ, List, length, map, refl, sym, ap, subst, arith, length-append}
+use Rattle.std.proofs.Common.{◌≡◌, ◌≢◌, ◌∙◌, ◌++◌, ◌≤◌, ◌<◌, ◌+◌, ◌-◌, ◌^◌, inl, inr, true, false, ℕ, List, length, map, refl, sym, ap, subst, arith, length-append}
 use Rattle.std.specs.List.{range_with_len}
-use Rattle.std.proofs.lemmas.Bool.{cases_lt}
+use Rattle.std.proofs.lemmas.Bool.{cases_lt, false_from_ne_true}
 use Rattle.std.proofs.lemmas.List.{get_or-set_other}
 use Rattle.std.proofs.lemmas.List.FromFn.{length-range_with_len}
 use Rattle.std.proofs.lemmas.List.Sorted.{IsPermutation-map, IsPermutation-sym, length_permutation}
@@ -10,7 +10,7 @@ use Rattle.ssb_job.proofs.Whole as all_kept
 use Rattle.ssb_groups.specs.Seen.{seen}
 use Rattle.ssb_groups.specs.Stands.{GroupMap, Stands}
 use Rattle.ssb_groups.proofs.Permuted.{any_order}
-use Rattle.ssb_pipeline.specs.Finish.{IsMerged, section_of}
+use Rattle.ssb_pipeline.specs.Finish.{HasTaken, HasTakenAll, IsMerged, section_of}
 use Rattle.ssb_pipeline.specs.Joined.{morsel_rows, seen_in}
 use Rattle.ssb_pipeline.specs.Morsels.{morsel_count, morsel_cut, row_cut, section}
 use Rattle.ssb_pipeline.specs.Part.{Grows, IsLawfulPart, IsWhole, PartState, ours}
@@ -98,31 +98,39 @@ all-sections n k pos = ap (range_with_len 0) (morsel-end n k pos)
 other-known : (s t : ℕ) (p q : PassState) → OnlyIn t p q → s ≢ t → known q s ≡ known p s
 other-known s t p q only apart = ap (λ (x : PassState). known x s) only ∙ get_or-set_other p.views t s (known q t) fresh apart
 
--- after so many sections: the groups are over those, the pass knows of the others what it knew, and no ticket of those was given up
+-- after so many sections: the groups are over those, the pass took the parts of those and knows of the others what it knew, and no ticket of those was given up; after the first
+-- they are the groups of its part, where all of it came back
 pub record IsFinished (parts : PartsState) (old now : PassState) (s : ℕ) (g : GroupMap) : Type 0 where
   pub pass : IsPassOfParts parts now
   pub over : AreOver parts.job parts.size (first-sections (morsel_count (fact_rows parts.job) parts.size) (length parts.queues) s) g
   pub later : (t : ℕ) → s ≤ t → known now t ≡ known old t
   pub clear : (t : ℕ) → t < s → (known old t).seen.gave_up ≡ true → ⊥
+  pub taken : (t : ℕ) → t < s → HasTaken parts t (known old t) (known now t)
+  pub kept : (t : ℕ) → t < s → (known now t).seen.gave_up ≡ false
+  pub same : s ≡ 1 → IsWhole (known now 0).seen → g ≡ (known now 0).seen.groups
 
 module _ (parts : PartsState) (some : 0 < length parts.queues) where
   abbrev many : ℕ
   many = morsel_count (fact_rows parts.job) parts.size
 
-  pub begun : (p q : PassState) (g : GroupMap) → OnlyIn 0 p q → IsPassOfParts parts q → AreOver parts.job parts.size (section_of parts 0) g → ((known p 0).seen.gave_up ≡ true → ⊥) → IsFinished parts p q 1 g
-  begun p q g only pass over clear = record {
+  pub begun : (p q : PassState) (g : GroupMap) → OnlyIn 0 p q → IsPassOfParts parts q → AreOver parts.job parts.size (section_of parts 0) g → ((known p 0).seen.gave_up ≡ true → ⊥) → HasTaken parts 0 (known p 0) (known q 0) → ((known q 0).seen.gave_up ≡ true → ⊥)
+      → (IsWhole (known q 0).seen → g ≡ (known q 0).seen.groups) → IsFinished parts p q 1 g
+  begun p q g only pass over clear took kept same = record {
     pass = pass;
     over = subst (λ is. AreOver parts.job parts.size is g) (first-section many (length parts.queues) some) over;
     later = λ t h. other-known t 0 p q only (λ e. omega (arith, h, e));
     clear = λ t h gave. let e : t ≡ 0 = omega (arith, h) in clear (subst (λ n. (known p n).seen.gave_up ≡ true) e gave);
+    taken = λ t h. let e : 0 ≡ t = omega (arith, h) in subst (λ n. HasTaken parts n (known p n) (known q n)) e took;
+    kept = λ t h. let e : 0 ≡ t = omega (arith, h) in subst (λ n. (known q n).seen.gave_up ≡ false) e (false_from_ne_true (known q 0).seen.gave_up kept);
+    same = λ _. same;
   }
 
   module _ (old p q : PassState) (s : ℕ) (g h : GroupMap) (done : IsFinished parts old p s g) (over : AreOver parts.job parts.size (section_of parts s) h) where
     pub fit : fact_rows parts.job < 2 ^ 32 → g.counted + h.counted < 2 ^ 32
     fit bound = fits parts.job parts.size _ _ (morsel-rises many (length parts.queues) s some) g h done.over over bound
 
-    pub one-more : (r : GroupMap) → IsMerged g h r → OnlyIn s p q → IsPassOfParts parts q → ((known p s).seen.gave_up ≡ true → ⊥) → IsFinished parts old q (s + 1) r
-    one-more r m only pass clear = record {
+    pub one-more : (r : GroupMap) → IsMerged g h r → 1 ≤ s → OnlyIn s p q → IsPassOfParts parts q → ((known p s).seen.gave_up ≡ true → ⊥) → HasTaken parts s (known p s) (known q s) → ((known q s).seen.gave_up ≡ true → ⊥) → IsFinished parts old q (s + 1) r
+    one-more r m first only pass clear took kept = record {
       pass = pass;
       over = merged parts.job parts.size _ _ (morsel-rises many (length parts.queues) s some) g h r done.over over m;
       later = λ t b. other-known t s p q only (λ e. omega (arith, b, e)) ∙ done.later t (omega (arith, b));
@@ -130,7 +138,24 @@ module _ (parts : PartsState) (some : 0 < length parts.queues) where
         | inl before ↦ done.clear t before gave
         | inr behind ↦ let e : t ≡ s = omega (arith, b, behind) in clear (ap (λ (v : Knows). v.seen.gave_up) (done.later s (omega arith)) ∙ subst (λ n. (known old n).seen.gave_up ≡ true) e gave)
       ];
+      taken = λ t b. elim (cases_lt t s) [
+        | inl before ↦ subst (HasTaken parts t (known old t)) (sym (other-known t s p q only (λ e. omega (arith, before, e)))) (done.taken t before)
+        | inr behind ↦ let e : s ≡ t = omega (arith, b, behind) in subst (λ n. HasTaken parts n (known old n) (known q n)) e (subst (λ v. HasTaken parts s v (known q s)) (done.later s (omega arith)) took)
+      ];
+      kept = λ t b. elim (cases_lt t s) [
+        | inl before ↦ ap (λ (v : Knows). v.seen.gave_up) (other-known t s p q only (λ e. omega (arith, before, e))) ∙ done.kept t before
+        | inr behind ↦ let e : s ≡ t = omega (arith, b, behind) in subst (λ n. (known q n).seen.gave_up ≡ false) e (false_from_ne_true (known q s).seen.gave_up kept)
+      ];
+      same = λ e. absurd (omega (arith, first, e));
     }
+
+  -- what the pass took of the first section stays so while a later one is finished
+  pub first-taken : (old p q : PassState) (s : ℕ) (g : GroupMap) → IsFinished parts old p s g → 1 ≤ s → OnlyIn s p q → HasTaken parts 0 (known old 0) (known q 0)
+  first-taken old p q s g done first only = subst (HasTaken parts 0 (known old 0)) (sym (other-known 0 s p q only (λ e. omega (arith, first, e)))) (done.taken 0 (omega (arith, first)))
+
+  -- after all sections the pass has taken all parts
+  pub all-taken : (p q : PassState) (s : ℕ) (g : GroupMap) → IsFinished parts p q s g → s ≡ length parts.queues → HasTakenAll parts p q
+  all-taken p q s g done e = record { taken = λ t h. done.taken t (omega (arith, h, e)); kept = λ t h. done.kept t (omega (arith, h, e)) }
 
   pub ended : (p q : PassState) (s : ℕ) (g : GroupMap) → IsFinished parts p q s g → s ≡ length parts.queues → AreOver parts.job parts.size (range_with_len 0 many) g
   ended p q s g done e = subst (λ is. AreOver parts.job parts.size is g) (ap (first-sections many (length parts.queues)) e ∙ all-sections many (length parts.queues) some) done.over

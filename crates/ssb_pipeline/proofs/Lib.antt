@@ -9,6 +9,7 @@ pub mod Cuts
 pub mod Due
 pub mod EveryRun
 pub mod FinishFacts
+pub mod FreeFacts
 pub mod GivenFacts
 pub mod Holds
 pub mod JoinedFacts

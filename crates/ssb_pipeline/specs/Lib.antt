@@ -11,6 +11,7 @@ pub mod Lending
 pub mod Work
 pub mod Batch
 pub mod Finish
+pub mod Free
 pub mod Replay
 pub use Rattle.ssb_groups.specs.Seen
 pub use Rattle.ssb_groups.specs.Stands

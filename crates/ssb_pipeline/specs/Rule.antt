@@ -1,4 +1,5 @@
--- The rule of the queue of one part: what holds of it before and after each step of the passes that use it, whatever others do.
+-- The rule of the queue of one part: what holds of it before and after each step of the passes that use it, whatever others do. `Law`, of src/line.rt, gives
+-- it to the queue; the law `free_parts` says what it comes to while the part lies there.
 -- Source: own.
 use Rattle.std.specs.Prelude.{◌≡◌, ℕ, Bool, true, false, List, [], ◌∷◌, ◌++◌, ◌⊎◌, None}
 use mathlib.Core.Option.{some}

@@ -1,11 +1,11 @@
 // What is left of all parts is done, and their groups are merged.
 
-ghost use Rattle.std.specs.Prelude.{◌≡◌, ◌<◌, ◌+◌, ◌^◌, ℕ, true, length, map, IfOk, IsErr};
+ghost use Rattle.std.specs.Prelude.{◌≡◌, ◌<◌, ◌+◌, ◌^◌, ℕ, true, false, length, map, IfOk, IsErr, IsOk};
 ghost use Rattle.ssb_job.specs.Kept.{AreOneJob, kept};
 ghost use Rattle.ssb_groups.specs.Seen.{seen};
 ghost use Rattle.ssb_groups.specs.Stands.{Stands};
-ghost use Rattle.ssb_pipeline.specs.Finish.{IsMerged, section_of};
-ghost use Rattle.ssb_pipeline.specs.Part.{IsLawfulPart, ours};
+ghost use Rattle.ssb_pipeline.specs.Finish.{HasTaken, HasTakenAll, IsMerged, section_of};
+ghost use Rattle.ssb_pipeline.specs.Part.{IsLawfulPart, IsWhole, ours};
 ghost use Rattle.ssb_pipeline.specs.Pass.{HoldsNone, IsPassOfParts, known};
 ghost use Rattle.ssb_pipeline.specs.State.{AreOver};
 ghost use Rattle.ssb_pipeline.specs.Work.{OnlyIn};
@@ -22,6 +22,8 @@ fn swept(part: Part) -> Result<Groups, AllocError>
     requires { IsLawfulPart part }
     ensures over { IfOk result (AreOver part.job part.size (ours part)) }
     ensures refused { part.gave_up ≡ true → IsErr result }
+    ensures at_once { IsWhole part → part.gave_up ≡ false → IsOk result }
+    ensures same { IsWhole part → IfOk result (λ g. g ≡ part.groups) }
 {
     let mut part = part;
     if part.gave_up() {
@@ -50,6 +52,10 @@ fn finish_section<R: Wait>(
     ensures pass { IsPassOfParts parts.now pass.new }
     ensures over { IfOk result (AreOver parts.now.job parts.now.size (section_of parts.now section)) }
     ensures refused { (known pass.old section).seen.gave_up ≡ true → IsErr result }
+    ensures taken { HasTaken parts.now section (known pass.old section) (known pass.new section) }
+    ensures recorded { (known pass.new section).seen.gave_up ≡ true → IsErr result }
+    ensures at_once { IsWhole (known pass.new section).seen → (known pass.new section).seen.gave_up ≡ false → IsOk result }
+    ensures same { IsWhole (known pass.new section).seen → IfOk result (λ g. g ≡ (known pass.new section).seen.groups) }
 {
     let Held { part, .. } = parts.take_from(rt, section, pass);
     swept(part)
@@ -80,6 +86,10 @@ fn finish_all<R: Wait>(rt: &R, parts: &Parts, pass: &mut PartsPass) -> Result<Gr
     ensures stands { IfOk result (λ g. Stands g (map (seen parts.now.job) (kept parts.now.job))) }
     ensures job { IfOk result (λ g. AreOneJob g.job parts.now.job) }
     ensures refused { (s : ℕ) → s < length parts.now.queues → (known pass.old s).seen.gave_up ≡ true → IsErr result }
+    ensures taken { HasTaken parts.now 0 (known pass.old 0) (known pass.new 0) }
+    ensures recorded { IfOk result (λ _. HasTakenAll parts.now pass.old pass.new) }
+    ensures at_once { length parts.now.queues ≡ 1 → IsWhole (known pass.new 0).seen → (known pass.new 0).seen.gave_up ≡ false → IsOk result }
+    ensures same { length parts.now.queues ≡ 1 → IsWhole (known pass.new 0).seen → IfOk result (λ g. g ≡ (known pass.new 0).seen.groups) }
 {
     parts.fact_table();
     let mut groups = finish_section(rt, parts, 0, pass)?;
@@ -95,13 +105,16 @@ fn finish_all<R: Wait>(rt: &R, parts: &Parts, pass: &mut PartsPass) -> Result<Gr
     Ok(groups)
 }
 
-/// The groups over all that the parts' job keeps. It takes every part, and does what did not come back
-/// in the caller's thread; it may wait for passes that hold a part. With one part of which all came
-/// back it takes no memory.
+/// The groups over all that the parts' job keeps. It takes the part of the first section, then that of
+/// the next, and does what did not come back in the caller's thread; it may wait for passes that hold a
+/// part. What the pass has seen of a section afterwards is the part that was taken. With one part, of
+/// which all came back and no ticket was given up, the result is that part's groups: it is never an
+/// error, and no memory is taken.
 ///
 /// # Errors
 ///
-/// Where a ticket was given up, or a growth was refused.
+/// Where a ticket was given up, as the pass had seen or as a part that it took says; or where a growth
+/// was refused.
 pub fn finish<R: Wait>(rt: &R, parts: Parts, pass: &mut PartsPass) -> Result<Groups, AllocError>
     requires some { 0 < length parts.queues }
     requires size { 0 < parts.size }
@@ -110,6 +123,10 @@ pub fn finish<R: Wait>(rt: &R, parts: Parts, pass: &mut PartsPass) -> Result<Gro
     ensures stands { IfOk result (λ g. Stands g (map (seen parts.job) (kept parts.job))) }
     ensures job { IfOk result (λ g. AreOneJob g.job parts.job) }
     ensures refused { (s : ℕ) → s < length parts.queues → (known pass.old s).seen.gave_up ≡ true → IsErr result }
+    ensures taken { HasTaken parts 0 (known pass.old 0) (known pass.new 0) }
+    ensures recorded { IfOk result (λ _. HasTakenAll parts pass.old pass.new) }
+    ensures at_once { length parts.queues ≡ 1 → IsWhole (known pass.new 0).seen → (known pass.new 0).seen.gave_up ≡ false → IsOk result }
+    ensures same { length parts.queues ≡ 1 → IsWhole (known pass.new 0).seen → IfOk result (λ g. g ≡ (known pass.new 0).seen.groups) }
 {
     let finished = finish_all(rt, &parts, pass);
     drop(parts);

@@ -1,6 +1,7 @@
 // Laws of how the work is cut, and of what parts come to.
 
 ghost use Rattle.std.specs.Prelude.{ℕ};
+ghost use Rattle.ssb_pipeline.specs.Free.{FreeParts, MorselsShareNoRow, SectionsShareNoRow};
 ghost use Rattle.ssb_pipeline.specs.Part.{EveryRunIsLawful, EveryRunStands, OneSectionIsAll, RunsLoseNothing, RunsStayLawful, WholeSectionsStand};
 ghost use Rattle.ssb_pipeline.specs.Morsels.{MorselsAreFewest, MorselsAreTheRows, MorselsLieInOneSection, RowsLieInOneMorsel, SectionsAreTheMorsels};
 
@@ -25,6 +26,18 @@ pub fn core_runs()
     ensures lawful { RunsStayLawful }
     ensures kept { RunsLoseNothing }
     ensures whole { WholeSectionsStand }
+{}
+
+/// A law: wherever the rule of a part's queue holds, each part that lies there is lawful and was reached
+/// from an opening one by a core run; its handed-out morsels are of its section, each once, the returned
+/// ones are among them, each once, and its groups stand for exactly the kept combinations of the returned
+/// morsels. All that is due to a pass is out, and due to no other pass. And different morsels, and those
+/// of different sections, share no row. The queue keeps that rule from its first step on, so this holds
+/// of a part whenever no pass holds it.
+pub fn free_parts()
+    ensures free { FreeParts }
+    ensures morsels { MorselsShareNoRow }
+    ensures sections { SectionsShareNoRow }
 {}
 
 /// A law: a part that [`Part::open`](crate::Part::open) gave, after whatever list of events, is lawful;

@@ -6,8 +6,8 @@
 //! - Callers: `ssb_answer`; embedders with threads of their own.
 //! - Files: `part`, which tells the way of a morsel, `ticket`, `batch`, `partial`, `grouping`, `fault`,
 //!   `calls`: one section; `line`, `parts`, `hold`, `worker`, `gate`, `finishing`: all of them; `law`.
-//! - Definitions: `Morsels`, `Joined`, `Tickets`, `State`, `Part`, `Replay`: one section; `Rule`, `Pass`,
-//!   `Lending`, `Work`, `Batch`, `Finish`: all of them; `Marks`, `Probed`: for the contracts inside.
+//! - Definitions: `Morsels`, `Joined`, `Tickets`, `State`, `Part`, `Replay`: one section; `Rule`, `Free`,
+//!   `Pass`, `Lending`, `Work`, `Batch`, `Finish`: all of them; `Marks`, `Probed`: for the contracts inside.
 #![tactic(auto)]
 
 mod batch;
@@ -30,7 +30,7 @@ pub use calls::{Call, Reply, replay};
 pub use fault::ReturnFault;
 pub use finishing::finish;
 pub use gate::{Gate, NoGate};
-pub use law::{core_runs, every_run, morsels_in_sections, rows_in_morsels};
+pub use law::{core_runs, every_run, free_parts, morsels_in_sections, rows_in_morsels};
 pub use part::Part;
 pub use partial::Partial;
 pub use parts::{Held, Parts, PartsPass};

@@ -7,7 +7,7 @@
 // until no ticket comes; `Part::sweep` does what is left of a section, also what was handed out and did
 // not come back.
 
-ghost use Rattle.std.specs.Prelude.{◌≡◌, ◌<◌, ◌≤◌, ◌-◌, ◌&&◌, ℕ, true, false, not, IfOk, OnErr, OnOk, length};
+ghost use Rattle.std.specs.Prelude.{◌≡◌, ◌<◌, ◌≤◌, ◌-◌, ◌&&◌, ℕ, true, false, not, IfOk, IsOk, OnErr, OnOk, length};
 ghost use Rattle.std.specs.List.{All, list_all, list_any, range_with_len};
 ghost use Rattle.std.specs.Arc.{arc_value};
 ghost use Rattle.ssb_pipeline.specs.Joined.{morsel_rows};
@@ -323,7 +323,7 @@ impl Part {
     }
 
     /// Does all of the section that did not come back, in the caller's thread, also where a ticket was
-    /// given up.
+    /// given up. Where all of it came back before, the groups stay as they are, and it takes no memory.
     ///
     /// # Errors
     ///
@@ -334,6 +334,8 @@ impl Part {
         ensures grows { Grows self.old self.new }
         ensures whole { OnOk result (IsWhole self.new) }
         ensures lawful { IsLawfulPart self.new }
+        ensures at_once { IsWhole self.old → IsOk result }
+        ensures same { IsWhole self.old → self.new.groups ≡ self.old.groups }
     {
         self.lawful();
         self.hand_out_all();

@@ -1,8 +1,8 @@
-use Rattle.std.proofs.Common.{◌≡◌, ◌+◌, ◌∙◌, true, sym, ap, subst}
+use Rattle.std.proofs.Common.{◌≡◌, ◌+◌, ◌∙◌, true, true≢false, sym, ap, subst}
 use Rattle.ssb_pipeline.specs.Part.{PartState, Ran, Returns, has}
 use Rattle.ssb_pipeline.specs.Tickets.{TicketState}
 use Rattle.ssb_pipeline.proofs.BatchFacts.{one-handed}
-use Rattle.ssb_pipeline.proofs.SweepFacts.{IsSwept, all-done, begins, goes-on, next-handed, passes}
+use Rattle.ssb_pipeline.proofs.SweepFacts.{IsSwept, all-done, begins, goes-on, next-handed, passes, was-back}
 use Rattle.ssb_pipeline.proofs.part.Part.sweep.Goals as goal
 use Rattle.ssb_pipeline.proofs.part.Part.sweep.Goals.{then-not-is_back+in_ok-bring_back, else-not-is_back}
 
@@ -24,7 +24,7 @@ loop-morsel-preserved c =
     elim c.if-not-is_back.branch [
       | then-not-is_back+in_ok-bring_back w ↦
           subst (λ (q : PartState). IsSwept c.args.self.now q first end (l.morsel + 1)) (sym w.self-is)
-          (goes-on c.args.self.now l.self w.bring_back.new.self first end l.morsel l.invariant
+          (goes-on c.args.self.now l.self w.bring_back.new.self first end l.morsel l.invariant l.auto.morsel c.loop-morsel-test.true
           (subst (λ (t : TicketState). Returns t.morsel l.self w.bring_back.new.self) w.ticket_for-ticket.ensures w.in_ok-bring_back.ensures.back) w.lawful-then-not-is_back.ensures)
       | else-not-is_back w ↦
           subst (λ (q : PartState). IsSwept c.args.self.now q first end (l.morsel + 1)) (sym w.self-is)
@@ -44,3 +44,14 @@ returns-clause-ran c = c.loop-morsel.invariant.ran
 
 pub returns-in_err-bring_back-clause-ran : goal.returns-in_err-bring_back-clause-ran
 returns-in_err-bring_back-clause-ran c = subst (Ran c.args.self.now) (sym c.in_err-bring_back.ensures.err) c.loop-morsel.invariant.ran
+
+pub returns-in_err-bring_back-clause-at_once : goal.returns-in_err-bring_back-clause-at_once
+returns-in_err-bring_back-clause-at_once c = λ whole.
+    let l = c.loop-morsel in
+    absurd (true≢false (sym (was-back c.args.self.now l.self c.bounds-first.result.0 c.bounds-first.result.1 l.morsel l.invariant whole l.auto.morsel c.loop-morsel-test.true) ∙ (sym c.is_back.ensures ∙ c.if-not-is_back.true)))
+
+pub returns-in_err-bring_back-clause-same : goal.returns-in_err-bring_back-clause-same
+returns-in_err-bring_back-clause-same c = λ whole. ap (λ (x : PartState). x.groups) c.in_err-bring_back.ensures.err ∙ c.loop-morsel.invariant.same whole
+
+pub returns-clause-same : goal.returns-clause-same
+returns-clause-same c = c.loop-morsel.invariant.same

@@ -4,7 +4,8 @@
 Usage: check_edits.py LOG
 
 LOG is what `rt ci` printed. The first line of each of these edits is `# goal: FILE GOAL`, by the names of that log:
-a clause that a function ensures, as `returns-clause-stands`, or what a type keeps, as `invariant_of-self`. The
+a clause that a function ensures, as `returns-clause-stands`, what a type keeps, as `invariant_of-self`, or the rule
+of a queue, as `another-requires-clause-rule`. FILE is the code, or the answer to that goal among the proofs. The
 function's name may stand before it, and has to where the log names no clause, as `is_join.returns`: that is of a
 function with one clause alone. Of functions that call each other the log has it, as `has_join-returns`.
 
@@ -25,13 +26,14 @@ WRONG_BODIES = {
     "ssb_sql": ("chained_comparison_accepted", "tail_after_semicolon_accepted"),
     "ssb_query": ("nested_conjunct_does_not_join", "not_star_for_reversed_key"),
     "ssb_load": ("later_key_kept",),
+    "ssb_lanes": ("joined_read_always_fails", "lane_always_told_as_a_failed_read"),
     "ssb_job": ("dangling_key_joined", "null_key_joins"),
     "ssb_groups": (
         "equal_lines_counted_once", "first_met_overflow", "first_met_overflow_by_merge", "null_before_over",
         "null_group_dropped", "running_sum_refused", "sum_over_a_null_is_zero", "sum_over_no_row_is_zero",
     ),
     "ssb_pipeline": (
-        "finish_computes_anew", "give_back_always_strange", "good_partial_dropped", "hand_out_always_none",
+        "finish_computes_anew", "finish_takes_and_computes_anew", "give_back_always_strange", "good_partial_dropped", "hand_out_always_none",
         "last_morsel_skipped", "marked_unmerged", "morsels_overlap", "partial_of_no_row", "partial_of_other_morsel",
         "put_drops_due", "put_stores_an_opening_part", "returned_twice", "run_workers_does_nothing",
         "section_left_out", "take_gives_foreign_part", "take_gives_opening_part", "ticket_dropped",
@@ -43,12 +45,17 @@ WRONG_BODIES = {
 }
 
 GOAL_LINE = re.compile(r"# goal: (\S+) (\S+)")
-CLAUSE = re.compile(r"(?:(\w+)\.)?((?:(\w+)-)?returns(?:-\S+)?|invariant_of-\S+)")
-NAMED_CLAUSE = re.compile(r"(\w+-)?returns(-\S+)?-clause-\w+|invariant_of-\S+")
+RULE = r"(?:another|pop_as|push_as)-requires-clause-rule"
+CLAUSE = re.compile(rf"(?:(\w+)\.)?((?:(\w+)-)?returns(?:-\S+)?|invariant_of-\S+|{RULE})")
+NAMED_CLAUSE = re.compile(rf"(\w+-)?returns(-\S+)?-clause-\w+|invariant_of-\S+|{RULE}")
+ANSWERS = re.compile(r"proofs/(?:\w+/)*(\w+)/Answers\.antt")
 FUNCTION = re.compile(r"\s*(?:pub(?:\(\w+\))? )?fn (\w+)")
 
 TRIED = re.compile(r"(?:rt: )?must-fail (\w+)/(\S+)\.edit: (.*)")
-REFUSED = re.compile(r"refused, as it must be: (?:note: )?(?:\./)?(\S+?):(\d+):\d+: .*?\(`([^`]+)`\)")
+REFUSED = re.compile(
+    r"refused, as it must be: (?:note: )?(?:\./)?(\S+?):(\d+):\d+: "
+    r"(?:error: `([^`]+)`:|error: \d+ declarations? that depends? on `([^`]+)`, which was rejected|.*?\(`([^`]+)`\))"
+)
 
 
 class WrongEdit(Exception):
@@ -74,8 +81,8 @@ def named_goal(path):
     if line is None:
         raise WrongEdit("its first line is not `# goal: FILE GOAL`")
     file, goal = line.groups()
-    if not file.startswith("src/"):
-        raise WrongEdit(f"its goal stands in {file}, and not below src/")
+    if not file.startswith("src/") and not ANSWERS.fullmatch(file):
+        raise WrongEdit(f"its goal stands in {file}, which is neither code nor an answer")
     clause = CLAUSE.fullmatch(goal)
     function = clause and (clause[1] or clause[3])
     if clause is None or not (function or NAMED_CLAUSE.fullmatch(goal)):
@@ -90,7 +97,13 @@ def told_goal(said):
     refused = REFUSED.match(said)
     if refused is None:
         raise WrongEdit(f"no goal is told: {said}")
-    return refused[1], refused[3], int(refused[2])
+    return refused[1], refused[3] or refused[4] or refused[5], int(refused[2])
+
+
+def clauses_of(lines, start):
+    """How many clauses the function that begins at this line ensures."""
+    body = next((at for at in range(start, len(lines)) if lines[at].strip() in ("{", "{}")), len(lines))
+    return len([line for line in lines[start:body] if line.lstrip().startswith("ensures ")])
 
 
 def function_at(path, number):
@@ -103,9 +116,17 @@ def function_at(path, number):
         start = next((at for at in reversed(starts) if at < number), None)
     if start is None:
         return None, 0
-    body = next((at for at in range(start, len(lines)) if lines[at].strip() in ("{", "{}")), len(lines))
-    clauses = [line for line in lines[start:body] if line.lstrip().startswith("ensures ")]
-    return FUNCTION.match(lines[start])[1], len(clauses)
+    return FUNCTION.match(lines[start])[1], clauses_of(lines, start)
+
+
+def function_answered(crate, file):
+    """The name of the function that an answer is for, and how many clauses it ensures: the most of those of this name."""
+    name = ANSWERS.fullmatch(file)[1]
+    counts = [0]
+    for path in (CRATES / crate / "src").glob("**/*.rt"):
+        lines = path.read_text(encoding="utf-8").splitlines()
+        counts += [clauses_of(lines, at) for at, line in enumerate(lines) if (found := FUNCTION.match(line)) and found[1] == name]
+    return name, max(counts)
 
 
 def check(crate, name, said):
@@ -116,7 +137,10 @@ def check(crate, name, said):
         raise WrongEdit(f"it is to be refused at {file} {goal}, and was at {told_file} {told}")
     if function is None:
         return
-    found, clauses = function_at(CRATES / crate / file, number)
+    if file.startswith("src/"):
+        found, clauses = function_at(CRATES / crate / file, number)
+    else:
+        found, clauses = function_answered(crate, file)
     if found != function:
         raise WrongEdit(f"it is to be refused in {function}, and was in {found}")
     if clauses != 1 and NAMED_CLAUSE.fullmatch(goal) is None:

@@ -10,10 +10,10 @@ use Rattle.ssb_records.specs.declared.source.Source.{Ghosts as Source}
 use Rattle.ssb_records.specs.declared.source.SourceFault.{SourceFault}
 use Rattle.ssb_statements.specs.Parting.{EndsBefore, HasNoCommand, IsAtCommand, IsBeforeCommand, IsEndOf, is_dot}
 use Rattle.ssb_statements.proofs.Finding.{drop-drop}
-use Rattle.ssb_statements.specs.Scripts.{Comes, IsLine, Refills, TakesByte, TakesLine, has_met_end, source_in, stretch, waiting}
+use Rattle.ssb_statements.specs.Scripts.{Comes, IsLine, IsQuiet, Refills, TakesByte, TakesLine, has_met_end, source_in, stretch, waiting}
 use Rattle.ssb_statements.specs.declared.input.Input.{Input}
 use Rattle.ssb_statements.specs.declared.line.Line.{Line}
-use Rattle.ssb_statements.specs.declared.script.Next.TheVariants.{Command, Statements}
+use Rattle.ssb_statements.specs.declared.script.Next.TheVariants.{Command, End, Statements}
 use Rattle.ssb_statements.specs.declared.script.Script.{Script}
 
 -- so many bytes were given
@@ -143,6 +143,14 @@ module _ {S P : Type 0} {source : Source S} where
     pub part : IsPartOfLine now.line.all.items
     pub anew : stretch now ≡ []
     pub failures : source.failures (source_in now) ≡ source.failures (source_in old)
+    pub quiet : IsQuiet old now
+
+  -- no read follows the end, over two steps
+  pub quiet-on : (old mid new : Script S P source) → IsQuiet old mid → IsQuiet mid new → IsQuiet old new
+  quiet-on old mid new a b h = let m = a h in let n = b m.1 in (n.0 ∙ m.0, n.1)
+
+  quiet-same : (old new : Script S P source) → new.input ≡ old.input → IsQuiet old new
+  quiet-same old new same h = (ap (λ (i : Input S source). i.source) same, ap (λ (i : Input S source). i.ended) same ∙ h)
 
   pub line-begins : (old now : Script S P source) → now.input ≡ old.input → waiting now ≡ waiting old → stretch now ≡ [] → now.line.all.items ≡ [] → LineAt 0 old now
   line-begins old now input bytes anew none = record {
@@ -153,6 +161,7 @@ module _ {S P : Type 0} {source : Source S} where
     part = subst IsPartOfLine (sym none) refl;
     anew = anew;
     failures = ap (λ (i : Input S source). source.failures i.source) input;
+    quiet = quiet-same old now input;
   }
 
   read-given : (old now mid : Script S P source) (n : ℕ) (result : Result (Unit {0}) SourceFault) (l : LineAt n old now) (r : Refills now result mid) → source.given (source_in mid) ≡ source.given (source_in old) ++ (l.fresh ++ r.fresh)
@@ -167,16 +176,24 @@ module _ {S P : Type 0} {source : Source S} where
   line-stopped old now mid n e l r = record {
     fresh = l.fresh ++ r.fresh;
     given = read-given old now mid n (Err e) l r;
-    taken = inl (omega (arith, r.failures, l.failures));
+    taken = record {
+      failed = inl (omega (arith, r.failures, l.failures));
+      part = subst (λ (i : Line). IsPartOfLine i.all.items) (sym r.line) l.part;
+      kept = sym (read-same old now mid n (Err e) l r);
+    };
     anew = r.same ∙ l.anew;
+    clean = tt;
+    quiet = quiet-on old now mid l.quiet r.quiet;
   }
 
   pub line-long : (old now : Script S P source) (n : ℕ) (e : SourceFault) → 2 ^ 64 ≤ n + 1 → LineAt n old now → TakesLine old (Err e) now
   line-long old now n e long l = record {
     fresh = l.fresh;
     given = l.given;
-    taken = inr (omega (arith, long, l.count, ap length l.same, length-append now.line.all.items (waiting now)));
+    taken = record { failed = inr (omega (arith, long, l.count, ap length l.same, length-append now.line.all.items (waiting now))); part = l.part; kept = sym l.same };
     anew = l.anew;
+    clean = tt;
+    quiet = l.quiet;
   }
 
   pub line-over : (old now mid new : Script S P source) (n : ℕ) → LineAt n old now → Refills now (Ok tt) mid → TakesByte mid None new → TakesLine old (Ok tt) new
@@ -190,6 +207,8 @@ module _ {S P : Type 0} {source : Source S} where
         given = ap (λ (i : Input S source). source.given i.source) t.input ∙ read-given old now mid n (Ok tt) l r;
         taken = record { part = subst IsPartOfLine (sym line) part; split = inr (all, t.byte.1, ap (λ (i : Input S source). i.ended) t.input ∙ r.over t.byte.0) };
         anew = t.same ∙ r.same ∙ l.anew;
+        clean = omega (arith, ap (λ (i : Input S source). source.failures i.source) t.input, r.failures, l.failures);
+        quiet = quiet-on old mid new (quiet-on old now mid l.quiet r.quiet) (quiet-same mid new t.input);
       }
 
   pub line-ended : (old now mid new : Script S P source) (n b : ℕ) → b ≡ 10 → LineAt n old now → Refills now (Ok tt) mid → TakesByte mid (Some b) new → TakesLine old (Ok tt) new
@@ -204,6 +223,8 @@ module _ {S P : Type 0} {source : Source S} where
           split = inl (sym (read-same old now mid n (Ok tt) l r) ∙ ap (λ w. mid.line.all.items ++ w) t.byte ∙ ap (λ x. mid.line.all.items ++ x ∷ waiting new) is ∙ ap (λ x. x ++ 10 ∷ waiting new) (sym line));
         };
         anew = t.same ∙ r.same ∙ l.anew;
+        clean = omega (arith, ap (λ (i : Input S source). source.failures i.source) t.input, r.failures, l.failures);
+        quiet = quiet-on old mid new (quiet-on old now mid l.quiet r.quiet) (quiet-same mid new t.input);
       }
 
   pub line-more : (old now mid new last : Script S P source) (n b : ℕ) → (b ≡ 10 → ⊥) → LineAt n old now → Refills now (Ok tt) mid → TakesByte mid (Some b) new
@@ -221,12 +242,20 @@ module _ {S P : Type 0} {source : Source S} where
         part = subst IsPartOfLine (sym now-line) (part-more now.line.all.items b l.part not);
         anew = same ∙ t.same ∙ r.same ∙ l.anew;
         failures = omega (arith, ap (λ (i : Input S source). source.failures i.source) (input ∙ t.input), r.failures, l.failures);
+        quiet = quiet-on old mid last (quiet-on old now mid l.quiet r.quiet) (quiet-same mid last (input ∙ t.input));
       }
 
   -- ---- what comes next
 
   pub comes-statements : (old new : Script S P source) → Refills old (Ok tt) new → 0 < length (waiting new) → (IsAtCommand (stretch new) (waiting new) → ⊥) → Comes old (Ok Statements) new
-  comes-statements old new r some none = record { fresh = r.fresh; given = r.given; comes = record { bytes = r.bytes; some = some; none = none; same = r.same } }
+  comes-statements old new r some none = record {
+    fresh = r.fresh;
+    given = r.given;
+    comes = record { bytes = r.bytes; some = some; none = none; same = r.same };
+    clean = omega (arith, r.failures);
+    over = new.input.over;
+    quiet = r.quiet;
+  }
 
   pub comes-command : (old mid new : Script S P source) → Refills old (Ok tt) mid → IsAtCommand (stretch mid) (waiting mid) → TakesLine mid (Ok tt) new → Comes old (Ok Command) new
   comes-command old mid new r at t =
@@ -241,13 +270,49 @@ module _ {S P : Type 0} {source : Source S} where
           line = refl;
           anew = t.anew;
         };
+        clean = omega (arith, r.failures, t.clean);
+        over = new.input.over;
+        quiet = quiet-on old mid new r.quiet t.quiet;
       }
 
-  pub comes-fault : (old mid new : Script S P source) (e : SourceFault) → Refills old (Ok tt) mid → TakesLine mid (Err e) new → Comes old (Err e) new
-  comes-fault old mid new e r t =
+  pub comes-fault : (old mid new : Script S P source) (e : SourceFault) → Refills old (Ok tt) mid → IsAtCommand (stretch mid) (waiting mid) → TakesLine mid (Err e) new → Comes old (Err e) new
+  comes-fault old mid new e r at t =
       let whole : waiting old ++ (r.fresh ++ t.fresh) ≡ waiting mid ++ t.fresh = sym (append_assoc (waiting old) r.fresh t.fresh) ∙ ap (λ w. w ++ t.fresh) (sym r.bytes) in
       record {
         fresh = r.fresh ++ t.fresh;
         given = t.given ∙ ap (λ g. g ++ t.fresh) r.given ∙ append_assoc (source.given (source_in old)) r.fresh t.fresh;
-        comes = elim t.taken [ inl f ↦ inl (omega (arith, f, r.failures)) | inr f ↦ inr (omega (arith, f, ap length whole)) ];
+        comes = record {
+          failed = elim t.taken.failed [ inl f ↦ inl (omega (arith, f, r.failures)) | inr f ↦ inr (omega (arith, f, ap length whole)) ];
+          text = new.line.all.items;
+          kept = whole ∙ t.taken.kept;
+          command = inr (record {
+            here = record { here = subst IsBeforeCommand r.same at.here; dot = ap (begins is_dot) whole ∙ begins-more is_dot (waiting mid) t.fresh at.dot };
+            part = t.taken.part;
+            line = refl;
+            anew = t.anew;
+          });
+        };
+        clean = tt;
+        over = new.input.over;
+        quiet = quiet-on old mid new r.quiet t.quiet;
       }
+
+  pub comes-broken : (old new : Script S P source) (e : SourceFault) → Refills old (Err e) new → Comes old (Err e) new
+  comes-broken old new e r = record {
+    fresh = r.fresh;
+    given = r.given;
+    comes = record { failed = inl (omega (arith, r.failures)); text = []; kept = sym r.bytes; command = inl (refl, r.same) };
+    clean = tt;
+    over = new.input.over;
+    quiet = r.quiet;
+  }
+
+  pub comes-end : (old new : Script S P source) → Refills old (Ok tt) new → waiting new ≡ [] → Comes old (Ok End) new
+  comes-end old new r none = record {
+    fresh = r.fresh;
+    given = r.given;
+    comes = record { none = sym r.bytes ∙ none; rest = none; ended = r.over none; same = r.same };
+    clean = omega (arith, r.failures);
+    over = new.input.over;
+    quiet = r.quiet;
+  }

@@ -30,6 +30,14 @@ waiting s = drop s.at (take s.end s.piece.items)
 abbrev pub line_of : {S P : Type 0} {source : Source S} → Script S P source → List ℕ
 line_of s = take 4096 s.line.all.items
 
+-- a source that met its end is not read again
+abbrev pub IsQuiet : {S P : Type 0} {source : Source S} → Script S P source → Script S P source → Type 0
+IsQuiet old new = has_met_end old ≡ true → (source_in new ≡ source_in old) × (has_met_end new ≡ true)
+
+-- a read failed, or one line goes on for 2 ^ 64 - 1 bytes
+abbrev pub Failed : {S P : Type 0} {source : Source S} → Script S P source → List ℕ → Script S P source → Type 0
+Failed {source = source} old fresh new = (source.failures (source_in old) < source.failures (source_in new)) ⊎ (2 ^ 64 ≤ length (waiting old ++ fresh) + 1)
+
 -- the next piece was read, where no byte waited; then none waits only at the end of the source
 pub record Refills {S P : Type 0} {source : Source S} (old : Script S P source) (result : Result (Unit {0}) SourceFault) (new : Script S P source) : Type 0 where
   pub fresh : List ℕ
@@ -40,6 +48,7 @@ pub record Refills {S P : Type 0} {source : Source S} (old : Script S P source) 
   pub same : stretch new ≡ stretch old
   pub line : new.line ≡ old.line
   pub ended : new.ended ≡ old.ended
+  pub quiet : IsQuiet old new
 
 -- the first byte that waits was taken
 abbrev pub TakesFirst : Option ℕ → List ℕ → List ℕ → Type 0
@@ -57,9 +66,15 @@ pub record IsLine (bytes text rest : List ℕ) (over : Bool) : Type 0 where
   pub part : IsPartOfLine text
   pub split : (bytes ≡ text ++ 10 ∷ rest) ⊎ ((bytes ≡ text) × (rest ≡ []) × (over ≡ true))
 
+-- a part of a line was taken, and no byte is lost
+pub record IsPartTaken {S P : Type 0} {source : Source S} (old : Script S P source) (fresh : List ℕ) (new : Script S P source) : Type 0 where
+  pub failed : Failed old fresh new
+  pub part : IsPartOfLine new.line.all.items
+  pub kept : waiting old ++ fresh ≡ new.line.all.items ++ waiting new
+
 abbrev pub TakesBy : {S P : Type 0} {source : Source S} → Result (Unit {0}) SourceFault → Script S P source → List ℕ → Script S P source → Type 0
 TakesBy (Ok u) old fresh new = IsLine (waiting old ++ fresh) new.line.all.items (waiting new) (has_met_end new)
-TakesBy {source = source} (Err e) old fresh new = (source.failures (source_in old) < source.failures (source_in new)) ⊎ (2 ^ 64 ≤ length (waiting old ++ fresh) + 1)
+TakesBy (Err e) old fresh new = IsPartTaken old fresh new
 
 -- the line that begins here was taken
 pub record TakesLine {S P : Type 0} {source : Source S} (old : Script S P source) (result : Result (Unit {0}) SourceFault) (new : Script S P source) : Type 0 where
@@ -67,6 +82,8 @@ pub record TakesLine {S P : Type 0} {source : Source S} (old : Script S P source
   pub given : source.given (source_in new) ≡ source.given (source_in old) ++ fresh
   pub taken : TakesBy result old fresh new
   pub anew : stretch new ≡ []
+  pub clean : OnOk result (source.failures (source_in new) ≡ source.failures (source_in old))
+  pub quiet : IsQuiet old new
 
 -- a command came next: behind it a new stretch begins
 pub record IsCommand {S P : Type 0} {source : Source S} (old : Script S P source) (fresh : List ℕ) (new : Script S P source) : Type 0 where
@@ -90,11 +107,25 @@ pub record IsOver {S P : Type 0} {source : Source S} (old : Script S P source) (
   pub ended : has_met_end new ≡ true
   pub same : stretch new ≡ stretch old
 
+-- a read failed in a command's line: the first bytes of what came of the line are kept
+pub record IsBegun {S P : Type 0} {source : Source S} (old : Script S P source) (fresh text : List ℕ) (new : Script S P source) : Type 0 where
+  pub here : IsAtCommand (stretch old) (waiting old ++ fresh)
+  pub part : IsPartOfLine text
+  pub line : line_of new ≡ take 4096 text
+  pub anew : stretch new ≡ []
+
+-- nothing came because of a failure. No byte is lost: each waits, or is of a command that has begun.
+pub record BreaksOff {S P : Type 0} {source : Source S} (old : Script S P source) (fresh : List ℕ) (new : Script S P source) : Type 0 where
+  pub failed : Failed old fresh new
+  pub text : List ℕ
+  pub kept : waiting old ++ fresh ≡ text ++ waiting new
+  pub command : ((text ≡ []) × (stretch new ≡ stretch old)) ⊎ IsBegun old fresh text new
+
 abbrev pub ComesBy : {S P : Type 0} {source : Source S} → Result Next SourceFault → Script S P source → List ℕ → Script S P source → Type 0
 ComesBy (Ok Command) old fresh new = IsCommand old fresh new
 ComesBy (Ok Statements) old fresh new = AreStatements old fresh new
 ComesBy (Ok End) old fresh new = IsOver old fresh new
-ComesBy {source = source} (Err e) old fresh new = (source.failures (source_in old) < source.failures (source_in new)) ⊎ (2 ^ 64 ≤ length (waiting old ++ fresh) + 1)
+ComesBy (Err e) old fresh new = BreaksOff old fresh new
 
 -- a call of `next`
 pub record Comes {S P : Type 0} {source : Source S} (old : Script S P source) (result : Result Next SourceFault) (new : Script S P source) : Type 0 where
@@ -102,3 +133,8 @@ pub record Comes {S P : Type 0} {source : Source S} (old : Script S P source) (r
   pub fresh : List ℕ
   pub given : source.given (source_in new) ≡ source.given (source_in old) ++ fresh
   pub comes : ComesBy result old fresh new
+  -- an answer comes only where no read failed
+  pub clean : OnOk result (source.failures (source_in new) ≡ source.failures (source_in old))
+  -- the source has met its end where the script says so, and is not read again then
+  pub over : has_met_end new ≡ true → 0 < source.ends (source_in new)
+  pub quiet : IsQuiet old new

@@ -216,7 +216,8 @@ impl<S: Source, P: Prompts> Script<S, P> {
     ///
     /// # Errors
     ///
-    /// `SourceFault` where a read failed, and where one line goes on for 2 ^ 64 - 1 bytes.
+    /// `SourceFault` where a read failed, and where one line goes on for 2 ^ 64 - 1 bytes. No byte is lost then:
+    /// what came of a command is its `line`, and all else still waits.
     pub fn next(&mut self) -> Result<Next, SourceFault>
         ensures { Comes self.old result self.new }
     {

@@ -12,7 +12,7 @@ returns-then-not-is_at_command g c =
 pub returns-in_err-take_line : goal.returns-in_err-take_line
 returns-in_err-take_line g c =
     let out = err_from_is_err_and c.from_residual-in_err-take_line.result c.from_residual-in_err-take_line.ensures.1 in
-    rw out.1 (comes-fault c.args.self.now c.refill.new.self c.take_line.new.self _ c.in_ok-refill.ensures c.in_err-take_line.ensures)
+    rw out.1 (comes-fault c.args.self.now c.refill.new.self c.take_line.new.self _ c.in_ok-refill.ensures (c.is_at_command.ensures.0 c.if-not-is_at_command.false) c.in_err-take_line.ensures)
 
 pub returns : goal.returns
 returns g c = comes-command c.args.self.now c.refill.new.self c.take_line.new.self c.in_ok-refill.ensures (c.is_at_command.ensures.0 c.if-not-is_at_command.false) c.in_ok-take_line.ensures

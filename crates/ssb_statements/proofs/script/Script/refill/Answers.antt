@@ -16,4 +16,5 @@ returns-then-self g c =
       same = refl;
       line = refl;
       ended = refl;
+      quiet = λ h. (refl, h);
     }

@@ -7,6 +7,7 @@ use Rattle.std.proofs.lemmas.List.Elements.{All-head, All-nil, All-push, All-tai
 use Rattle.crossbeam_queue.specs.Fifo.{Pushes, Pops, Forks, Learns}
 use Rattle.crossbeam_queue.proofs.Lists.{at_set, at_snoc, set_again}
 use Rattle.ssb_lanes.specs.Berth.{IsKept, Ruled, known_of}
+use Rattle.ssb_records.specs.declared.source.Source.{Ghosts as Source}
 use Rattle.ssb_lanes.specs.declared.berth.Known.{Known}
 use Rattle.ssb_lanes.specs.declared.berth.Laid.{Laid}
 
@@ -25,12 +26,12 @@ value_of : {K : Type 0} → K → Option K → K
 value_of d None = d
 value_of d (Some k) = k
 
-module _ {S : Type 0} (given : S → List ℕ) (ends : S → ℕ) (whole : S → Option (List ℕ)) where
+module _ {S : Type 0} (s : Source S) where
   abbrev View : Type 0
   View = Option (Known S)
 
   abbrev Rule : List (Laid S) → List View → Type 0
-  Rule = Ruled given ends whole
+  Rule = Ruled s
 
   -- the one pass of a new queue knows nothing
   alone : (views : List View) (pass : ℕ) (v : View) → views ≡ None ∷ [] → get_elem? views pass ≡ some v → v ≡ None
@@ -39,7 +40,7 @@ module _ {S : Type 0} (given : S → List ℕ) (ends : S → ℕ) (whole : S →
   pub begins : Rule [] (None ∷ [])
   begins = inl (refl, refl)
 
-  lays-at : (pass : ℕ) (v : View) (x : Laid S) (items : List (Laid S)) (views : List View) → v ≡ None → IsKept given ends whole x → get_elem? views pass ≡ some v → Rule items views → Rule (items ++ x ∷ []) (set views pass (Some (known_of x)))
+  lays-at : (pass : ℕ) (v : View) (x : Laid S) (items : List (Laid S)) (views : List View) → v ≡ None → IsKept s x → get_elem? views pass ≡ some v → Rule items views → Rule (items ++ x ∷ []) (set views pass (Some (known_of x)))
   lays-at pass v x items views is kept at (inl n) =
       inr (record {
         known = known_of x;
@@ -47,47 +48,47 @@ module _ {S : Type 0} (given : S → List ℕ) (ends : S → ℕ) (whole : S →
             (λ (y : (j ≢ pass) × (get_elem? views j ≡ some u)). absurd (y.0 (one_place None u v j pass (ap (λ l. get_elem? l j) (sym n.1) ∙ y.1) (ap (λ l. get_elem? l pass) (sym n.1) ∙ at))))
             (at_set views pass j (Some (known_of x)) u e);
         same = subst (λ l. All (λ y. known_of y ≡ known_of x) (l ++ x ∷ [])) (sym n.0) (All-push (λ y. known_of y ≡ known_of x) [] x (All-nil _) refl);
-        kept = subst (λ l. All (IsKept given ends whole) (l ++ x ∷ [])) (sym n.0) (All-push (IsKept given ends whole) [] x (All-nil _) kept);
+        kept = subst (λ l. All (IsKept s) (l ++ x ∷ [])) (sym n.0) (All-push (IsKept s) [] x (All-nil _) kept);
       })
-  lays-at pass v x items views is kept at (inr s) = cc (sym is ∙ s.passes pass v at)
+  lays-at pass v x items views is kept at (inr r) = cc (sym is ∙ r.passes pass v at)
 
-  pub lays : (n pass : ℕ) (v : View) (x : Laid S) → v ≡ None → IsKept given ends whole x → Pushes Rule n pass v x (λ w. w ≡ Some (known_of x))
+  pub lays : (n pass : ℕ) (v : View) (x : Laid S) → v ≡ None → IsKept s x → Pushes Rule n pass v x (λ w. w ≡ Some (known_of x))
   lays n pass v x is kept items views room rule at = (Some (known_of x), lays-at pass v x items views is kept at rule, refl)
 
   pub new-empty : (pass : ℕ) (v : View) → v ≡ None → Learns Rule pass v (λ items. items ≡ [])
   new-empty pass v is items views (inl n) at = n.0
-  new-empty pass v is items views (inr s) at = cc (sym is ∙ s.passes pass v at)
+  new-empty pass v is items views (inr r) at = cc (sym is ∙ r.passes pass v at)
 
-  pub takes : (pass : ℕ) (v : View) → Pops Rule pass v (λ x w. (w ≡ v) × (v ≡ Some (known_of x)) × IsKept given ends whole x)
+  pub takes : (pass : ℕ) (v : View) → Pops Rule pass v (λ x w. (w ≡ v) × (v ≡ Some (known_of x)) × IsKept s x)
   takes pass v x items views (inl n) at = cc n.0
-  takes pass v x items views (inr s) at = (
+  takes pass v x items views (inr r) at = (
     v,
-    subst (Rule items) (sym (set_again views pass v at)) (inr (record { known = s.known; passes = s.passes; same = All-tail (λ y. known_of y ≡ s.known) x items s.same; kept = All-tail (IsKept given ends whole) x items s.kept })),
-    (refl, s.passes pass v at ∙ ap Some (sym (All-head (λ y. known_of y ≡ s.known) x items s.same)), All-head (IsKept given ends whole) x items s.kept),
+    subst (Rule items) (sym (set_again views pass v at)) (inr (record { known = r.known; passes = r.passes; same = All-tail (λ y. known_of y ≡ r.known) x items r.same; kept = All-tail (IsKept s) x items r.kept })),
+    (refl, r.passes pass v at ∙ ap Some (sym (All-head (λ y. known_of y ≡ r.known) x items r.same)), All-head (IsKept s) x items r.kept),
   )
 
-  puts-at : (pass : ℕ) (v : View) (x : Laid S) (items : List (Laid S)) (views : List View) → v ≡ Some (known_of x) → IsKept given ends whole x → get_elem? views pass ≡ some v → Rule items views → Rule (items ++ x ∷ []) views
+  puts-at : (pass : ℕ) (v : View) (x : Laid S) (items : List (Laid S)) (views : List View) → v ≡ Some (known_of x) → IsKept s x → get_elem? views pass ≡ some v → Rule items views → Rule (items ++ x ∷ []) views
   unfolding value_of
   puts-at pass v x items views is kept at (inl n) = cc (sym (alone views pass v n.1 at) ∙ is)
-  puts-at pass v x items views is kept at (inr s) =
+  puts-at pass v x items views is kept at (inr r) =
       inr (record {
-        known = s.known;
-        passes = s.passes;
-        same = All-push (λ y. known_of y ≡ s.known) items x s.same (ap (value_of s.known) (sym is ∙ s.passes pass v at));
-        kept = All-push (IsKept given ends whole) items x s.kept kept;
+        known = r.known;
+        passes = r.passes;
+        same = All-push (λ y. known_of y ≡ r.known) items x r.same (ap (value_of r.known) (sym is ∙ r.passes pass v at));
+        kept = All-push (IsKept s) items x r.kept kept;
       })
 
-  pub puts : (n pass : ℕ) (v : View) (x : Laid S) → v ≡ Some (known_of x) → IsKept given ends whole x → Pushes Rule n pass v x (λ w. w ≡ v)
+  pub puts : (n pass : ℕ) (v : View) (x : Laid S) → v ≡ Some (known_of x) → IsKept s x → Pushes Rule n pass v x (λ w. w ≡ v)
   puts n pass v x is kept items views room rule at = (v, subst (Rule (items ++ x ∷ [])) (sym (set_again views pass v at)) (puts-at pass v x items views is kept at rule), refl)
 
   forks-at : (pass : ℕ) (v : View) (k : Known S) (items : List (Laid S)) (views : List View) → v ≡ Some k → get_elem? views pass ≡ some v → Rule items views → Rule items (views ++ v ∷ [])
   forks-at pass v k items views is at (inl n) = cc (sym (alone views pass v n.1 at) ∙ is)
-  forks-at pass v k items views is at (inr s) =
+  forks-at pass v k items views is at (inr r) =
       inr (record {
-        known = s.known;
-        passes = λ j u e. ⊎_elim (λ y. s.passes j u y) (λ (y : v ≡ u). sym y ∙ s.passes pass v at) (at_snoc views v u j e);
-        same = s.same;
-        kept = s.kept;
+        known = r.known;
+        passes = λ j u e. ⊎_elim (λ y. r.passes j u y) (λ (y : v ≡ u). sym y ∙ r.passes pass v at) (at_snoc views v u j e);
+        same = r.same;
+        kept = r.kept;
       })
 
   pub forks : (pass : ℕ) (v : View) (k : Known S) → v ≡ Some k → Forks Rule pass v v v

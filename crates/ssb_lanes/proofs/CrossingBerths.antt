@@ -19,7 +19,7 @@ use Rattle.crossbeam_queue.specs.contracts.array_queue.Slotted as Slotted
 use Rattle.std.specs.contracts.snapshot.Snapshot as Snapshot
 use Rattle.ssb_lanes.specs.contracts.berth.Known as Known
 use Rattle.ssb_lanes.specs.contracts.berth.Laid as Laid
-use Rattle.ssb_lanes.proofs.lane.Lane.TheSendSync as lane
+use Rattle.ssb_lanes.proofs.Crossing.{lane_send}
 
 abbrev Slot : RattleType → RattleType
 Slot S = Option.the_row (Laid.the_row S)
@@ -31,7 +31,7 @@ snapshot_send : (T : RattleType) → IsSend (Snapshot.the_row T)
 snapshot_send T = search (crosses, sendable) depth 20
 
 laid_send : (S : RattleType) → IsSend S → IsSend (Laid.the_row S)
-laid_send S s = declared_send (Laid.the_type S) (search (lane.the_send, as_row_send, sendable) depth 20, (search (snapshot_send, as_row_send, sendable) depth 20, (search (snapshot_send, as_row_send, sendable) depth 20, tt)))
+laid_send S s = declared_send (Laid.the_type S) (search (lane_send, as_row_send, sendable) depth 20, (search (snapshot_send, as_row_send, sendable) depth 20, tt))
 
 slot_send : (S : RattleType) → IsSend S → IsSend (Slot S)
 slot_send S s = search (laid_send, sendable) depth 20

@@ -11,5 +11,6 @@ mod LaneFacts
 mod MovedFacts
 mod PartReading
 mod PartTaking
+mod SkippingFacts
 mod SpanFacts
 mod TogetherFacts

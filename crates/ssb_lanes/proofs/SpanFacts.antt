@@ -1,5 +1,5 @@
 -- Where a file is cut, and the ranges that come of it.
-use Rattle.std.proofs.Common.{◌≡◌, ◌∙◌, ◌≤◌, ◌<◌, ◌+◌, ◌-◌, ◌*◌, ◌/◌, ◌++◌, [], ◌∷◌, ℕ, suc, List, Option, Some, length, length-append, map, take, drop, get_or, refl, sym, ap, subst, arith}
+use Rattle.std.proofs.Common.{◌≡◌, ◌∙◌, ◌≤◌, ◌<◌, ◌+◌, ◌-◌, ◌*◌, ◌/◌, ◌++◌, [], ◌∷◌, ℕ, suc, List, Option, Some, slice_get, length, length-append, map, take, drop, get_or, refl, sym, ap, subst, arith}
 use Rattle.std.proofs.Math.Seq.{take-length}
 use Rattle.std.proofs.Math.Nat.{suc-mul, mul-le-mul_right, mul-div-le}
 use Rattle.std.proofs.lemmas.List.{take_more, map-append}
@@ -60,3 +60,22 @@ stand-more place spans k d files file below at stand = λ tells.
 pub later-ranges : (spans : List Span) → 0 < length spans → take (length spans - 1) (drop 1 spans) ≡ drop 1 spans
 later-ranges [] some = refl
 later-ranges (s ∷ ss) some = ap (λ n. take n ss) (omega arith) ∙ take-length ss
+
+-- the first range begins at a file's first byte
+first-range : (len : ℕ) (spans : List Span) → AreSpans len spans → (s : Span) × (ss : List Span) × (spans ≡ s ∷ ss) × (s.start ≡ 0)
+first-range len spans are = here are.before are.last are.all are.reach
+  where
+    here : (before : List Span) (last : Span) → spans ≡ before ++ last ∷ [] → Reach 0 before last.start → (s : Span) × (ss : List Span) × (spans ≡ s ∷ ss) × (s.start ≡ 0)
+    here [] last e r = (last, [], e, sym r)
+    here (b ∷ bs) last e r = (b, bs ++ last ∷ [], e, r.0)
+
+-- a handle that stands there, before those that stand at the other ranges' first bytes
+pub all-stand : {F : Type 0} (place : F → Option ℕ) (len : ℕ) (spans : List Span) (file : F) (later : List F) → AreSpans len spans → StandAt place (drop 1 spans) later → place file ≡ Some 0 → StandAt place spans (file ∷ later)
+all-stand place len spans file later are stand at tells =
+    let r = first-range len spans are in
+    let others : map place later ≡ map (λ (s : Span). Some s.start) r.1 = stand tells ∙ ap (λ ss. map (λ (s : Span). Some s.start) (drop 1 ss)) r.2 in
+    (λ k. (at ∙ ap Some (sym r.3)) k ∷ others k) ∙ sym (ap (map (λ (s : Span). Some s.start)) r.2)
+
+-- the file of some handles of which this is the first
+pub same-file : {F : Type 0} (first file : F) (later : List F) → slice_get (first ∷ later) 0 ≡ Some file → first ≡ file
+same-file first file later e = cc e

@@ -1,21 +1,21 @@
 -- Sources that are read side by side: why they stop, said of the bytes given and of all bytes.
-use Rattle.std.proofs.Common.{◌≡◌, ◌∙◌, ◌<◌, ◌++◌, ◌∷◌, ℕ, List, [], length, length-append, take, drop, sym, ap, subst, arith, append_assoc}
-use Rattle.std.specs.List.{All}
+use Rattle.std.proofs.Common.{◌≡◌, ◌∙◌, ◌<◌, ◌++◌, ◌∷◌, ℕ, List, [], IfSome, Option, length, length-append, take, drop, sym, ap, subst, arith, append_assoc}
 use Rattle.std.specs.Prelude.{Vec}
 use Rattle.std.specs.declared.alloc.Global.{Global}
-use Rattle.std.proofs.lemmas.List.{append-nil, drop_all, get_or-map, length-map, take_all}
+use Rattle.std.proofs.lemmas.List.{append-nil, drop_all, length-map, take_all}
 use Rattle.ssb_lanes.specs.Assembly.{Halts}
 use Rattle.ssb_records.specs.CutShort.{IfRead}
 use Rattle.ssb_records.specs.Giving.{given_since}
-use Rattle.ssb_records.specs.Intake.{Refuses, StopsBy, StopsIn}
+use Rattle.ssb_records.specs.Intake.{Refuses, Stops, StopsBy, StopsIn}
 use Rattle.ssb_load.specs.Subject.{RefusesRow, Subject, judge}
-use Rattle.ssb_lanes.specs.Joined.{failures_with, sources_in}
+use Rattle.ssb_lanes.specs.Joined.{sources_in}
+use Rattle.ssb_lanes.specs.Lane.{IsRead}
 use Rattle.ssb_records.specs.Records.{Fields, records_of}
 use Rattle.ssb_records.specs.declared.fault.LoadFault.{LoadFault}
 use Rattle.ssb_records.specs.declared.fault.LoadFault.TheVariants as load
 use Rattle.ssb_lanes.specs.declared.lane.Lane.{Lane}
 use Rattle.ssb_records.proofs.LineRecords.{first-records}
-use Rattle.ssb_records.proofs.TakingAll.{grows, since-is}
+use Rattle.ssb_records.proofs.TakingAll.{always, grows, holds-of, later-is, since-is}
 
 -- a list that was written over by one as long
 written : {A : Type 0} (n : ℕ) (old new : List A) → length old ≡ n → length new ≡ n → take n (new ++ drop (length new) old) ≡ new
@@ -30,12 +30,6 @@ pub record IsBack {S : Type 0} (old : Vec (Lane S) Global) (new : List (Lane S))
 
 pub came-back : {S : Type 0} (old : Vec (Lane S) Global) (new : List (Lane S)) → length new ≡ old.len → IsBack old new
 came-back old new long = record { is = written old.len old.items new (sym old.ok.0) long; count = length-map new (λ l. l.source) ∙ long }
-
--- what is told of each source is told of each lane's
-pub silent-lanes : {S : Type 0} (given : S → List ℕ) (lanes : List (Lane S)) → All (λ s. given s ≡ []) (sources_in lanes) → All (λ l. given l.source ≡ []) lanes
-silent-lanes given lanes h k d lt =
-    let n = length-map lanes (λ l. l.source) in
-    ap given (sym (get_or-map (λ l. l.source) lanes k d d.source lt)) ∙ h k d.source (omega (arith, n, lt))
 
 -- where nothing was given before, all bytes count
 pub since-none : (base all : List ℕ) → base ≡ [] → given_since base all ≡ all
@@ -60,12 +54,15 @@ halts-in s bytes more all (load.Read n) is h =
     (records_of h.lines, front.0, ap records_of (is ∙ ap (λ t. t ++ more) h.cut.split ∙ append_assoc h.lines h.rest more) ∙ front.1, h.good, h.number)
 halts-in s bytes more all load.Memory is h = tt
 
--- a failed read is counted
-pub counted : (e : LoadFault) (before after : ℕ) → after ≡ failures_with e before → IfRead e (λ n. before < after)
-counted (load.Record f n) before after is = tt
-counted (load.BadCatalog f n) before after is = tt
-counted (load.Read n) before after is = omega (arith, is)
-counted load.Memory before after is = tt
+-- why they stop, of both, where nothing was given before
+pub stops-of : {J : Type 0} (given : J → List ℕ) (whole : J → Option (List ℕ)) (s : Subject) (before after : J) (e : LoadFault) → given before ≡ [] → Halts s (given after) e
+    → (now : Option (List ℕ)) → now ≡ whole before → IfSome now (λ all. take (length (given after)) all ≡ given after) → Stops given whole (judge s) before after e
+stops-of given whole s before after e none halts now same begins = record {
+  fails = subst (λ t. StopsBy (judge s) t e) (sym (since-none _ _ none)) (halts-fails s (given after) e halts);
+  told = always (whole before) _ (λ all known.
+      let front = holds-of now (λ w. take (length (given after)) w ≡ given after) all (same ∙ known) begins in
+      subst (λ t. StopsIn (judge s) t e) (sym (since-none _ all none)) (halts-in s (given after) (drop (length (given after)) all) all e (later-is all (given after) front) halts));
+}
 
 -- a refusal is no failed read
 pub no-read : (s : Subject) (rs : List Fields) (e : LoadFault) (P : ℕ → Type 0) → Refuses (judge s) rs e → IfRead e P
@@ -73,6 +70,33 @@ no-read s rs (load.Record f n) P h = tt
 no-read s rs (load.BadCatalog f n) P h = tt
 no-read s rs (load.Read n) P h = absurd h
 no-read s rs load.Memory P h = tt
+
+-- what holds of a failed read that is never told
+pub never-read : (e : LoadFault) (P : Type 0) → IfRead e (λ n. ⊥) → IfRead e (λ n. P)
+never-read (load.Record f n) P h = tt
+never-read (load.BadCatalog f n) P h = tt
+never-read (load.Read n) P h = absurd h
+never-read load.Memory P h = tt
+
+-- what holds at any rate
+pub whenever-read : (e : LoadFault) (P : Type 0) → P → IfRead e (λ n. P)
+whenever-read (load.Record f n) P h = tt
+whenever-read (load.BadCatalog f n) P h = tt
+whenever-read (load.Read n) P h = h
+whenever-read load.Memory P h = tt
+
+-- of a failed read that is told only of one
+pub of-read : (e : LoadFault) (P : Type 0) → IsRead e → IfRead e (λ n. P) → P
+of-read (load.Record f n) P is h = absurd is
+of-read (load.BadCatalog f n) P is h = absurd is
+of-read (load.Read n) P is h = h
+of-read load.Memory P is h = absurd is
+
+pub read-through : (told e : LoadFault) (P : Type 0) → IfRead told (λ n. IsRead e) → IfRead e (λ n. P) → IfRead told (λ n. P)
+read-through (load.Record f n) e P is h = tt
+read-through (load.BadCatalog f n) e P is h = tt
+read-through (load.Read n) e P is h = of-read e P is h
+read-through load.Memory e P is h = tt
 
 -- a count that rose is above nothing
 pub more-ends : (before after : ℕ) → before < after → 0 < after

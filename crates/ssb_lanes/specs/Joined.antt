@@ -1,15 +1,10 @@
 -- Sources one after the other as one source.
 -- Source: own.
-use Rattle.std.specs.Prelude.{◌≡◌, ◌+◌, ◌≤◌, ◌<◌, [], ◌∷◌, ℕ, List, length, map, take, drop, Bool, false, Option, None, Some}
-use Rattle.std.specs.List.{All, flat_map}
+use Rattle.std.specs.Prelude.{◌≡◌, ◌+◌, ◌≤◌, ◌<◌, [], ◌∷◌, ℕ, List, length, map, take, drop, Bool, true, false, Option, Some}
+use Rattle.std.specs.List.{All, HoldsAt, flat_map}
 use Rattle.std.specs.Fmt.{option_append}
-use Rattle.ssb_records.specs.declared.fault.LoadFault.{LoadFault}
-use Rattle.ssb_records.specs.declared.fault.LoadFault.TheVariants as load
+use Rattle.ssb_records.specs.declared.source.Source.{Ghosts as Source}
 use Rattle.ssb_lanes.specs.declared.lane.Lane.{Lane}
-
--- a source of which no thread has read
-abbrev pub unread : {S : Type 0} → S → Lane S
-unread s = record { source = s; read = None }
 
 -- the sources of lanes
 abbrev pub sources_in : {S : Type 0} → List (Lane S) → List S
@@ -24,25 +19,39 @@ abbrev pub all_bytes : List (Option (List ℕ)) → Option (List ℕ)
 all_bytes [] = Some []
 all_bytes (w ∷ ws) = option_append w (all_bytes ws)
 
--- how often reads failed, once more where the fault is that of a read
-abbrev pub failures_with : LoadFault → ℕ → ℕ
-failures_with (load.Record f n) failures = failures
-failures_with (load.BadCatalog f n) failures = failures
-failures_with (load.Read n) failures = failures + 1
-failures_with load.Memory failures = failures
+-- a read of the lane's source failed since the source was joined
+abbrev pub HasFailed : {S : Type 0} → (S → ℕ) → Lane S → Type 0
+HasFailed failures lane = failures lane.joined.value < failures lane.source
 
--- no source gave a byte, no read failed, and no end was told
-pub record IsUntouched {S : Type 0} (given : S → List ℕ) (sources : List S) (at : ℕ) (stopped : Bool) (failures ends : ℕ) : Type 0 where
+-- the lane at this place is there, and a read of its source failed
+pub record HasFailedAt {S : Type 0} (failures : S → ℕ) (lanes : List (Lane S)) (at : ℕ) : Type 0 where
+  pub inside : at < length lanes
+  pub failed : HoldsAt (HasFailed failures) lanes at
+
+-- at least as many as failed by then
+abbrev pub IsForth : {S : Type 0} → (S → ℕ) → Lane S → Type 0
+IsForth failures lane = failures lane.joined.value ≤ failures lane.source
+
+-- a source that gave no byte, and of which no thread has read, as it was joined
+pub record IsUnread {S : Type 0} (given : S → List ℕ) (lane : Lane S) : Type 0 where
+  pub nothing : given lane.source ≡ []
+  pub same : lane.source ≡ lane.joined.value
+
+-- no source was read, no failure was told, and no end
+pub record IsUntouched {S : Type 0} (given : S → List ℕ) (lanes : List (Lane S)) (at : ℕ) (stopped : Bool) (failures ends : ℕ) : Type 0 where
   pub first : at ≡ 0
   pub going : stopped ≡ false
-  pub nothing : All (λ s. given s ≡ []) sources
+  pub unread : All (IsUnread given) lanes
   pub no_failure : failures ≡ 0
   pub no_end : ends ≡ 0
 
--- Sources, read in their order: those before the place have met their ends, those behind it gave nothing so far, unless a read failed; before any read all is
--- untouched; an end is told only once every source has met its own.
-pub record IsJoined {S : Type 0} (given : S → List ℕ) (ends_of_one : S → ℕ) (sources : List S) (at : ℕ) (begun stopped : Bool) (failures ends : ℕ) : Type 0 where
-  pub met : All (λ s. 0 < ends_of_one s) (take at sources)
-  pub fresh : stopped ≡ false → All (λ s. given s ≡ []) (drop (at + 1) sources)
-  pub untouched : begun ≡ false → IsUntouched given sources at stopped failures ends
-  pub over : 0 < ends → (stopped ≡ false) × (length sources ≤ at)
+-- Sources, read in their order. Those before the place have met their ends, and those behind it gave nothing so far, unless a read failed. Before any read
+-- all is untouched. A failure is told only where a read of the source at the place failed, and an end only once every source has met its own.
+pub record IsJoined {S : Type 0} (s : Source S) (lanes : List (Lane S)) (at : ℕ) (begun stopped : Bool) (failures ends : ℕ) : Type 0 where
+  pub met : All (λ x. 0 < s.ends x) (take at (sources_in lanes))
+  pub fresh : stopped ≡ false → All (λ x. s.given x ≡ []) (drop (at + 1) (sources_in lanes))
+  pub untouched : begun ≡ false → IsUntouched s.given lanes at stopped failures ends
+  pub forth : All (IsForth s.failures) lanes
+  pub broken : stopped ≡ true → HasFailedAt s.failures lanes at
+  pub told : 0 < failures → stopped ≡ true
+  pub over : 0 < ends → (stopped ≡ false) × (length (sources_in lanes) ≤ at)

@@ -1,6 +1,6 @@
 -- Which ranges of bytes the sections of a file have.
 -- Source: own.
-use Rattle.std.specs.Prelude.{◌≡◌, ◌+◌, ◌<◌, ◌≤◌, ◌++◌, ◌⊎◌, [], ◌∷◌, ℕ, List, map, drop, Option, Some, IsSome}
+use Rattle.std.specs.Prelude.{◌≡◌, ◌+◌, ◌<◌, ◌≤◌, ◌++◌, ◌⊎◌, [], ◌∷◌, ℕ, List, map, drop, slice_get, Option, Some, IsSome}
 use Rattle.std.specs.List.{All}
 use Rattle.std.specs.Io.Take.{take_inner, take_limit}
 use Rattle.std.specs.declared.io.traits.Read.{Ghosts as Read}
@@ -59,9 +59,10 @@ pub record IsDivided {F : Type 0} (place : F → Option ℕ) (sizes : List ℕ) 
   pub same : sizes ≡ map (λ s. s.size) spans
   pub stand : StandAt place (drop 1 spans) later
 
--- these sections are those of a file
-abbrev pub AreSections : {F : Type 0} {read : Read (Take F)} → (F → Option ℕ) → List (In (Take F) read) → Type 0
-AreSections place sections = IsDivided place (sizes_of sections) (drop 1 (handles_of sections))
+-- these sections are those of a file; where the first handle stands at the file's first byte, each stands at its range's
+pub record AreSections {F : Type 0} {read : Read (Take F)} (place : F → Option ℕ) (sections : List (In (Take F) read)) : Type 0 where
+  pub divided : IsDivided place (sizes_of sections) (drop 1 (handles_of sections))
+  pub first : (file : F) → slice_get (handles_of sections) 0 ≡ Some file → place file ≡ Some 0 → StandAt place divided.spans (handles_of sections)
 
 -- nothing was read of any of these sections
 abbrev pub AreUnread : {F : Type 0} {read : Read (Take F)} → List (In (Take F) read) → Type 0

@@ -172,13 +172,13 @@ fn fact_number(catalog: &Catalog) -> u32
 }
 
 // The tables from this number on, one after the other.
-fn load_in_turn<S: Source + Send>(
+fn load_in_turn<J: Source>(
     loading: &Loading<'_>,
     first: u32,
-    sources: &mut [Joined<S>],
+    sources: &mut [J],
 ) -> Result<Vec<Table>, FileFault>
     requires { first + length sources.old ≤ length loading.now.catalog.now }
-    ensures { RanFrom joined_source loading.now.catalog.now first sources.old sources.new result }
+    ensures { RanFrom J.Source loading.now.catalog.now first sources.old sources.new result }
 {
     let Loading {
         alloc,
@@ -189,29 +189,30 @@ fn load_in_turn<S: Source + Send>(
     load_tables(alloc, catalog, first as usize, sources, piece_size)
 }
 
-// The tables before the fact table and those behind it beside the fact table.
-fn load_others_beside<S: Source + Send + Drop, R: Threads + Wait + Sync>(
+// The tables before the fact table and those behind it beside the fact table. Of any sources, so that it takes
+// no proof here that joined ones may go to another thread.
+fn load_others_beside<S: Source + Send + Drop, J: Source + Send, R: Threads + Wait + Sync>(
     rt: &R,
     loading: &Loading<'_>,
     fact: u32,
-    front: &mut [Joined<S>],
+    front: &mut [J],
     source: &mut Joined<S>,
-    back: &mut [Joined<S>],
+    back: &mut [J],
 ) -> (Others, Result<Vec<Table>, FileFault>)
     requires front { length front.old ≡ fact }
     requires back { fact + 1 + length back.old ≤ length loading.now.catalog.now }
     requires few { length loading.now.catalog.now ≤ 16 }
-    ensures front { RanFrom joined_source loading.now.catalog.now 0 front.old front.new result.0.0 }
+    ensures front { RanFrom J.Source loading.now.catalog.now 0 front.old front.new result.0.0 }
     ensures fact { RanFrom joined_source loading.now.catalog.now fact (source.old ∷ []) (source.new ∷ []) result.1 }
-    ensures back { RanFrom joined_source loading.now.catalog.now (fact + 1) back.old back.new result.0.1 }
+    ensures back { RanFrom J.Source loading.now.catalog.now (fact + 1) back.old back.new result.0.1 }
 {
     let behind = fact + 1;
     let mut answer = None;
     let mut others = ||
-        requires { IsSend S.row × (length front.now ≤ length loading.now.catalog.now) × (behind + length back.now ≤ length loading.now.catalog.now) }
+        requires { (length front.now ≤ length loading.now.catalog.now) × (behind + length back.now ≤ length loading.now.catalog.now) }
         ensures some { IsSome answer.exit }
-        ensures front { IfSome answer.exit (λ o. RanFrom joined_source loading.entry.now.catalog.now 0 front.entry.now front.exit.now o.0) }
-        ensures back { IfSome answer.exit (λ o. RanFrom joined_source loading.entry.now.catalog.now behind back.entry.now back.exit.now o.1) }
+        ensures front { IfSome answer.exit (λ o. RanFrom J.Source loading.entry.now.catalog.now 0 front.entry.now front.exit.now o.0) }
+        ensures back { IfSome answer.exit (λ o. RanFrom J.Source loading.entry.now.catalog.now behind back.entry.now back.exit.now o.1) }
     {
         answer = Some((
             load_in_turn(loading, 0, front),

@@ -2,7 +2,9 @@
 
 ghost use Rattle.std.specs.Prelude.{◌≡◌, ◌++◌, ◌+◌, ◌<◌, ◌≤◌, ◌∷◌, [], List, ℕ, IfErr, IfOk, OnOk, None, map, true};
 ghost use Rattle.ssb_lanes.specs.Assembly.{AreParts, Halts, IsAssembled, IsHeld, IsWhole, RefusesAll, RefusesBehind, RefusesRows, lead, subject_in};
+ghost use Rattle.ssb_records.specs.CutShort.{IfRead};
 ghost use Rattle.ssb_records.specs.Intake.{Refuses};
+ghost use Rattle.ssb_lanes.specs.Lane.{IsRead};
 ghost use Rattle.ssb_load.specs.Subject.{judge, table};
 ghost use Rattle.ssb_records.specs.Lines.{EndsInLf};
 ghost use Rattle.ssb_lanes.specs.Part.{HaltsAt, IsBrokenOff, IsPart, IsRefused};
@@ -172,7 +174,8 @@ impl Assembly {
         requires assembled { (bytes : List ℕ) × IsAssembled self.old bytes }
         requires line { EndsInLf part.head.items }
         requires subject { subject_of part.rows ≡ subject_in self.old }
-        ensures { (bytes more : List ℕ) → IsAssembled self.old bytes → IsRefused part more fault → Halts (subject_in self.old) (bytes ++ more) result }
+        ensures halts { (bytes more : List ℕ) → IsAssembled self.old bytes → IsRefused part more fault → Halts (subject_in self.old) (bytes ++ more) result }
+        ensures never { (f : RecordFault) (n : ℕ) → fault ≡ LoadFault.Record f n → IfRead result (λ n. ⊥) }
     {
         match self.close(alloc, &part.head) {
             Ok(()) => moved(fault, self.earlier + self.last.accepted, self.last.max_rows),
@@ -198,7 +201,8 @@ impl Assembly {
         requires assembled { (bytes : List ℕ) × IsAssembled self.old bytes }
         requires part { (bytes : List ℕ) × HaltsAt part bytes fault }
         requires subject { subject_of part.rows ≡ subject_in self.old }
-        ensures { (bytes more : List ℕ) → IsAssembled self.old bytes → HaltsAt part more fault → Halts (subject_in self.old) (bytes ++ more) result }
+        ensures halts { (bytes more : List ℕ) → IsAssembled self.old bytes → HaltsAt part more fault → Halts (subject_in self.old) (bytes ++ more) result }
+        ensures broken { IfRead result (λ n. IsRead fault) }
     {
         match fault {
             LoadFault::Record(_, _) => self.refuse(alloc, part, fault),

@@ -17,18 +17,16 @@ use std::snapshot::Snapshot;
 use std::sync::Wait;
 use std::thread;
 
-// A lane that lies in its queue or was taken from it. Clauses see its source before any read, and as rows
-// of which table it is read.
+// A lane that lies in its queue or was taken from it. Clauses see as rows of which table it is read.
 #[derive(Drop)]
 pub(crate) struct Laid<S> {
     pub lane: Lane<S>,
-    pub begun: Snapshot<S>,
     pub table: Snapshot<TableIntake>,
 }
 
 // What a pass knows of the lane of its queue. No value of it is made.
 pub(crate) struct Known<S> {
-    begun: S,
+    joined: S,
     table: TableIntake,
 }
 
@@ -39,7 +37,7 @@ impl<S: Source> Protocol<Laid<S>, Option<Known<S>>> for Law {
     ghost use Rattle.std.specs.Prelude.{None};
     ghost use Rattle.ssb_lanes.specs.Berth.{Ruled};
 
-    ghost holds = { Ruled S.given S.ends S.whole };
+    ghost holds = { Ruled S.Source };
 
     ghost first = { None };
 }
@@ -83,7 +81,7 @@ impl<S: Source> Outcome<Laid<S>, Option<Known<S>>> for Takes {
     ghost use Rattle.ssb_load.specs.Subject.{table};
     ghost use Rattle.ssb_load.specs.TableIntake.{subject_of};
 
-    ghost then = { λ v x w. (w ≡ v) × (v ≡ Some (known_of x)) × IsKept S.given S.ends S.whole x };
+    ghost then = { λ v x w. (w ≡ v) × (v ≡ Some (known_of x)) × IsKept S.Source x };
 }
 
 impl<S: Source> Lesson<Laid<S>, Option<Known<S>>> for Takes {
@@ -127,10 +125,13 @@ pub(crate) fn lay<S: Source + Drop, R: Wait>(
     ensures queue { IsSamePass pass.old pass.new }
     ensures view { view pass.new ≡ Some (known source rows.now) }
 {
-    let begun = Snapshot::of(&source);
+    let joined = Snapshot::of(&source);
     let laid = Laid {
-        lane: Lane { source, read: None },
-        begun,
+        lane: Lane {
+            source,
+            joined,
+            read: None,
+        },
         table: Snapshot::of(rows),
     };
     if berth.push_as::<Lays, R>(rt, pass, laid).is_err() {
@@ -148,7 +149,7 @@ fn try_take<S: Source + Drop, R: Wait>(
     ensures queue { IsSamePass pass.old pass.new }
     ensures view { view pass.new ≡ view pass.old }
     ensures known { IfSome result (λ x. view pass.old ≡ Some (known_of x)) }
-    ensures kept { IfSome result (IsKept S.given S.ends S.whole) }
+    ensures kept { IfSome result (IsKept S.Source) }
 {
     berth.pop_as::<Takes, R>(rt, pass)
 }
@@ -159,7 +160,7 @@ fn take<S: Source + Drop, R: Wait>(rt: &R, berth: &Berth<S>, pass: &mut BerthPas
     ensures queue { IsSamePass pass.old pass.new }
     ensures view { view pass.new ≡ view pass.old }
     ensures known { view pass.old ≡ Some (known_of result) }
-    ensures kept { IsKept S.given S.ends S.whole result }
+    ensures kept { IsKept S.Source result }
 {
     for _ in rt.forever() {
         if let Some(laid) = try_take(rt, berth, pass) {
@@ -174,7 +175,7 @@ fn take<S: Source + Drop, R: Wait>(rt: &R, berth: &Berth<S>, pass: &mut BerthPas
 fn put<S: Source + Drop, R: Wait>(rt: &R, berth: &Berth<S>, pass: &mut BerthPass<S>, laid: Laid<S>)
     requires queue { IsPassOf berth.now pass.old }
     requires known { view pass.old ≡ Some (known_of laid) }
-    requires kept { IsKept S.given S.ends S.whole laid }
+    requires kept { IsKept S.Source laid }
     ensures queue { IsSamePass pass.old pass.new }
     ensures view { view pass.new ≡ view pass.old }
 {
@@ -191,9 +192,9 @@ fn put<S: Source + Drop, R: Wait>(rt: &R, berth: &Berth<S>, pass: &mut BerthPass
 
 // Reads the lane's source to its end, where that was not done.
 fn read_laid<S: Source>(way: &Way<'_>, laid: &mut Laid<S>)
-    requires kept { IsKept S.given S.ends S.whole laid.old }
+    requires kept { IsKept S.Source laid.old }
     requires table { subject_of laid.old.table.value ≡ table way.now.rules.now way.now.max_rows }
-    ensures kept { IsKept S.given S.ends S.whole laid.new }
+    ensures kept { IsKept S.Source laid.new }
     ensures known { known_of laid.new ≡ known_of laid.old }
 {
     if laid.lane.read.is_none() {
@@ -231,8 +232,8 @@ pub(crate) fn take_read<S: Source + Drop, R: Wait>(
     ensures queue { IsSamePass pass.old pass.new }
     ensures view { view pass.new ≡ view pass.old }
     ensures known { view pass.old ≡ Some (known_of result) }
-    ensures told { S.whole result.lane.source ≡ S.whole result.begun.value }
-    ensures read { IsLaneRead S.given S.ends (table way.now.rules.now way.now.max_rows) result.lane }
+    ensures told { S.whole result.lane.source ≡ S.whole result.lane.joined.value }
+    ensures read { IsLaneRead S.Source (table way.now.rules.now way.now.max_rows) result.lane }
 {
     let mut laid = take(rt, berth, pass);
     read_laid(way, &mut laid);

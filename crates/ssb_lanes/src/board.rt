@@ -12,7 +12,7 @@ ghost use Rattle.ssb_load.specs.Subject.{table};
 ghost use Rattle.std.specs.Thread.{IsSend, IsSync};
 ghost use Rattle.ssb_load.specs.TableIntake.{subject_of};
 ghost use Rattle.ssb_lanes.specs.Berth.{AreOfEach, IsHand, Knows, known, told_of};
-ghost use Rattle.ssb_lanes.specs.Joined.{sources_in};
+ghost use Rattle.ssb_lanes.specs.Joined.{IsUnread, sources_in};
 ghost use Rattle.ssb_lanes.specs.Lane.{IsLaneRead};
 
 use crate::berth::{Berth, BerthPass, Laid, another, lay, new_berth, read_one, take_read};
@@ -59,13 +59,17 @@ fn lay_all<S: Source + Drop, R: Wait>(
     requires single { All (λ b. ruled_capacity b ≡ 1) berths.now }
     requires new { All (λ p. view p ≡ None) passes.old.items }
     requires count { length lanes.items ≡ length berths.now }
-    requires silent { All (λ l. S.given l.source ≡ []) lanes.items }
+    requires unread { All (IsUnread S.given) lanes.items }
     ensures each { AreOfEach berths.now passes.new.items }
     ensures known { map view passes.new.items ≡ map (λ l. Some (known l.source rows.now)) lanes.items }
 {
     let mut at = 0;
     for lane in lanes {
-        let Lane { source, read } = lane;
+        let Lane {
+            source,
+            joined: _,
+            read,
+        } = lane;
         drop(read);
         lay(rt, &berths[at], &mut passes[at], rows, source);
         at += 1;
@@ -204,7 +208,7 @@ fn collect<S: Source + Drop, R: Wait>(
     requires none { lanes.old.items ≡ [] }
     requires room { length berths.now ≤ vec_capacity lanes.old }
     ensures whole { map (λ l. S.whole l.source) lanes.new.items ≡ map (told_of S.whole) (map view passes.old.items) }
-    ensures read { All (IsLaneRead S.given S.ends (table way.now.rules.now way.now.max_rows)) lanes.new.items }
+    ensures read { All (IsLaneRead S.Source (table way.now.rules.now way.now.max_rows)) lanes.new.items }
 {
     for at in 0..berths.len() {
         let Laid { lane, .. } = take_read(rt, way, &berths[at], &mut passes[at]);
@@ -221,17 +225,17 @@ fn read_by_runs<S: Source + Send, R: Threads + Sync>(
     lanes: &mut [Lane<S>],
 )
     requires threads { 0 < threads }
-    requires silent { All (λ l. S.given l.source ≡ []) lanes.old }
+    requires unread { All (IsUnread S.given) lanes.old }
     ensures whole { map S.whole (sources_in lanes.new) ≡ map S.whole (sources_in lanes.old) }
-    ensures read { All (IsLaneRead S.given S.ends (table way.now.rules.now way.now.max_rows)) lanes.new }
+    ensures read { All (IsLaneRead S.Source (table way.now.rules.now way.now.max_rows)) lanes.new }
 {
     thread::for_each_mut(
         rt,
         lanes,
         threads as usize,
         &|_: usize, lane: &mut Lane<S>|
-            requires { S.given lane.now.source ≡ [] }
-            ensures { (S.whole lane.exit.now.source ≡ S.whole lane.entry.now.source) × IsLaneRead S.given S.ends (table way.entry.now.rules.now way.entry.now.max_rows) lane.exit.now }
+            requires { IsUnread S.given lane.now }
+            ensures { (S.whole lane.exit.now.source ≡ S.whole lane.entry.now.source) × IsLaneRead S.Source (table way.entry.now.rules.now way.entry.now.max_rows) lane.exit.now }
         { read_lane(way, lane) },
     );
 }
@@ -252,13 +256,13 @@ fn read_shared<S: Source + Send + Drop, R: Threads + Wait + Sync, F: FnMut() + S
     requires single { All (λ b. ruled_capacity b ≡ 1) berths.now }
     requires new { All (λ p. view p ≡ None) passes.old.items }
     requires count { length unread.items ≡ length berths.now }
-    requires silent { All (λ l. S.given l.source ≡ []) unread.items }
+    requires silent { All (IsUnread S.given) unread.items }
     requires none { lanes.old.items ≡ [] }
     requires room { length berths.now ≤ vec_capacity lanes.old }
     requires rows { subject_of rows.now ≡ table way.now.rules.now way.now.max_rows }
     requires beside { F.pre beside.old }
     ensures whole { map S.whole (sources_in lanes.new.items) ≡ map S.whole (sources_in unread.items) }
-    ensures read { All (IsLaneRead S.given S.ends (table way.now.rules.now way.now.max_rows)) lanes.new.items }
+    ensures read { All (IsLaneRead S.Source (table way.now.rules.now way.now.max_rows)) lanes.new.items }
     ensures beside { F.step beside.old tt beside.new }
 {
     let mut hands = Vec::new(way.alloc);
@@ -298,11 +302,11 @@ pub(crate) fn read_each<S: Source + Send + Drop, R: Threads + Wait + Sync, F: Fn
     beside: &mut F,
 )
     requires threads { 0 < threads }
-    requires silent { All (λ l. S.given l.source ≡ []) lanes.old.items }
+    requires unread { All (IsUnread S.given) lanes.old.items }
     requires rows { subject_of rows.now ≡ table way.now.rules.now way.now.max_rows }
     requires beside { F.pre beside.old }
     ensures whole { map S.whole (sources_in lanes.new.items) ≡ map S.whole (sources_in lanes.old.items) }
-    ensures read { All (IsLaneRead S.given S.ends (table way.now.rules.now way.now.max_rows)) lanes.new.items }
+    ensures read { All (IsLaneRead S.Source (table way.now.rules.now way.now.max_rows)) lanes.new.items }
     ensures beside { F.step beside.old tt beside.new }
 {
     match board_of(way.alloc, lanes.len()) {

@@ -6,7 +6,7 @@ ghost use Rattle.ssb_records.specs.CutShort.{IfRead};
 ghost use Rattle.ssb_records.specs.Giving.{given_since};
 ghost use Rattle.ssb_records.specs.Intake.{Stops};
 ghost use Rattle.ssb_lanes.specs.Assembly.{IsAssembled, subject_in};
-ghost use Rattle.ssb_lanes.specs.Joined.{IsJoined, all_bytes, failures_with, given_upto, sources_in, unread};
+ghost use Rattle.ssb_lanes.specs.Joined.{HasFailedAt, IsJoined, IsUnread, all_bytes, given_upto, sources_in};
 ghost use Rattle.ssb_lanes.specs.JoinedLaws.{joined_begins, joined_settled};
 ghost use Rattle.ssb_load.specs.Subject.{judge};
 
@@ -15,12 +15,14 @@ use crate::lane::Lane;
 use crate::lanes::{Stop, read_together};
 use ssb_records::{History, LoadFault, Source, SourceFault};
 use std::alloc::{AllocError, Global};
+use std::snapshot::Snapshot;
 use std::sync::Wait;
 use std::thread::Threads;
 
 /// Sources one after the other as one source: it gives what they give, in their order, and meets its
-/// end where the last of them does. After a failed read each further read fails, so that no source
-/// that failed, or was left in its middle, is passed over.
+/// end where the last of them does. It fails only where a read of one of them failed
+/// ([`failures_are_of_sources`](Joined::failures_are_of_sources)), and from then on, so that no source that
+/// failed is passed over.
 pub struct Joined<S: Source> {
     lanes: Vec<Lane<S>>,
     // The lane that is read now, or their number once all have met their ends.
@@ -31,7 +33,7 @@ pub struct Joined<S: Source> {
     stopped: bool,
     failed: History<()>,
     ended: History<()>,
-    ghost joined: { IsJoined S.given S.ends (sources_in lanes.items) at begun stopped (length failed.items) (length ended.items) },
+    ghost joined: { IsJoined S.Source lanes.items at begun stopped (length failed.items) (length ended.items) },
 }
 
 // Written out, so that the crates above need no proof of how its parts are let go.
@@ -50,13 +52,21 @@ impl<S: Source + Drop> Drop for Joined<S> {
 }
 
 // A lane for each source, in their order.
-fn lanes_of<S: Drop>(alloc: Global, sources: Vec<S>) -> Result<Vec<Lane<S>>, AllocError>
-    ensures { IfOk result (λ lanes. lanes.items ≡ map unread sources.items) }
+fn lanes_of<S: Source + Drop>(alloc: Global, sources: Vec<S>) -> Result<Vec<Lane<S>>, AllocError>
+    requires { All (λ s. S.given s ≡ []) sources.items }
+    ensures sources { IfOk result (λ lanes. sources_in lanes.items ≡ sources.items) }
+    ensures unread { IfOk result (λ lanes. All (IsUnread S.given) lanes.items) }
 {
-    sources
-        .into_iter()
-        .map(|source| Lane { source, read: None })
-        .collect(alloc)
+    let mut lanes = Vec::new(alloc);
+    for source in sources {
+        let joined = Snapshot::of(&source);
+        lanes.push(Lane {
+            source,
+            joined,
+            read: None,
+        })?;
+    }
+    Ok(lanes)
 }
 
 impl<S: Source + Drop> Joined<S> {
@@ -103,14 +113,12 @@ impl<S: Source + Drop> Joined<S> {
     }
 }
 
-// Counts a failed read, where the fault is one.
-fn count_failure(failed: &mut History<()>, fault: LoadFault)
-    ensures { length failed.new.items ≡ failures_with fault (length failed.old.items) }
-{
-    match fault {
-        LoadFault::Read(_) => *failed = failed.and(&()),
-        LoadFault::Record(_, _) | LoadFault::BadCatalog(_, _) | LoadFault::Memory => {}
-    }
+impl<S: Source> Joined<S> {
+    /// A law: where a read of joined sources failed, a read of the one at turn did, which counts more failures
+    /// than when it was joined.
+    pub fn failures_are_of_sources(&self)
+        ensures { 0 < ⟦<Joined<S> as Source>⟧.failures self.now → HasFailedAt S.failures self.now.lanes.items self.now.at }
+    {}
 }
 
 impl<S: Source + Send + Drop> Joined<S> {
@@ -122,7 +130,8 @@ impl<S: Source + Send + Drop> Joined<S> {
     }
 
     // Reads each source to its end, in at most so many threads, one of which does as well what is
-    // beside, and puts together what they gave.
+    // beside, and puts together what they gave. Behind a fault each source is at its end, or one of which a
+    // read failed is at turn.
     pub(crate) fn read_together<R: Threads + Wait + Sync, F: FnMut() + Send>(
         &mut self,
         rt: &R,
@@ -154,8 +163,12 @@ impl<S: Source + Send + Drop> Joined<S> {
             }
             Err(Stop { at, fault }) => {
                 self.at = at;
-                self.stopped = true;
-                count_failure(&mut self.failed, fault);
+                if at < self.lanes.len() {
+                    self.stopped = true;
+                    self.failed = self.failed.and(&());
+                } else {
+                    self.ended = self.ended.and(&());
+                }
                 Err(fault)
             }
         }

@@ -1,18 +1,26 @@
 // The sources of a `Joined`, each with what was read of it.
 
-ghost use Rattle.std.specs.Prelude.{◌≡◌, [], None};
+ghost use Rattle.std.specs.Prelude.{◌≡◌, ◌≤◌, ◌<◌, ◌++◌, None, true, false};
 ghost use Rattle.ssb_load.specs.Subject.{table};
+ghost use Rattle.ssb_records.specs.Giving.{given_since};
+ghost use Rattle.ssb_lanes.specs.Joined.{IsUnread};
 ghost use Rattle.ssb_lanes.specs.Lane.{IsLaneRead};
 
 use crate::part::Part;
 use ssb_records::{LoadFault, Source};
 use ssb_terms::Rule;
 use std::alloc::Global;
+use std::snapshot::Snapshot;
+use std::sync::Wait;
 
-// A source, with what a thread read of it.
+// How many bytes are passed over at once.
+const ROOM: usize = 8192;
+
+// A source, as it is and, for clauses, as it was when it was joined, with what a thread read of it.
 #[derive(Drop)]
 pub(crate) struct Lane<S> {
     pub(crate) source: S,
+    pub(crate) joined: Snapshot<S>,
     pub(crate) read: Option<Reading>,
 }
 
@@ -35,10 +43,11 @@ pub(crate) struct Way<'a> {
 
 // Reads a source to its end, unless memory for a part is refused.
 pub(crate) fn read_lane<S: Source>(way: &Way<'_>, lane: &mut Lane<S>)
-    requires { S.given lane.old.source ≡ [] }
+    requires { IsUnread S.given lane.old }
     ensures whole { S.whole lane.new.source ≡ S.whole lane.old.source }
-    ensures silent { lane.new.read ≡ None → S.given lane.new.source ≡ [] }
-    ensures read { IsLaneRead S.given S.ends (table way.now.rules.now way.now.max_rows) lane.new }
+    ensures joined { lane.new.joined ≡ lane.old.joined }
+    ensures unread { lane.new.read ≡ None → IsUnread S.given lane.new }
+    ensures read { IsLaneRead S.Source (table way.now.rules.now way.now.max_rows) lane.new }
 {
     lane.read = match Part::new(way.alloc, way.rules, way.max_rows) {
         Ok(mut part) => {
@@ -50,4 +59,23 @@ pub(crate) fn read_lane<S: Source>(way: &Way<'_>, lane: &mut Lane<S>)
         }
         Err(_) => None,
     };
+}
+
+// Reads what a source has left, and keeps nothing of it. Whether it met its end; else a read failed.
+pub(crate) fn skip<S: Source, R: Wait>(rt: &R, source: &mut S) -> bool
+    ensures grows { S.given source.new ≡ S.given source.old ++ given_since (S.given source.old) (S.given source.new) }
+    ensures whole { S.whole source.new ≡ S.whole source.old }
+    ensures forth { S.failures source.old ≤ S.failures source.new }
+    ensures met { result ≡ true → S.ends source.old < S.ends source.new }
+    ensures failed { result ≡ false → S.failures source.old < S.failures source.new }
+{
+    let mut room = [0; ROOM];
+    for _ in rt.forever() {
+        match source.read(&mut room) {
+            Ok(0) => return true,
+            Ok(_) => {}
+            Err(_) => return false,
+        }
+    }
+    unreachable!()
 }

@@ -1,6 +1,6 @@
 // What a thread reads of a source that may begin and end in the middle of a line.
 
-ghost use Rattle.std.specs.Prelude.{◌≡◌, ◌<◌, ◌++◌, [], List, ℕ, true, IfErr, IfNone, IfOk, IfSome, OnOk};
+ghost use Rattle.std.specs.Prelude.{◌≡◌, ◌≤◌, ◌<◌, ◌++◌, [], List, ℕ, true, IfErr, IfNone, IfOk, IfSome, OnOk};
 ghost use Rattle.ssb_records.specs.Lines.{AreLines, EndsInLf, IsPartOfLine};
 ghost use Rattle.ssb_records.specs.declared.fault.LoadFault.TheVariants as load;
 
@@ -126,6 +126,7 @@ impl Part {
         ensures subject { subject_of self.new.rows ≡ subject_of self.old.rows }
         ensures taken { OnOk result (IsPart self.new (given_since (S.given source.old) (S.given source.new))) }
         ensures ended { OnOk result (S.ends source.old < S.ends source.new) }
+        ensures forth { S.failures source.old ≤ S.failures source.new }
         ensures halts { IfErr result (HaltsAt self.new (given_since (S.given source.old) (S.given source.new))) }
         ensures broken { IfErr result (λ e. IfRead e (λ n. S.failures source.old < S.failures source.new)) }
     {

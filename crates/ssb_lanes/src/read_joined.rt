@@ -62,7 +62,8 @@ pub(crate) fn load_beside<S: Source + Send + Drop, R: Threads + Wait + Sync, F: 
 /// [`load_in_pieces`](ssb_load::load_in_pieces) over sources one after the other, where a table without a
 /// key is read in at most so many threads, the caller's among them, which may wait for each other: each takes
 /// the next source that no other has. The answer is the same. A table with a key is read by the caller's
-/// thread, and so is any table of one source, or of sources that were read before.
+/// thread, and so is any table of one source, or of sources that were read before. Where threads meet a
+/// fault, the sources are still read to their ends, or up to a read that fails.
 ///
 /// # Errors
 ///

@@ -1,3 +1,6 @@
+use denote.Param.Send.{sendable}
+use Rattle.std.proofs.Crossing.{crosses}
+use Rattle.ssb_lanes.proofs.Crossing.{joined_send}
 use Rattle.std.proofs.Common.{arith}
 use Rattle.ssb_lanes.specs.JoinedSource.{joined_source}
 use Rattle.ssb_lanes.proofs.BesideFacts.{ran-beside}
@@ -30,3 +33,6 @@ returns g c =
       lawful = ran-lawful joined_source 0 catalog before _ r ran;
       catalog = always-ok r c.fact_number-fact.ensures.catalog;
     }
+
+pub load_others_beside-first-requires-send-J : goal.load_others_beside-first-requires-send-J
+load_others_beside-first-requires-send-J g c κs within = search (joined_send, crosses, sendable) depth 20

@@ -2,4 +2,4 @@ use Rattle.ssb_lanes.proofs.BerthMoves.{begins}
 use Rattle.ssb_lanes.proofs.berth.new_berth.Goals as goal
 
 pub ruled-requires-clause-rule : goal.ruled-requires-clause-rule
-ruled-requires-clause-rule g c = begins g.S.Source.given g.S.Source.ends g.S.Source.whole
+ruled-requires-clause-rule g c = begins g.S.Source

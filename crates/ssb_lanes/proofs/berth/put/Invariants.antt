@@ -10,5 +10,5 @@ invariant-loop g l = record {
   same : IsSamePass l.fn.pass l.pass;
   known : view l.pass ≡ Some (known_of l.own);
   view : view l.pass ≡ view l.fn.pass;
-  kept : IsKept g.S.Source.given g.S.Source.ends g.S.Source.whole l.own;
+  kept : IsKept g.S.Source l.own;
 }

@@ -278,6 +278,7 @@ module _ {S : Type 0} {source : Source S} (c : List TableShape) (tables : List C
           some = λ e. cc e;
           calm = λ e. cc e;
           on = λ e. cc e;
+          met = λ e. record { ended = g.answer.ended; met = g.over g.answer.ended; rest = g.answer.rest };
           all = λ e. g.answer.none;
           stop = λ e. cc e;
           broken = λ e. cc e;
@@ -292,6 +293,7 @@ module _ {S : Type 0} {source : Source S} (c : List TableShape) (tables : List C
           some = λ e. cc e;
           calm = λ e. cc e;
           on = λ e. cc e;
+          met = λ e. cc e;
           all = λ e. cc e;
           stop = λ e. cc e;
           broken = λ e. g.answer.failed;
@@ -314,6 +316,7 @@ module _ {S : Type 0} {source : Source S} (c : List TableShape) (tables : List C
             some = λ e. refl;
             calm = λ e. g.answer.failures;
             on = λ e s n. n;
+            met = λ e. cc e;
             all = λ e. cc e;
             stop = λ e. cc e;
             broken = λ e. cc e;
@@ -328,6 +331,7 @@ module _ {S : Type 0} {source : Source S} (c : List TableShape) (tables : List C
             some = λ e. cc e;
             calm = λ e. cc e;
             on = λ e. cc e;
+            met = λ e. cc e;
             all = λ e. cc e;
             stop = λ e. cc e;
             broken = λ e. cc e;
@@ -356,6 +360,7 @@ module _ {S : Type 0} {source : Source S} (c : List TableShape) (tables : List C
         some = λ e. refl;
         calm = λ e. g.answer.failures;
         on = λ e s n. cc (goes, s);
+        met = λ e. cc e;
         all = λ e. cc e;
         stop = λ e. cc e;
         broken = λ e. cc e;
@@ -369,6 +374,7 @@ module _ {S : Type 0} {source : Source S} (c : List TableShape) (tables : List C
         some = λ e. cc e;
         calm = λ e. cc e;
         on = λ e. cc e;
+        met = λ e. cc e;
         all = λ e. cc e;
         stop = λ e. (ends, subst IsSome (sym first) (some-fault f told));
         broken = λ e. cc e;
@@ -382,6 +388,7 @@ module _ {S : Type 0} {source : Source S} (c : List TableShape) (tables : List C
         some = λ e. cc e;
         calm = λ e. cc e;
         on = λ e. cc e;
+        met = λ e. cc e;
         all = λ e. cc e;
         stop = λ e. cc e;
         broken = λ e. cc e;
@@ -416,6 +423,7 @@ module _ {S : Type 0} {source : Source S} (c : List TableShape) (tables : List C
       → IsSession c tables stops (record { first = h; end = e }) start next r0 r2 l0 l2
   session-ends stops turns start now next f h e r0 r1 r2 l0 l1 l2 s t = record {
     went = went-on (wrote_rows (Some e)) (wrote_lines (Some e)) start now next None f h r0 r1 r2 l0 l1 l2 s.went t.went;
+    met = λ is. t.met (ap Some is);
     all = λ is. input-all start now next s.went.fresh t.went.fresh s.went.statements t.went.statements s.went.cut (t.all (ap Some is)) t.went.quiet;
     stopped = λ is. stops-at s.went.outcomes t.went.outcomes (sym s.went.first ∙ s.none is) t.one;
     stop = λ is. t.stop (ap Some is);
@@ -426,6 +434,7 @@ module _ {S : Type 0} {source : Source S} (c : List TableShape) (tables : List C
       → IsSession c tables stops (record { first = f; end = end.Read }) start now r0 r1 l0 l1
   session-spent stops turns start now f r0 r1 l0 l1 spent s = record {
     went = s.went;
+    met = λ is. cc is;
     all = λ is. cc is;
     stopped = λ is. subst StopsAtFault (append-nil s.went.outcomes) (stops-at s.went.outcomes [] (sym s.went.first ∙ s.none is) (omega arith));
     stop = λ is. cc is;

@@ -94,11 +94,18 @@ pub record StopsAtFault (outcomes : List Outcome) : Type 0 where
   pub all : outcomes ≡ map Ok answers ++ last
   pub one : length last ≤ 1
 
+-- the source of some statements met its end, once at least, and no byte is left
+pub record HasMetEnd {S : Type 0} {source : Source S} (statements : Statements S source) : Type 0 where
+  pub ended : has_ended statements ≡ true
+  pub met : 0 < source.ends (source_of statements)
+  pub rest : ahead statements ≡ []
+
 -- What a session did.
 pub record IsSession {S : Type 0} {source : Source S} (c : List TableShape) (tables : List Columns) (stops : Bool) (r : Session) (old new : Statements S source)
     (rows_old rows_new lines_old lines_new : Desk) : Type 0 where
   pub went : Went c tables (wrote_rows (Some r.end)) (wrote_lines (Some r.end)) old new None r.first rows_old rows_new lines_old lines_new
-  -- where the input ended, the statements are all of it
+  -- where the input ended, its source met its end, nothing was left, and the statements are all of it
+  pub met : r.end ≡ end.Input → HasMetEnd new
   pub all : r.end ≡ end.Input → statements_of (ahead old ++ went.fresh) ≡ went.statements
   -- where the first fault is to end it, no statement behind that is answered; else no fault ends it
   pub stopped : stops ≡ true → StopsAtFault went.outcomes

@@ -11,7 +11,7 @@ use Rattle.ssb_rows.specs.declared.fault.AnswerFault.TheVariants as answer
 use Rattle.ssb_statements.specs.Telling.{ahead, source_of}
 use Rattle.ssb_statements.specs.declared.statements.Statements.{Statements}
 use Rattle.ssb_tokens.specs.Statements.{statements_of}
-use Rattle.ssb_answer.specs.Session.{AnswersStatement, Desk, Outcome, Went, wrote_lines, wrote_rows}
+use Rattle.ssb_answer.specs.Session.{AnswersStatement, Desk, HasMetEnd, Outcome, Went, wrote_lines, wrote_rows}
 use Rattle.ssb_answer.specs.Writing.{Writes}
 use Rattle.ssb_answer.specs.declared.session.SessionEnd.{SessionEnd}
 use Rattle.ssb_answer.specs.declared.session.SessionEnd.TheVariants as end
@@ -41,6 +41,7 @@ pub record Turned {S : Type 0} {source : Source S} (c : List TableShape) (tables
   pub some : r ≡ None → length went.outcomes ≡ 1
   pub calm : r ≡ None → source.failures (source_of new) ≡ source.failures (source_of old)
   pub on : r ≡ None → stops ≡ true → first_old ≡ None → first_new ≡ None
+  pub met : r ≡ Some end.Input → HasMetEnd new
   pub all : r ≡ Some end.Input → statements_of (ahead old ++ went.fresh) ≡ went.statements
   pub stop : r ≡ Some end.Stop → (stops ≡ true) × IsSome first_new
   pub broken : r ≡ Some end.Read → (source.failures (source_of old) < source.failures (source_of new)) ⊎ (2 ^ 64 ≤ length went.fresh + 1)

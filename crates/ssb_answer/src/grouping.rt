@@ -14,8 +14,8 @@ use std::alloc::{AllocError, Global};
 use std::sync::{Arc, Wait};
 use std::thread::Threads;
 
-// One part for each section of the morsels, and one pass for each worker; what the workers leave is done
-// in this thread.
+// One part for each section of the morsels, and one pass for each worker, of whom there are as many as morsels
+// at the most; what the workers leave is done in this thread.
 pub(crate) fn group_shared<R: Threads + Wait + Sync, G: Gate + Sync>(
     rt: &R,
     alloc: Global,
@@ -32,6 +32,8 @@ pub(crate) fn group_shared<R: Threads + Wait + Sync, G: Gate + Sync>(
         parts,
         batch,
     } = settings;
+    // A worker that finds no morsel costs a thread for nothing.
+    let workers = workers.min(job.fact_rows().div_ceil(morsel_size)).max(1);
     let shared = Arc::try_clone(job)?;
     let (parts, mut passes) = Parts::open(rt, alloc, shared, morsel_size, parts, workers as usize)?;
     run_batches(rt, &parts, passes.as_mut_slice(), batch, gate);

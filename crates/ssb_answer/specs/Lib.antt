@@ -1,6 +1,5 @@
 pub mod Asking
 pub mod Database
-pub mod Readers
 pub mod Session
 pub mod SessionStep
 pub mod Showing
@@ -14,7 +13,6 @@ pub use Rattle.ssb_lanes.specs.Sections
 pub use Rattle.ssb_load.specs.Files
 pub use Rattle.ssb_load.specs.Loading
 pub use Rattle.ssb_records.specs.Giving
-pub use Rattle.ssb_records.specs.Readers as RecordReaders
 pub use Rattle.ssb_reply.specs.FaultLine
 pub use Rattle.ssb_reply.specs.Reply
 pub use Rattle.ssb_reply.specs.Running

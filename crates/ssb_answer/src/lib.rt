@@ -6,8 +6,8 @@
 //! - Callers: the program; embedders.
 //! - Files: `database`, `session`; `show`: for people; `whole`, `grouping`: by workers; `alone`: in the caller's thread;
 //!   `readers`, `bytes`, `law`.
-//! - Definitions: `Database`, `Session`, `Showing`, `Asking`, `Writing`, `Readers`; the reply that a run owes is
-//!   handed on from the crate below. `SessionStep`, `ShownStep`: for the contracts inside.
+//! - Definitions: `Database`, `Session`, `Showing`, `Asking`, `Writing`; the reply that a run owes is handed
+//!   on from the crate below. `SessionStep`, `ShownStep`: for the contracts inside.
 #![tactic(auto)]
 
 mod alone;

@@ -1,12 +1,9 @@
 // The whole path over readers of std.
 
 ghost use Rattle.std.specs.Prelude.{◌≡◌, ◌<◌, [], IfOk, List, Some, length, map, vec_len};
-ghost use Rattle.std.specs.List.{AllZip};
-ghost use Rattle.ssb_answer.specs.Readers.{IsJoinedOf, IsMemoryOr, WereRead};
 ghost use Rattle.ssb_load.specs.Files.{Bytes};
-ghost use Rattle.ssb_records.specs.Readers.{IsMadeOf};
 ghost use Rattle.ssb_reply.specs.Reply.{Replies};
-ghost use Rattle.ssb_reply.specs.Running.{LeavesSink, RunsFrom};
+ghost use Rattle.ssb_reply.specs.Running.{LeavesSink};
 
 use crate::alone::run_alone_from;
 use crate::whole::run_from;
@@ -25,7 +22,6 @@ use std::thread::Threads;
 fn sources_of<R: Read + Drop>(alloc: Global, readers: Vec<R>) -> Result<Vec<In<R>>, AllocError>
     ensures whole { IfOk result (λ sources. map ⟦<In<R> as Source>⟧.whole sources.items ≡ map R.remaining readers.items) }
     ensures given { IfOk result (λ sources. map ⟦<In<R> as Source>⟧.given sources.items ≡ map (λ r. []) readers.items) }
-    ensures made { IfOk result (λ sources. AllZip IsMadeOf readers.items sources.items) }
 {
     let mut sources = Vec::new(alloc);
     for reader in readers {
@@ -38,7 +34,6 @@ fn sources_of<R: Read + Drop>(alloc: Global, readers: Vec<R>) -> Result<Vec<In<R
 fn joined<R: Read + Drop>(alloc: Global, reader: R) -> Result<Joined<In<R>>, AllocError>
     ensures whole { IfOk result (λ source. ⟦<Joined<In<R>> as Source>⟧.whole source ≡ R.remaining reader) }
     ensures given { IfOk result (λ source. ⟦<Joined<In<R>> as Source>⟧.given source ≡ []) }
-    ensures made { IfOk result (IsJoinedOf reader) }
 {
     let mut sources = Vec::new(alloc);
     sources.push(In::new(reader))?;
@@ -52,7 +47,6 @@ fn joined_of<R: Read + Drop>(
 ) -> Result<Vec<Joined<In<R>>>, AllocError>
     ensures whole { IfOk result (λ sources. map ⟦<Joined<In<R>> as Source>⟧.whole sources.items ≡ map R.remaining readers.items) }
     ensures given { IfOk result (λ sources. map ⟦<Joined<In<R>> as Source>⟧.given sources.items ≡ map (λ r. []) readers.items) }
-    ensures made { IfOk result (λ sources. AllZip IsJoinedOf readers.items sources.items) }
 {
     let mut sources = Vec::new(alloc);
     for reader in readers {
@@ -66,7 +60,8 @@ fn joined_of<R: Read + Drop>(
 ///
 /// # Errors
 ///
-/// As of [`run_alone_from`](crate::run_alone_from).
+/// As of [`run_alone_from`](crate::run_alone_from); but a reader of std counts no failed read, so no clause
+/// keeps a `Load` with `Read` to those.
 pub fn run_alone<R: Read + Drop, W: Sink>(
     alloc: Global,
     catalog: Catalog,
@@ -78,7 +73,7 @@ pub fn run_alone<R: Read + Drop, W: Sink>(
     requires readers { vec_len readers ≡ length catalog }
     requires size { 0 < morsel_size }
     ensures replies { (files : List Bytes) → map R.remaining readers.items ≡ map Some files → Replies catalog files text.now result (W.taken out.old) (W.taken out.new) }
-    ensures read { let source = ⟦<In<R> as Source>⟧ in IsMemoryOr result (WereRead IsMadeOf readers.items (λ before after. RunsFrom source.given source.failures source.ends source.whole catalog text.now before after result (W.taken out.old) (W.taken out.new))) }
+    ensures some { (files : List Bytes) × Replies catalog files text.now result (W.taken out.old) (W.taken out.new) }
     ensures sink { LeavesSink result (W.taken out.old) (W.taken out.new) (W.failures out.old) (W.failures out.new) (W.contents out.old) (W.contents out.new) }
 {
     let Ok(mut sources) = sources_of(alloc, readers) else {
@@ -100,7 +95,7 @@ pub fn run_alone<R: Read + Drop, W: Sink>(
 ///
 /// # Errors
 ///
-/// As of [`run_alone_from`](crate::run_alone_from).
+/// As of [`run_alone`].
 pub fn run<T: Threads + Wait + Sync, R: Read + Drop + Send, G: Gate + Sync, W: Sink>(
     rt: &T,
     alloc: Global,
@@ -113,7 +108,7 @@ pub fn run<T: Threads + Wait + Sync, R: Read + Drop + Send, G: Gate + Sync, W: S
 ) -> Result<(), RunFault>
     requires readers { vec_len readers ≡ length catalog }
     ensures replies { (files : List Bytes) → map R.remaining readers.items ≡ map Some files → Replies catalog files text.now result (W.taken out.old) (W.taken out.new) }
-    ensures read { let source = ⟦<Joined<In<R>> as Source>⟧ in IsMemoryOr result (WereRead IsJoinedOf readers.items (λ before after. RunsFrom source.given source.failures source.ends source.whole catalog text.now before after result (W.taken out.old) (W.taken out.new))) }
+    ensures some { (files : List Bytes) × Replies catalog files text.now result (W.taken out.old) (W.taken out.new) }
     ensures sink { LeavesSink result (W.taken out.old) (W.taken out.new) (W.failures out.old) (W.failures out.new) (W.contents out.old) (W.contents out.new) }
 {
     let Ok(mut sources) = joined_of(alloc, readers) else {

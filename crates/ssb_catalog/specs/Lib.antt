@@ -6,7 +6,6 @@ pub mod Drafting
 pub mod Listing
 pub mod Shapes
 pub use Rattle.ssb_records.specs.CutShort
-pub use Rattle.ssb_records.specs.Readers
 pub use Rattle.ssb_records.specs.Records
 pub use Rattle.ssb_terms.specs.Names
 pub use Rattle.ssb_terms.specs.Roles

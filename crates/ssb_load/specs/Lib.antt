@@ -15,7 +15,6 @@ pub use Rattle.ssb_cells.specs.Lawful
 pub use Rattle.ssb_cells.specs.Tables as CellTables
 pub use Rattle.ssb_records.specs.CutShort
 pub use Rattle.ssb_records.specs.Giving
-pub use Rattle.ssb_records.specs.Readers
 pub use Rattle.ssb_records.specs.Records
 pub use Rattle.ssb_records.specs.declared.fault.LoadFault
 pub use Rattle.ssb_records.specs.declared.fault.RecordFault

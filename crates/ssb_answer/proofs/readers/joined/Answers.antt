@@ -1,5 +1,5 @@
 use Rattle.std.proofs.Common.{ap}
-use Rattle.ssb_answer.proofs.Fresh.{made-alone, told-alone}
+use Rattle.ssb_answer.proofs.Fresh.{told-alone}
 use Rattle.ssb_answer.proofs.readers.joined.Goals as goal
 
 pub returns-clause-whole : goal.returns-clause-whole
@@ -7,8 +7,3 @@ returns-clause-whole g c = told-alone _ _ _ _ _ _ _ c.new-sources.ensures.items 
 
 pub returns-clause-given : goal.returns-clause-given
 returns-clause-given g c = c.new-2.ensures.given
-
-pub returns-clause-made : goal.returns-clause-made
-returns-clause-made g c =
-    let n = c.new.ensures in
-    made-alone _ _ _ _ _ (record { begun = n.begun; given = n.given; failed = n.failed; ended = n.ended }) c.new-sources.ensures.items c.in_ok-push.ensures.items c.new-2.ensures.sources c.new-2.ensures.failed c.new-2.ensures.ended

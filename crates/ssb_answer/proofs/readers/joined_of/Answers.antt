@@ -1,5 +1,4 @@
-use Rattle.ssb_answer.specs.Readers.{IsJoinedOf}
-use Rattle.ssb_answer.proofs.Fresh.{maps-more, zip-more}
+use Rattle.ssb_answer.proofs.Fresh.{maps-more}
 use Rattle.ssb_answer.proofs.readers.joined_of.Goals as goal
 
 pub loop-reader-preserved : goal.loop-reader-preserved
@@ -9,5 +8,4 @@ loop-reader-preserved g c =
     rw c.in_ok-push.ensures.items (record {
       whole = maps-more _ g.R.Read.remaining l.sources.items l.yielded one.field-0 c.in-Some.reader l.invariant.whole one.ensures.whole;
       given = maps-more _ _ l.sources.items l.yielded one.field-0 c.in-Some.reader l.invariant.given one.ensures.given;
-      made = zip-more IsJoinedOf l.yielded l.sources.items c.in-Some.reader one.field-0 l.invariant.made one.ensures.made;
     })

@@ -1,6 +1,5 @@
 use Rattle.std.proofs.Common.{ap}
-use Rattle.ssb_records.specs.Readers.{IsMadeOf}
-use Rattle.ssb_answer.proofs.Fresh.{maps-more, zip-more}
+use Rattle.ssb_answer.proofs.Fresh.{maps-more}
 use Rattle.ssb_answer.proofs.readers.sources_of.Goals as goal
 
 pub loop-reader-preserved : goal.loop-reader-preserved
@@ -10,5 +9,4 @@ loop-reader-preserved g c =
     rw c.in_ok-push.ensures.items (record {
       whole = maps-more _ g.R.Read.remaining l.sources.items l.yielded c.new.result c.in-Some.reader l.invariant.whole (ap g.R.Read.remaining n.begun);
       given = maps-more _ _ l.sources.items l.yielded c.new.result c.in-Some.reader l.invariant.given n.given;
-      made = zip-more IsMadeOf l.yielded l.sources.items c.in-Some.reader c.new.result l.invariant.made (record { begun = n.begun; given = n.given; failed = n.failed; ended = n.ended });
     })

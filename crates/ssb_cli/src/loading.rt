@@ -77,31 +77,42 @@ struct Loading<'a, 'b> {
     progress: &'b Progress<'b>,
 }
 
-// Loads tables, and says that this is over.
-fn load_and_end<'a, R: AllocGlobal + Threads + Wait + Sync>(
-    rt: &R,
-    loading: &Loading<'a, '_>,
-    sources: &mut [Joined<Counted<'_, Section<File>>>],
-) -> Result<Database<'a>, FileFault>
-    requires { length sources.old ≡ length loading.now.catalog.now }
-{
-    let loaded = Database::load(rt, rt.alloc(), loading.catalog, sources, loading.settings);
-    loading.progress.is_over.store(true, Ordering::SeqCst);
-    loaded
+// What tables are loaded of. A load beside its progress is written for any such sources: so the prover need not
+// look through these to see that they may go to another thread.
+trait Loads: Sized {
+    // Loads tables, and says that this is over.
+    fn load_and_end<'a, R: AllocGlobal + Threads + Wait + Sync>(
+        rt: &R,
+        loading: &Loading<'a, '_>,
+        sources: &mut [Self],
+    ) -> Result<Database<'a>, FileFault>
+        requires { IsSync R.row × (length sources.old ≡ length loading.now.catalog.now) };
+}
+
+impl Loads for Joined<Counted<'_, Section<File>>> {
+    fn load_and_end<'a, R: AllocGlobal + Threads + Wait + Sync>(
+        rt: &R,
+        loading: &Loading<'a, '_>,
+        sources: &mut [Self],
+    ) -> Result<Database<'a>, FileFault> {
+        let loaded = Database::load(rt, rt.alloc(), loading.catalog, sources, loading.settings);
+        loading.progress.is_over.store(true, Ordering::SeqCst);
+        loaded
+    }
 }
 
 // Loads tables in a thread beside this one, which shows how far it is. Where no thread can be made, the load
 // comes first, and there is nothing to show.
-fn load_shown<'a, R: Eprint + AllocGlobal + Threads + Wait + Clock + Sync>(
+fn load_shown<'a, J: Loads + Send, R: Eprint + AllocGlobal + Threads + Wait + Clock + Sync>(
     rt: &R,
     loading: &Loading<'a, '_>,
-    sources: &mut [Joined<Counted<'_, Section<File>>>],
+    sources: &mut [J],
 ) -> Result<Database<'a>, FileFault>
     requires { length sources.old ≡ length loading.now.catalog.now }
 {
     let mut load = || -> Result<Database, FileFault>
         requires { IsSync R.row × (length sources.now ≡ length loading.now.catalog.now) }
-    { load_and_end(rt, loading, sources) };
+    { J::load_and_end(rt, loading, sources) };
     let mut watch = || loading.progress.watch(rt);
     join_mut(rt, &mut load, &mut watch).0
 }

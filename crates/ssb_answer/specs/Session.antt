@@ -1,6 +1,6 @@
 -- A session: each statement of an input is answered over tables that were loaded once, one after the other.
 -- Source: own.
-use Rattle.std.specs.Prelude.{◌≡◌, ◌<◌, ◌≤◌, ◌+◌, ◌^◌, ◌⊎◌, ◌++◌, [], ◌∷◌, ℕ, Bool, true, false, List, Option, None, Some, Result, Ok, Err, IsSome, IsUtf8, length, map}
+use Rattle.std.specs.Prelude.{◌≡◌, ◌<◌, ◌≤◌, ◌+◌, ◌^◌, ◌⊎◌, ◌++◌, [], ◌∷◌, ℕ, Bool, true, false, List, Option, None, Some, Result, Ok, Err, IfSome, IsSome, IsUtf8, length, map}
 use Rattle.std.specs.List.{AllZip, flat_map}
 use Rattle.ssb_catalog.specs.Shapes.{TableShape}
 use Rattle.ssb_cells.specs.Tables.{Columns}
@@ -122,3 +122,13 @@ told (Err f) = Err f
 abbrev pub OutcomesAreReplies : Type 0
 OutcomesAreReplies = (c : List TableShape) (files : List Bytes) (tables : List Columns) (s : Bytes) (r : Outcome) (old : Bytes) → loaded c files ≡ Ok tables → IsUtf8 s → AnswersStatement c tables s r
     → Replies c files s (told r) old (old ++ rows_text r)
+
+-- statements are those of all bytes that a source gave, and of all its bytes, where it tells them
+pub record AreOfAll {S : Type 0} (source : Source S) (statements : List Bytes) (s : S) : Type 0 where
+  pub given : statements ≡ statements_of (source.given s)
+  pub told : IfSome (source.whole s) (λ all. statements ≡ statements_of all)
+
+-- where a session ends with its input, over a source that had given nothing, its statements are those of all bytes
+abbrev pub SessionsAreWhole : {S : Type 0} → Source S → Type 0
+SessionsAreWhole {S = S} source = (c : List TableShape) (tables : List Columns) (stops : Bool) (r : Session) (old new : Statements S source) (rows_old rows_new lines_old lines_new : Desk)
+    → (is : IsSession c tables stops r old new rows_old rows_new lines_old lines_new) → r.end ≡ end.Input → ahead old ≡ [] → source.given (source_of old) ≡ [] → AreOfAll source is.went.statements (source_of new)

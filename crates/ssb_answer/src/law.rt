@@ -1,7 +1,10 @@
-// What is answered over tables that were loaded once is the reply to the files that they were loaded of.
+// Laws of a database and its sessions: what is answered over tables that were loaded once is the reply to the
+// files that they were loaded of, and no statement is left out.
 
 ghost use Rattle.ssb_answer.specs.Database.{RepliesOfFiles};
-ghost use Rattle.ssb_answer.specs.Session.{OutcomesAreReplies};
+ghost use Rattle.ssb_answer.specs.Session.{OutcomesAreReplies, SessionsAreWhole};
+
+use ssb_records::Source;
 
 /// A law: a reply over the tables that were loaded of files is the reply to those files.
 pub fn replies_of_files()
@@ -12,4 +15,10 @@ pub fn replies_of_files()
 /// own over these files.
 pub fn outcomes_are_replies()
     ensures { OutcomesAreReplies }
+{}
+
+/// A law: where a session ends with its input, over statements of a source that had given nothing, its
+/// statements are those of all bytes that the source gave; where it tells its bytes, of all of them.
+pub fn sessions_are_whole<S: Source>()
+    ensures { SessionsAreWhole S.Source }
 {}

@@ -23,7 +23,7 @@ mod whole;
 pub use alone::{answer_job, run_alone_from};
 pub use bytes::answer_bytes;
 pub use database::Database;
-pub use law::{outcomes_are_replies, replies_of_files};
+pub use law::{outcomes_are_replies, replies_of_files, sessions_are_whole};
 pub use readers::{run, run_alone};
 pub use session::{Session, SessionEnd, answer_each};
 pub use show::{Laps, NoLaps, Step, plain_shows_replies};

@@ -107,7 +107,7 @@ fn announce<P: Prompts>(prompts: &mut P, is_over: bool, position: &Position) {
 }
 
 impl<S: Source, P: Prompts> Script<S, P> {
-    ghost use Rattle.ssb_statements.specs.Scripts.{Comes, Refills, TakesByte, TakesLine, line_of, source_in, stretch, waiting};
+    ghost use Rattle.ssb_statements.specs.Scripts.{Comes, Refills, TakesByte, TakesLine, has_met_end, line_of, source_in, stretch, waiting};
 
     /// What a source gives from now on.
     ///
@@ -137,6 +137,12 @@ impl<S: Source, P: Prompts> Script<S, P> {
             ended: History::new(),
         })
     }
+
+    /// A law: where a stretch has met its end, as a source, the next byte begins a command, or none is left and
+    /// the script's own source met its end.
+    pub fn stretches_are_whole(&self)
+        ensures { 0 < ⟦<Script<S, P> as Source>⟧.ends self.now → EndsBefore (stretch self.now) (waiting self.now) (has_met_end self.now) }
+    {}
 
     /// The command told last, without its line feed: its first 4,096 bytes.
     pub fn line(&self) -> &[u8]
@@ -216,8 +222,8 @@ impl<S: Source, P: Prompts> Script<S, P> {
     ///
     /// # Errors
     ///
-    /// `SourceFault` where a read failed, and where one line goes on for 2 ^ 64 - 1 bytes. No byte is lost then:
-    /// what came of a command is its `line`, and all else still waits.
+    /// `SourceFault` where a read failed, and where one line goes on for 2 ^ 64 - 1 bytes. Of a command that has
+    /// begun `line` gives what came then, its first 4,096 bytes; all other bytes still wait.
     pub fn next(&mut self) -> Result<Next, SourceFault>
         ensures { Comes self.old result self.new }
     {

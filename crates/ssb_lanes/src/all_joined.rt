@@ -229,7 +229,8 @@ fn load_others_beside<S: Source + Send + Drop, J: Source + Send, R: Threads + Wa
 /// [`load_all`](ssb_load::load_all) over at most so many threads, the caller's among them, which may wait for
 /// each other: the fact table is loaded as [`load_with`](crate::load_with) does, and one of the threads loads
 /// the other tables, after what it reads of the fact table; where that is not divided, a second thread does.
-/// One thread is the caller's alone.
+/// One thread is the caller's alone. Where threads meet a fault, the fact table's sources are still read to their
+/// ends, or up to a read that fails.
 ///
 /// # Errors
 ///

@@ -78,6 +78,7 @@ impl<S: Source + Drop> Joined<S> {
     pub fn new(alloc: Global, sources: Vec<S>) -> Result<Joined<S>, AllocError>
         requires { All (λ s. S.given s ≡ []) sources.items }
         ensures sources { IfOk result (λ j. sources_in j.lanes.items ≡ sources.items) }
+        ensures unread { IfOk result (λ j. All (IsUnread S.given) j.lanes.items) }
         ensures given { IfOk result (λ j. given_upto S.given j.at (sources_in j.lanes.items) ≡ []) }
         ensures failed { IfOk result (λ j. j.failed.items ≡ []) }
         ensures ended { IfOk result (λ j. j.ended.items ≡ []) }

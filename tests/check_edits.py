@@ -36,12 +36,12 @@ WRONG_BODIES = {
         "finish_computes_anew", "finish_takes_and_computes_anew", "give_back_always_strange", "good_partial_dropped", "hand_out_always_none",
         "last_morsel_skipped", "marked_unmerged", "morsels_overlap", "partial_of_no_row", "partial_of_other_morsel",
         "put_drops_due", "put_stores_an_opening_part", "returned_twice", "run_workers_does_nothing",
-        "section_left_out", "take_gives_foreign_part", "take_gives_opening_part", "ticket_dropped",
+        "section_left_out", "sweep_of_a_whole_part_refused", "take_gives_foreign_part", "take_gives_opening_part", "ticket_dropped",
         "two_passes_due_the_same", "worker_drops_a_ticket", "worker_ends_before_its_sections",
         "worker_stops_after_one",
     ),
     "ssb_rows": ("empty_sum_is_zero", "ties_by_arrival"),
-    "ssb_answer": ("rows_before_overflow",),
+    "ssb_answer": ("rows_before_overflow", "session_does_nothing"),
 }
 
 GOAL_LINE = re.compile(r"# goal: (\S+) (\S+)")

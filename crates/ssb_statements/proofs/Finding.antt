@@ -4,9 +4,9 @@ use Rattle.std.proofs.lemmas.List.{append-nil, drop_all, drop-take, length-take}
 use Rattle.ssb_tokens.specs.Statements.{statements_from, statements_of}
 use Rattle.ssb_statements.specs.Cutting.{GoesOn, HasEnd, cut, cut_from}
 use Rattle.ssb_statements.specs.Telling.{IsCut}
-use Rattle.ssb_statements.specs.declared.cutter.Cutter.{Cutter}
-use Rattle.ssb_statements.specs.declared.cutter.Place.{Place}
-use Rattle.ssb_statements.specs.declared.cutter.Place.TheVariants.{Plain, Dash, Literal, Comment}
+use Rattle.ssb_statements.specs.declared.boundary.Boundary.{Boundary}
+use Rattle.ssb_statements.specs.declared.boundary.Place.{Place}
+use Rattle.ssb_statements.specs.declared.boundary.Place.TheVariants.{Plain, Dash, Literal, Comment}
 use Rattle.ssb_statements.proofs.Steps.{if_any-put}
 
 abbrev nil : List ℕ
@@ -29,7 +29,7 @@ pub none-behind : (e : ℕ) (xs : List ℕ) → drop e (take e xs) ≡ []
 none-behind e xs = drop_all e (take e xs) (omega (arith, length-take e xs))
 
 -- the end of the next statement is in the piece
-pub finds-next : (taken now piece bytes : List ℕ) (a e n : ℕ) (old new : Cutter) → ((more : List ℕ) → statements_of (taken ++ more) ≡ cut old more) → bytes ≡ drop a (take e piece) → HasEnd old bytes (drop n bytes) new → now ≡ []
+pub finds-next : (taken now piece bytes : List ℕ) (a e n : ℕ) (old new : Boundary) → ((more : List ℕ) → statements_of (taken ++ more) ≡ cut old more) → bytes ≡ drop a (take e piece) → HasEnd old bytes (drop n bytes) new → now ≡ []
     → IsCut (taken ++ drop a (take e piece)) new.so_far.items (now ++ drop (a + n) (take e piece))
 finds-next taken now piece bytes a e n old new known is has none more =
     let d = drop a (take e piece) in
@@ -40,7 +40,7 @@ finds-next taken now piece bytes a e n old new known is has none more =
 pub takes-rest : (taken now piece bytes : List ℕ) (a e : ℕ) → bytes ≡ drop a (take e piece) → now ≡ taken ++ bytes → now ++ drop e (take e piece) ≡ taken ++ drop a (take e piece)
 takes-rest taken now piece bytes a e is more = ap (λ t. now ++ t) (none-behind e piece) ∙ append-nil now ∙ more ∙ ap (λ t. taken ++ t) is
 
-pub goes-on : (taken rest bytes : List ℕ) (old new : Cutter) → ((more : List ℕ) → statements_of (taken ++ more) ≡ cut old more) → bytes ≡ rest → GoesOn old bytes new → (more : List ℕ) → statements_of ((taken ++ rest) ++ more) ≡ cut new more
+pub goes-on : (taken rest bytes : List ℕ) (old new : Boundary) → ((more : List ℕ) → statements_of (taken ++ more) ≡ cut old more) → bytes ≡ rest → GoesOn old bytes new → (more : List ℕ) → statements_of ((taken ++ rest) ++ more) ≡ cut new more
 goes-on taken rest bytes old new known is goes more = ap (λ b. statements_of ((taken ++ b) ++ more)) (sym is) ∙ ap statements_of (append_assoc taken bytes more) ∙ known (bytes ++ more) ∙ goes.same more
 
 -- ---- no statement has its end where one more byte may belong to it
@@ -71,5 +71,5 @@ no-end-yet Literal (x ∷ xs) s rest h = one-more Literal x xs s rest h refl ref
 no-end-yet Comment [] s rest h = not-nil s _ (h [])
 no-end-yet Comment (x ∷ xs) s rest h = one-more Comment x xs s rest h refl refl
 
-pub is-not-cut : (text : List ℕ) (new : Cutter) → ((more : List ℕ) → statements_of (text ++ more) ≡ cut new more) → (s rest : List ℕ) → IsCut text s rest → ⊥
+pub is-not-cut : (text : List ℕ) (new : Boundary) → ((more : List ℕ) → statements_of (text ++ more) ≡ cut new more) → (s rest : List ℕ) → IsCut text s rest → ⊥
 is-not-cut text new goes s rest h = no-end-yet new.place new.so_far.items s (λ more. statements_of (rest ++ more)) (λ more. sym (goes more) ∙ h more)

@@ -12,7 +12,7 @@ use Rattle.ssb_statements.specs.Parting.{EndsBefore, HasNoCommand, IsAtCommand, 
 use Rattle.ssb_statements.proofs.Finding.{drop-drop}
 use Rattle.ssb_statements.specs.Scripts.{Comes, IsLine, IsQuiet, Refills, TakesByte, TakesLine, has_met_end, source_in, stretch, waiting}
 use Rattle.ssb_statements.specs.declared.input.Input.{Input}
-use Rattle.ssb_statements.specs.declared.line.Line.{Line}
+use Rattle.ssb_statements.specs.declared.prefix.Prefix.{Prefix}
 use Rattle.ssb_statements.specs.declared.script.Next.TheVariants.{Command, End, Statements}
 use Rattle.ssb_statements.specs.declared.script.Script.{Script}
 
@@ -169,7 +169,7 @@ module _ {S P : Type 0} {source : Source S} where
 
   read-same : (old now mid : Script S P source) (n : ℕ) (result : Result (Unit {0}) SourceFault) (l : LineAt n old now) (r : Refills now result mid) → mid.line.all.items ++ waiting mid ≡ waiting old ++ (l.fresh ++ r.fresh)
   read-same old now mid n result l r =
-      ap (λ (i : Line). i.all.items ++ waiting mid) r.line ∙ ap (λ t. now.line.all.items ++ t) r.bytes ∙ sym (append_assoc now.line.all.items (waiting now) r.fresh)
+      ap (λ (i : Prefix). i.all.items ++ waiting mid) r.line ∙ ap (λ t. now.line.all.items ++ t) r.bytes ∙ sym (append_assoc now.line.all.items (waiting now) r.fresh)
       ∙ ap (λ t. t ++ r.fresh) l.same ∙ append_assoc (waiting old) l.fresh r.fresh
 
   pub line-stopped : (old now mid : Script S P source) (n : ℕ) (e : SourceFault) → LineAt n old now → Refills now (Err e) mid → TakesLine old (Err e) mid
@@ -178,7 +178,7 @@ module _ {S P : Type 0} {source : Source S} where
     given = read-given old now mid n (Err e) l r;
     taken = record {
       failed = inl (omega (arith, r.failures, l.failures));
-      part = subst (λ (i : Line). IsPartOfLine i.all.items) (sym r.line) l.part;
+      part = subst (λ (i : Prefix). IsPartOfLine i.all.items) (sym r.line) l.part;
       kept = sym (read-same old now mid n (Err e) l r);
     };
     anew = r.same ∙ l.anew;
@@ -198,8 +198,8 @@ module _ {S P : Type 0} {source : Source S} where
 
   pub line-over : (old now mid new : Script S P source) (n : ℕ) → LineAt n old now → Refills now (Ok tt) mid → TakesByte mid None new → TakesLine old (Ok tt) new
   line-over old now mid new n l r t =
-      let line : new.line.all.items ≡ mid.line.all.items = ap (λ (i : Line). i.all.items) t.line in
-      let part : IsPartOfLine mid.line.all.items = subst (λ (i : Line). IsPartOfLine i.all.items) (sym r.line) l.part in
+      let line : new.line.all.items ≡ mid.line.all.items = ap (λ (i : Prefix). i.all.items) t.line in
+      let part : IsPartOfLine mid.line.all.items = subst (λ (i : Prefix). IsPartOfLine i.all.items) (sym r.line) l.part in
       let all : waiting old ++ (l.fresh ++ r.fresh) ≡ new.line.all.items =
       sym (read-same old now mid n (Ok tt) l r) ∙ ap (λ w. mid.line.all.items ++ w) t.byte.0 ∙ append-nil mid.line.all.items ∙ sym line in
       record {
@@ -213,8 +213,8 @@ module _ {S P : Type 0} {source : Source S} where
 
   pub line-ended : (old now mid new : Script S P source) (n b : ℕ) → b ≡ 10 → LineAt n old now → Refills now (Ok tt) mid → TakesByte mid (Some b) new → TakesLine old (Ok tt) new
   line-ended old now mid new n b is l r t =
-      let line : new.line.all.items ≡ mid.line.all.items = ap (λ (i : Line). i.all.items) t.line in
-      let part : IsPartOfLine mid.line.all.items = subst (λ (i : Line). IsPartOfLine i.all.items) (sym r.line) l.part in
+      let line : new.line.all.items ≡ mid.line.all.items = ap (λ (i : Prefix). i.all.items) t.line in
+      let part : IsPartOfLine mid.line.all.items = subst (λ (i : Prefix). IsPartOfLine i.all.items) (sym r.line) l.part in
       record {
         fresh = l.fresh ++ r.fresh;
         given = ap (λ (i : Input S source). source.given i.source) t.input ∙ read-given old now mid n (Ok tt) l r;
@@ -230,8 +230,8 @@ module _ {S P : Type 0} {source : Source S} where
   pub line-more : (old now mid new last : Script S P source) (n b : ℕ) → (b ≡ 10 → ⊥) → LineAt n old now → Refills now (Ok tt) mid → TakesByte mid (Some b) new
       → last.input ≡ new.input → waiting last ≡ waiting new → stretch last ≡ stretch new → last.line.all.items ≡ new.line.all.items ++ b ∷ [] → LineAt (n + 1) old last
   line-more old now mid new last n b not l r t input bytes same more =
-      let line : new.line.all.items ≡ mid.line.all.items = ap (λ (i : Line). i.all.items) t.line in
-      let was : mid.line.all.items ≡ now.line.all.items = ap (λ (i : Line). i.all.items) r.line in
+      let line : new.line.all.items ≡ mid.line.all.items = ap (λ (i : Prefix). i.all.items) t.line in
+      let was : mid.line.all.items ≡ now.line.all.items = ap (λ (i : Prefix). i.all.items) r.line in
       let now-line : last.line.all.items ≡ now.line.all.items ++ b ∷ [] = more ∙ ap (λ x. x ++ b ∷ []) (line ∙ was) in
       record {
         fresh = l.fresh ++ r.fresh;

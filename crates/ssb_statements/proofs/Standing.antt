@@ -4,12 +4,12 @@ use Rattle.std.proofs.lemmas.List.{append-nil, length-take, take-append-le, take
 use Rattle.ssb_tokens.specs.Statements.{statements_from, statements_of}
 use Rattle.ssb_statements.specs.Cutting.{GoesOn, IsClear, Passes, cut, cut_from}
 use Rattle.ssb_statements.specs.Parting.{HasNoCommand, IsBeforeCommand, begins_line}
-use Rattle.ssb_statements.specs.declared.cutter.Cutter.{Cutter}
-use Rattle.ssb_statements.specs.declared.cutter.Place.{Place}
-use Rattle.ssb_statements.specs.declared.cutter.Place.TheVariants.{Plain, Dash, Literal, Comment}
+use Rattle.ssb_statements.specs.declared.boundary.Boundary.{Boundary}
+use Rattle.ssb_statements.specs.declared.boundary.Place.{Place}
+use Rattle.ssb_statements.specs.declared.boundary.Place.TheVariants.{Plain, Dash, Literal, Comment}
 
 -- so many statements have ended in these bytes, and the rest of them is at hand
-pub record IsKnown (n : ℕ) (all : List ℕ) (c : Cutter) : Type 0 where
+pub record IsKnown (n : ℕ) (all : List ℕ) (c : Boundary) : Type 0 where
   pub few : n ≤ length (statements_of all)
   pub known : (more : List ℕ) → statements_of (all ++ more) ≡ take n (statements_of all) ++ cut c more
 
@@ -17,13 +17,13 @@ none-of : statements_of [] ≡ []
 unfolding statements_from
 none-of = refl
 
-clear-cut : (c : Cutter) → IsClear c → (more : List ℕ) → cut c more ≡ statements_of more
+clear-cut : (c : Boundary) → IsClear c → (more : List ℕ) → cut c more ≡ statements_of more
 clear-cut c k more = ap (λ p. cut_from p c.so_far.items more) k.place ∙ ap (λ b. statements_of-of b more) k.so_far
   where
     statements_of-of : List ℕ → List ℕ → List (List ℕ)
     statements_of-of so_far more = cut_from Plain so_far more
 
-pub starts : (all : List ℕ) (c : Cutter) (n : ℕ) → all ≡ [] → n ≡ 0 → IsClear c → IsKnown n all c
+pub starts : (all : List ℕ) (c : Boundary) (n : ℕ) → all ≡ [] → n ≡ 0 → IsClear c → IsKnown n all c
 starts all c n e z k = record {
   few = omega (arith, z);
   known = λ more. ap (λ b. statements_of (b ++ more)) e ∙ sym (clear-cut c k more) ∙ ap (λ m. take m (statements_of all) ++ cut c more) (sym z);
@@ -38,10 +38,10 @@ first-of n xs ys le = let l : length (take n xs) ≡ n = omega (arith, length-ta
 first-more : (n : ℕ) (xs : List (List ℕ)) (s : List ℕ) → n ≤ length xs → take (n + 1) (take n xs ++ s ∷ []) ≡ take n xs ++ s ∷ []
 first-more n xs s le = take_all (n + 1) (take n xs ++ s ∷ []) (omega (arith, length-take n xs, length-append (take n xs) (s ∷ [])))
 
-all-of : (n : ℕ) (all : List ℕ) (c : Cutter) → IsKnown n all c → statements_of all ≡ take n (statements_of all) ++ cut c []
+all-of : (n : ℕ) (all : List ℕ) (c : Boundary) → IsKnown n all c → statements_of all ≡ take n (statements_of all) ++ cut c []
 all-of n all c k = ap statements_of (sym (append-nil all)) ∙ k.known []
 
-goes : (n : ℕ) (all : List ℕ) (b : ℕ) (old new : Cutter) → IsKnown n all old → GoesOn old (b ∷ []) new → IsKnown n (all ++ b ∷ []) new
+goes : (n : ℕ) (all : List ℕ) (b : ℕ) (old new : Boundary) → IsKnown n all old → GoesOn old (b ∷ []) new → IsKnown n (all ++ b ∷ []) new
 goes n all b old new k g =
     let told = take n (statements_of all) in
     let whole : (more : List ℕ) → statements_of ((all ++ b ∷ []) ++ more) ≡ told ++ cut new more =
@@ -53,7 +53,7 @@ goes n all b old new k g =
       known = λ more. whole more ∙ ap (λ t. t ++ cut new more) (sym same);
     }
 
-ends : (n m : ℕ) (all : List ℕ) (b : ℕ) (s : List ℕ) (old new : Cutter) → m ≡ n + 1 → IsKnown n all old → ((more : List ℕ) → cut old (b ∷ more) ≡ s ∷ statements_of more) → IsClear new → IsKnown m (all ++ b ∷ []) new
+ends : (n m : ℕ) (all : List ℕ) (b : ℕ) (s : List ℕ) (old new : Boundary) → m ≡ n + 1 → IsKnown n all old → ((more : List ℕ) → cut old (b ∷ more) ≡ s ∷ statements_of more) → IsClear new → IsKnown m (all ++ b ∷ []) new
 ends n m all b s old new e k next clear =
     let told = take n (statements_of all) in
     let whole : (more : List ℕ) → statements_of ((all ++ b ∷ []) ++ more) ≡ told ++ s ∷ statements_of more =
@@ -65,7 +65,7 @@ ends n m all b s old new e k next clear =
       known = λ more. whole more ∙ sym (append_assoc told (s ∷ []) (statements_of more)) ∙ ap (λ t. (told ++ s ∷ []) ++ t) (sym (clear-cut new clear more)) ∙ ap (λ t. t ++ cut new more) (sym same);
     }
 
-pub passes : (r : Bool) (n m : ℕ) (all now : List ℕ) (b : ℕ) (old new : Cutter) → IsKnown n all old → Passes r old b new → m ≡ n + (if r then 1 else 0) → now ≡ all ++ b ∷ [] → IsKnown m now new
+pub passes : (r : Bool) (n m : ℕ) (all now : List ℕ) (b : ℕ) (old new : Boundary) → IsKnown n all old → Passes r old b new → m ≡ n + (if r then 1 else 0) → now ≡ all ++ b ∷ [] → IsKnown m now new
 passes true n m all now b old new k p e is = subst (λ a. IsKnown m a new) (sym is) (ends n m all b p.0 old new e k p.1 p.2)
 passes false n m all now b old new k p e is = subst (λ a. IsKnown m a new) (sym is) (subst (λ i. IsKnown i (all ++ b ∷ []) new) (let z : n ≡ m = omega (arith, e) in z) (goes n all b old new k p))
 
@@ -116,7 +116,7 @@ none-in all is front back e h = not-none front back 46 (sym is ∙ e)
 
 -- ---- where a command may stand
 
-pub is-before : (n : ℕ) (all : List ℕ) (c : Cutter) → IsKnown n all c → begins_line all ≡ true → IsClear c → IsBeforeCommand all
+pub is-before : (n : ℕ) (all : List ℕ) (c : Boundary) → IsKnown n all c → begins_line all ≡ true → IsClear c → IsBeforeCommand all
 is-before n all c k line clear =
     let told = take n (statements_of all) in
     let now : statements_of all ≡ told = all-of n all c k ∙ ap (λ t. told ++ t) (clear-cut c clear [] ∙ none-of) ∙ append-nil told in
@@ -149,7 +149,7 @@ drop-front (x ∷ xs) ys zs e = drop-front xs ys zs (rest-of _ _ _ _ e)
     rest-of : (a b : List ℕ) (us vs : List (List ℕ)) → a ∷ us ≡ b ∷ vs → us ≡ vs
     rest-of a b us vs e = cc
 
-pub is-clear : (n : ℕ) (all : List ℕ) (c : Cutter) → IsKnown n all c → IsBeforeCommand all → IsClear c
+pub is-clear : (n : ℕ) (all : List ℕ) (c : Boundary) → IsKnown n all c → IsBeforeCommand all → IsClear c
 is-clear n all c k h =
     let told = take n (statements_of all) in
     let same : (more : List ℕ) → cut c more ≡ cut c [] ++ statements_of more =

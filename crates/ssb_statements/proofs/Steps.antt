@@ -1,24 +1,33 @@
 -- What becomes of the statements ahead where one byte more is taken.
-use Rattle.std.proofs.Common.{◌≡◌, ◌∙◌, ◌≢◌, ℕ, zero, suc, ◌+◌, ◌<◌, ◌≤◌, Bool, true, false, List, [], ◌∷◌, ◌++◌, length, take, drop, min, set, refl, sym, ap, arith, length-append, inl, inr}
+use Rattle.std.proofs.Common.{◌≡◌, ◌∙◌, ◌≢◌, ℕ, zero, suc, ◌+◌, ◌≤◌, Bool, true, false, List, [], ◌∷◌, ◌++◌, length, take, drop, min, set, refl, sym, ap, subst, arith, length-append, inl, inr}
 use Rattle.std.proofs.lemmas.Bool.{cases_lt, ne_eqb}
 use Rattle.std.proofs.lemmas.List.{take_all, take_more_set, take-append-le}
 use Rattle.ssb_tokens.specs.Tokens.{is_blank, is_dash, is_quote}
 use Rattle.ssb_tokens.specs.Statements.{plain, literal, comment, if_any, in_plain, is_end, statements_from, statements_of, within}
+use Rattle.ssb_statements.specs.Bytes.{has_any}
 use Rattle.ssb_statements.specs.Cutting.{IsTaken, cut, cut_from}
-use Rattle.ssb_statements.specs.declared.cutter.Cutter.{Cutter}
-use Rattle.ssb_statements.specs.declared.cutter.Place.{Place}
-use Rattle.ssb_statements.specs.declared.cutter.Place.TheVariants.{Plain, Dash, Literal, Comment}
+use Rattle.ssb_statements.specs.declared.boundary.Boundary.{Boundary}
+use Rattle.ssb_statements.specs.declared.boundary.Place.{Place}
+use Rattle.ssb_statements.specs.declared.boundary.Taken.{Taken}
+use Rattle.ssb_statements.specs.declared.boundary.Place.TheVariants.{Plain, Dash, Literal, Comment}
 
 -- ---- the bytes so far
 
--- a count of the bytes so far tells whether there are any
-pub none-counted : (n : ℕ) (xs : List ℕ) → n ≡ min (length xs) 65537 → n ≡ 0 → xs ≡ []
-none-counted n [] e z = refl
-none-counted n (x ∷ xs) e z = absurd (omega arith)
+-- whether there are bytes so far
+pub none-begun : (b : Bool) (xs : List ℕ) → b ≡ has_any xs → b ≡ false → xs ≡ []
+none-begun b [] e z = refl
+none-begun b (x ∷ xs) e z = cc
 
-pub some-counted : (n b : ℕ) (xs : List ℕ) → n ≡ min (length xs) 65537 → 0 < n → within xs b ≡ xs ++ b ∷ []
-some-counted n b [] e l = absurd (omega arith)
-some-counted n b (x ∷ xs) e l = refl
+pub none-within : (b : Bool) (byte : ℕ) (xs : List ℕ) → b ≡ has_any xs → b ≡ false → xs ≡ within xs byte
+none-within b byte xs e z = let none : xs ≡ [] = none-begun b xs e z in rw none refl
+
+pub some-within : (b : Bool) (byte : ℕ) (xs : List ℕ) → b ≡ has_any xs → b ≡ true → within xs byte ≡ xs ++ byte ∷ []
+some-within b byte [] e z = cc
+some-within b byte (x ∷ xs) e z = refl
+
+pub any-put : (xs : List ℕ) (b : ℕ) → true ≡ has_any (xs ++ b ∷ [])
+any-put [] b = refl
+any-put (x ∷ xs) b = refl
 
 pub if_any-put : (xs : List ℕ) (b : ℕ) → if_any (xs ++ b ∷ []) ≡ (xs ++ b ∷ []) ∷ []
 if_any-put [] b = refl
@@ -42,8 +51,8 @@ kept-more limit n b text xs len count kept = elim (cases_lt (length xs) limit) [
     set-past (x ∷ l) zero a le = absurd (omega arith)
     set-past (x ∷ l) (suc i) a le = ap (λ t. x ∷ t) (set-past l i a (omega arith))
 
-pub told-short : (n : ℕ) (text xs : List ℕ) → n ≡ min (length xs) 65537 → n ≤ 65536 → take n text ≡ take 65536 xs → take n text ≡ xs
-told-short n text xs e le kept = kept ∙ take_all 65536 xs (omega arith)
+pub kept-whole : (limit n : ℕ) (text xs : List ℕ) → n ≡ min (length xs) (limit + 1) → n ≤ limit → take n text ≡ take limit xs → take n text ≡ xs
+kept-whole limit n text xs e le kept = kept ∙ take_all limit xs (omega arith)
 
 -- ---- one byte more
 
@@ -123,10 +132,14 @@ place-ends Comment xs n = refl
 
 -- ---- bytes on bytes
 
-pub taken-from : (r : Bool) (old mid : Cutter) (b : ℕ) (new : Cutter) → ((more : List ℕ) → cut old (b ∷ more) ≡ cut mid (b ∷ more)) → IsTaken r mid b new → IsTaken r old b new
+-- a byte with which no statement ends
+pub goes-by : (t : Taken) (old : Boundary) (b : ℕ) (new : Boundary) (byte : Bool) → t ≡ record { dash = false; byte = byte; ends = false } → ((more : List ℕ) → cut old (b ∷ more) ≡ cut new more) → IsTaken t.ends old b new
+goes-by t old b new byte is same = subst (λ (u : Taken). IsTaken u.ends old b new) (sym is) (record { same = same })
+
+pub taken-from : (r : Bool) (old mid : Boundary) (b : ℕ) (new : Boundary) → ((more : List ℕ) → cut old (b ∷ more) ≡ cut mid (b ∷ more)) → IsTaken r mid b new → IsTaken r old b new
 taken-from false old mid b new e t = record { same = λ more. e more ∙ t.same more }
 taken-from true old mid b new e t = record { next = λ more. e more ∙ t.next more }
 
 -- the bytes from this place on were not taken
-pub record StandsAt (i : ℕ) (old : Cutter) (bytes : List ℕ) (now : Cutter) : Type 0 where
+pub record StandsAt (i : ℕ) (old : Boundary) (bytes : List ℕ) (now : Boundary) : Type 0 where
   pub same : (more : List ℕ) → cut old (bytes ++ more) ≡ cut now (drop i bytes ++ more)

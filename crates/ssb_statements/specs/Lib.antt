@@ -1,3 +1,4 @@
+pub mod Bytes
 pub mod Cutting
 pub mod Parting
 pub mod Reading

@@ -58,8 +58,8 @@ pub record Fills {S : Type 0} {source : Source S} (old : Statements S source) (r
 
 -- the last statement at hand was told, if there is one
 abbrev pub IsClosed : Option Statement → Cutter → Cutter → Type 0
-IsClosed (Some t) old new = (s : List ℕ) × IsTold t (told_text new) s × (cut old [] ≡ s ∷ [])
-IsClosed None old new = cut old [] ≡ []
+IsClosed (Some t) old new = (s : List ℕ) × IsTold t (told_text new) s × (cut old.boundary [] ≡ s ∷ [])
+IsClosed None old new = cut old.boundary [] ≡ []
 
 -- the bytes ahead are the last statement, or none
 abbrev pub ClosesBy : {S : Type 0} {source : Source S} → Option Statement → Statements S source → Statements S source → Type 0

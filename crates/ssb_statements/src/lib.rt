@@ -6,14 +6,16 @@
 //!   ends before each command, with [`Next`] and [`Prompts`].
 //! - Callers: `ssb_answer`, which answers the statements of a source; the program, which obeys commands.
 //! - Apart: bytes are cut here before any of them is read as a token.
-//! - Files: `statements`, `input`; `cutter`, which takes bytes one by one; `script`, `position`, `line`.
-//! - Definitions: `Telling`; `Parting`, `Scripts`; `Cutting`, `Reading`: for the contracts inside.
+//! - Files: `statements`, `input`; `cutter`, which takes bytes one by one, over `boundary` and `prefix`; `script`,
+//!   `position`.
+//! - Definitions: `Telling`; `Parting`, `Scripts`; `Bytes`, `Cutting`, `Reading`: for the contracts inside.
 #![tactic(auto)]
 
+mod boundary;
 mod cutter;
 mod input;
-mod line;
 mod position;
+mod prefix;
 pub mod script;
 pub mod statements;
 

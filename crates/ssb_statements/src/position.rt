@@ -1,13 +1,12 @@
 // Where the bytes of a script stand.
 
-ghost use Rattle.std.specs.Prelude.{◌≡◌, ◌≤◌, ◌↔◌, ◌+◌, ◌++◌, ◌∷◌, [], ℕ, List, length, take, if◌then◌else◌, IfOk, IsTrue};
+ghost use Rattle.std.specs.Prelude.{◌≡◌, ◌≤◌, ◌↔◌, ◌+◌, ◌++◌, ◌∷◌, [], ℕ, List, length, take, if◌then◌else◌, IsTrue};
 ghost use Rattle.ssb_tokens.specs.Statements.{statements_of};
 ghost use Rattle.ssb_statements.specs.Cutting.{Passes, cut};
 ghost use Rattle.ssb_statements.specs.Parting.{HasNoCommand, IsBeforeCommand, begins_line};
 
-use crate::cutter::Cutter;
+use crate::boundary::Boundary;
 use ssb_records::History;
-use std::alloc::{AllocError, Global};
 use std::mem;
 
 const LF: u8 = b'\n';
@@ -16,25 +15,25 @@ const LF: u8 = b'\n';
 /// statement may begin or not.
 #[derive(Drop)]
 pub(crate) struct Position {
-    cutter: Cutter,
+    boundary: Boundary,
     // Whether a line begins here.
     at_head: bool,
     // The bytes that were passed, and how many statements have ended in them.
     all: History<u8>,
     told: History<()>,
     ghost few: { length told.items ≤ length (statements_of all.items) },
-    ghost known: { (more : List ℕ) → statements_of (all.items ++ more) ≡ take (length told.items) (statements_of all.items) ++ cut cutter more },
+    ghost known: { (more : List ℕ) → statements_of (all.items ++ more) ≡ take (length told.items) (statements_of all.items) ++ cut boundary more },
     ghost head: { at_head ≡ begins_line all.items },
     ghost none: { HasNoCommand all.items },
 }
 
 // Takes a byte, and says whether a statement ends with it; then the next one is at hand.
-fn take_byte(cutter: &mut Cutter, byte: u8) -> bool
-    ensures { Passes result cutter.old byte cutter.new }
+fn take_byte(boundary: &mut Boundary, byte: u8) -> bool
+    ensures { Passes result boundary.old byte boundary.new }
 {
-    let has_ended = cutter.take(byte);
+    let has_ended = boundary.take(byte).ends;
     if has_ended {
-        let _told = cutter.finish();
+        boundary.reset();
     }
     has_ended
 }
@@ -48,26 +47,22 @@ pub(crate) fn counted(noted: History<()>, is_so: bool) -> History<()>
 
 impl Position {
     /// Before all bytes.
-    ///
-    /// # Errors
-    ///
-    /// `AllocError` where room for a statement was refused.
-    pub(crate) fn new(alloc: Global) -> Result<Position, AllocError>
-        ensures { IfOk result (λ p. p.all.items ≡ []) }
+    pub(crate) fn new() -> Position
+        ensures { result.all.items ≡ [] }
     {
-        Ok(Position {
-            cutter: Cutter::new(alloc)?,
+        Position {
+            boundary: Boundary::new(),
             at_head: true,
             all: History::new(),
             told: History::new(),
-        })
+        }
     }
 
     /// Whether a command begins here, where a `.` is the next byte.
     pub(crate) fn is_before_command(&self) -> bool
         ensures { IsTrue result ↔ IsBeforeCommand self.now.all.items }
     {
-        self.at_head && self.cutter.is_clear()
+        self.at_head && self.boundary.is_clear()
     }
 
     /// Passes a byte that begins no command.
@@ -75,7 +70,7 @@ impl Position {
         requires { byte ≡ 46 → ¬ IsBeforeCommand self.old.all.items }
         ensures { self.new.all.items ≡ self.old.all.items ++ byte ∷ [] }
     {
-        let has_ended = take_byte(&mut self.cutter, byte);
+        let has_ended = take_byte(&mut self.boundary, byte);
         let told = mem::replace(&mut self.told, History::new());
         self.told = counted(told, has_ended);
         self.at_head = byte == LF;
@@ -86,7 +81,7 @@ impl Position {
     pub(crate) fn restart(&mut self)
         ensures { self.new.all.items ≡ [] }
     {
-        let _last = self.cutter.close();
+        self.boundary.reset();
         self.at_head = true;
         self.all = History::new();
         self.told = History::new();

@@ -4,14 +4,17 @@ ghost use Rattle.std.specs.Prelude.{◌≡◌, ◌≤◌, ◌<◌, ◌++◌, [],
 ghost use Rattle.ssb_statements.specs.Parting.{EndsBefore, IsAtCommand, IsEndOf};
 
 use crate::input::Input;
-use crate::line::Line;
 use crate::position::{Position, counted};
+use crate::prefix::Prefix;
 use ssb_records::{History, Source, SourceFault};
 use std::alloc::{AllocError, Global};
 use std::mem;
 
 // How many bytes of a source are taken at once.
 const ROOM: usize = 65_536;
+
+// How many bytes of a command are kept.
+const LINE_SIZE: usize = 4096;
 
 /// What hears of each read of a script's source before it, as a prompt on a terminal does. No clause depends
 /// on it.
@@ -50,12 +53,13 @@ pub struct Script<S: Source, P: Prompts> {
     end: usize,
     // Behind the bytes of this stretch.
     position: Position,
-    line: Line,
+    line: Prefix,
     // How often this stretch was told to have ended.
     ended: History<()>,
     ghost inside: { at ≤ end },
     ghost held: { end ≤ vec_len piece },
     ghost room: { 0 < vec_len piece },
+    ghost line_room: { vec_len line.kept ≡ 4096 },
     ghost kept: { IsEndOf (S.given input.source) (position.all.items ++ drop at (take end piece.items)) },
     ghost over: { 0 < length ended.items → EndsBefore position.all.items (drop at (take end piece.items)) input.ended },
 }
@@ -113,7 +117,7 @@ impl<S: Source, P: Prompts> Script<S, P> {
     ///
     /// # Errors
     ///
-    /// `AllocError` where the room for a piece, for a statement or for a line was refused.
+    /// `AllocError` where the room for a piece or for a line was refused.
     pub fn new(alloc: Global, source: S, prompts: P) -> Result<Script<S, P>, AllocError>
     where
         S: Drop,
@@ -122,8 +126,7 @@ impl<S: Source, P: Prompts> Script<S, P> {
         ensures stretch { IfOk result (λ s. stretch s ≡ []) }
         ensures waiting { IfOk result (λ s. waiting s ≡ []) }
     {
-        let position = Position::new(alloc)?;
-        let line = Line::new(alloc)?;
+        let line = Prefix::new(alloc, LINE_SIZE)?;
         let mut piece = Vec::new(alloc);
         piece.resize(ROOM, 0)?;
         Ok(Script {
@@ -132,7 +135,7 @@ impl<S: Source, P: Prompts> Script<S, P> {
             piece,
             at: 0,
             end: 0,
-            position,
+            position: Position::new(),
             line,
             ended: History::new(),
         })

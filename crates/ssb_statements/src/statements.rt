@@ -27,7 +27,7 @@ pub struct Statements<S: Source> {
     ghost inside: { at ≤ end },
     ghost held: { end ≤ vec_len piece },
     ghost room: { 0 < vec_len piece },
-    ghost known: { (more : List ℕ) → statements_of (taken.items ++ more) ≡ cut cutter more },
+    ghost known: { (more : List ℕ) → statements_of (taken.items ++ more) ≡ cut cutter.boundary more },
 }
 
 // Written out, so that the crates above need no proof of how its parts are let go.

@@ -5,5 +5,5 @@ use Rattle.ssb_statements.proofs.position.Position.is_before_command.Goals as go
 pub returns-then-self : goal.returns-then-self
 returns-then-self c =
     let s = c.args.self.now in
-    let k : IsKnown (length s.told.items) s.all.items s.cutter = record { few = s.few; known = s.known } in
-    (λ h. is-before _ s.all.items s.cutter k (sym s.head ∙ c.if-self.true) (c.is_clear.ensures.0 h), λ h. c.is_clear.ensures.1 (is-clear _ s.all.items s.cutter k h))
+    let k : IsKnown (length s.told.items) s.all.items s.boundary = record { few = s.few; known = s.known } in
+    (λ h. is-before _ s.all.items s.boundary k (sym s.head ∙ c.if-self.true) (c.is_clear.ensures.0 h), λ h. c.is_clear.ensures.1 (is-clear _ s.all.items s.boundary k h))

@@ -9,7 +9,7 @@ invariant_of-self c =
     let s = c.args.self.now in
     let r = c.take_byte-has_ended.result in
     let count = c.counted-self.ensures ∙ ap (λ (h : History (Unit {0})). length h.items + (if r then 1 else 0)) c.replace-told.ensures.value in
-    let k = passes r (length s.told.items) (length c.counted-self.result.items) s.all.items c.and-self.result.items c.args.byte s.cutter c.take_byte-has_ended.new.cutter (record { few = s.few; known = s.known }) c.take_byte-has_ended.ensures count c.and-self.ensures in
+    let k = passes r (length s.told.items) (length c.counted-self.result.items) s.all.items c.and-self.result.items c.args.byte s.boundary c.take_byte-has_ended.new.boundary (record { few = s.few; known = s.known }) c.take_byte-has_ended.ensures count c.and-self.ensures in
     record {
       few = k.few;
       known = k.known;

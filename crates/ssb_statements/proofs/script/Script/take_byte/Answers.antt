@@ -14,6 +14,7 @@ invariant_of-self g c =
       inside = omega (arith, s.inside, c.if-self.false);
       held = s.held;
       room = s.room;
+      line_room = s.line_room;
       over = no-end c.new-self.result.items _ _ s.input.ended c.new-self.ensures;
       kept = subst (λ t. IsEndOf all (t ++ rest)) (sym c.requires) (end-rest all s.position.all.items (waiting s) (c.index-byte.result.now ∷ []) rest s.kept w);
     }

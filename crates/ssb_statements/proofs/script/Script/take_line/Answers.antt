@@ -1,4 +1,4 @@
-use Rattle.std.proofs.Common.{◌++◌, [], refl, subst, sym}
+use Rattle.std.proofs.Common.{◌∙◌, ◌++◌, [], ap, refl, subst, sym, vec_len}
 use Rattle.ssb_statements.specs.Parting.{IsEndOf}
 use Rattle.ssb_statements.specs.Scripts.{waiting}
 use Rattle.std.proofs.lemmas.Result.{err_from_is_err_and}
@@ -13,6 +13,7 @@ invariant_of-self g c =
       inside = s.inside;
       held = s.held;
       room = s.room;
+      line_room = ap vec_len c.clear.ensures.kept ∙ s.line_room;
       over = no-end c.new-self.result.items _ _ s.input.ended c.new-self.ensures;
       kept = subst (λ t. IsEndOf all (t ++ waiting s)) (sym c.restart.ensures) (end-rest all s.position.all.items (waiting s) [] (waiting s) s.kept refl);
     }
@@ -29,4 +30,4 @@ pub returns-then-byte-eq10 : goal.returns-then-byte-eq10
 returns-then-byte-eq10 g c = line-ended c.args.self.now c.loop.self c.refill.new.self c.take_byte.new.self c.loop.counter c.in-Some.byte c.if-byte-eq10.true c.loop.invariant c.in_ok-refill.ensures c.in-Some.ensures
 
 pub loop-preserved : goal.loop-preserved
-loop-preserved g c = line-more c.args.self.now c.loop.self c.refill.new.self c.take_byte.new.self _ c.loop.counter c.in-Some.byte c.if-byte-eq10.false c.loop.invariant c.in_ok-refill.ensures c.in-Some.ensures refl refl refl c.put.ensures
+loop-preserved g c = line-more c.args.self.now c.loop.self c.refill.new.self c.take_byte.new.self _ c.loop.counter c.in-Some.byte c.if-byte-eq10.false c.loop.invariant c.in_ok-refill.ensures c.in-Some.ensures refl refl refl c.put.ensures.all

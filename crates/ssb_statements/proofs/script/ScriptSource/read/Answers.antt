@@ -27,5 +27,6 @@ invariant_of-self g c =
       inside = omega (arith, r.inside, c.give-count.ensures.bytes, ap length is, wait-long r.at r.end r.piece.items (omega (arith, r.held, r.piece.ok.0)));
       held = r.held;
       room = r.room;
+      line_room = r.line_room;
       kept = end-moved (g.S.Source.given r.input.source) r.position.all.items c.give-count.new.position.all.items (waiting r) (drop (r.at + n) (take r.end r.piece.items)) (take n bytes) r.kept (cut-at n r.at r.end r.piece.items bytes is) c.give-count.ensures.passed;
     }

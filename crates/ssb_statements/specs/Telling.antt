@@ -19,11 +19,11 @@ has_ended r = r.input.ended
 
 -- the bytes that it gave and that belong to no statement told so far
 abbrev pub ahead : {S : Type 0} {source : Source S} → Statements S source → List ℕ
-ahead r = r.taken.items ++ drop r.at (take r.end r.piece.items)
+ahead r = r.taken.items ++ drop r.at (take r.end r.buffer.piece.items)
 
 -- the bytes of the statement told last
 abbrev pub text_of : {S : Type 0} {source : Source S} → Statements S source → List ℕ
-text_of r = told_text r.cutter
+text_of r = told_text r.buffer.cutter
 
 -- this is told of a statement, with its bytes where it has at most 65,536
 abbrev pub IsTold : Statement → List ℕ → List ℕ → Type 0

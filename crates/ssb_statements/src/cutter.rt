@@ -1,6 +1,6 @@
 // The bytes of the statement at hand.
 
-ghost use Rattle.std.specs.Prelude.{◌≡◌, ◌≤◌, vec_len, IfOk};
+ghost use Rattle.std.specs.Prelude.{◌≡◌, ◌≤◌, [], vec_len, IfOk};
 
 use crate::boundary::Boundary;
 use crate::prefix::Prefix;
@@ -49,6 +49,16 @@ impl Cutter {
             text: Prefix::new(alloc, STATEMENT_SIZE)?,
             told: 0,
         })
+    }
+
+    /// Begins anew, with no statement told.
+    pub(crate) fn clear(&mut self)
+        ensures clear { IsClear self.new.boundary }
+        ensures told { told_text self.new ≡ [] }
+    {
+        self.boundary.reset();
+        self.text.clear();
+        self.told = 0;
     }
 
     /// The bytes of the statement told last.

@@ -4,30 +4,26 @@ ghost use Rattle.std.specs.Prelude.{◌≡◌, ◌++◌, ◌≤◌, ◌<◌, ℕ
 ghost use Rattle.ssb_tokens.specs.Statements.{statements_of};
 ghost use Rattle.ssb_statements.specs.Cutting.{cut};
 
-use crate::cutter::{Cutter, Statement};
+use crate::buffer::StatementBuffer;
+use crate::cutter::Statement;
 use crate::input::Input;
 use ssb_records::{History, Source, SourceFault};
 use std::alloc::{AllocError, Global};
 use std::mem;
 
-// How many bytes of a source are taken at once.
-const ROOM: usize = 65_536;
-
 /// The statements of what a source gives, one by one. A statement is told once the bytes up to its `;`
 /// were given, and the last one, if it has none, at the end of the source.
 pub struct Statements<S: Source> {
     input: Input<S>,
-    piece: Vec<u8>,
-    // The bytes of the piece from here to its end were not taken.
+    buffer: StatementBuffer,
+    // The bytes of the buffer's piece from here to their end were not taken.
     at: usize,
     end: usize,
-    cutter: Cutter,
     // The bytes that were taken since the last statement was told.
     taken: History<u8>,
     ghost inside: { at ≤ end },
-    ghost held: { end ≤ vec_len piece },
-    ghost room: { 0 < vec_len piece },
-    ghost known: { (more : List ℕ) → statements_of (taken.items ++ more) ≡ cut cutter.boundary more },
+    ghost held: { end ≤ vec_len buffer.piece },
+    ghost known: { (more : List ℕ) → statements_of (taken.items ++ more) ≡ cut buffer.cutter.boundary more },
 }
 
 // Written out, so that the crates above need no proof of how its parts are let go.
@@ -45,7 +41,7 @@ impl<S: Source> Statements<S> {
     ///
     /// # Errors
     ///
-    /// `AllocError` where the room for a piece or for a statement was refused.
+    /// As of [`StatementBuffer::new`].
     pub fn new(alloc: Global, source: S) -> Result<Statements<S>, AllocError>
     where
         S: Drop,
@@ -53,32 +49,49 @@ impl<S: Source> Statements<S> {
         ensures ahead { IfOk result (λ r. ahead r ≡ []) }
         ensures ended { IfOk result (λ r. has_ended r ≡ false) }
     {
-        let cutter = Cutter::new(alloc)?;
-        let mut piece = Vec::new(alloc);
-        piece.resize(ROOM, 0)?;
-        Ok(Statements {
+        let buffer = StatementBuffer::new(alloc)?;
+        Ok(Statements::with_buffer(buffer, source))
+    }
+
+    /// The statements of what a source gives from now on, read through a buffer. It asks for no memory, and
+    /// nothing of an earlier reader's source is left.
+    pub fn with_buffer(mut buffer: StatementBuffer, source: S) -> Statements<S>
+        ensures source { source_of result ≡ source }
+        ensures ahead { ahead result ≡ [] }
+        ensures ended { has_ended result ≡ false }
+        ensures text { text_of result ≡ [] }
+    {
+        buffer.cutter.clear();
+        Statements {
             input: Input::new(source),
-            piece,
+            buffer,
             at: 0,
             end: 0,
-            cutter,
             taken: History::new(),
-        })
+        }
+    }
+
+    /// The source itself, as the reads left it, and the buffer, for the next reader.
+    pub fn into_parts(self) -> (S, StatementBuffer)
+        ensures { result.0 ≡ source_of self }
+    {
+        let Statements {
+            input,
+            buffer,
+            at: _,
+            end: _,
+            taken: _,
+        } = self;
+        (input.into_source(), buffer)
     }
 
     /// The source itself, as the reads left it.
     pub fn into_source(self) -> S
         ensures { result ≡ source_of self }
     {
-        let Statements {
-            input,
-            piece: _,
-            at: _,
-            end: _,
-            cutter: _,
-            taken: _,
-        } = self;
-        input.into_source()
+        let (source, buffer) = self.into_parts();
+        drop(buffer);
+        source
     }
 
     /// The source, as the reads left it.
@@ -99,23 +112,27 @@ impl<S: Source> Statements<S> {
     pub fn text(&self) -> &[u8]
         ensures { result.now ≡ text_of self.now }
     {
-        self.cutter.text()
+        self.buffer.cutter.text()
     }
 
     // The next statement, where the piece has its end.
     fn find(&mut self) -> Option<Statement>
         ensures { Finds self.old result self.new }
     {
-        match self.cutter.take_all(&self.piece[self.at..self.end]) {
+        match self
+            .buffer
+            .cutter
+            .take_all(&self.buffer.piece[self.at..self.end])
+        {
             Some(count) => {
                 self.at += count;
-                let statement = self.cutter.finish();
+                let statement = self.buffer.cutter.finish();
                 self.taken = History::new();
                 Some(statement)
             }
             None => {
                 let taken = mem::replace(&mut self.taken, History::new());
-                self.taken = taken.and_all(&self.piece[self.at..self.end]);
+                self.taken = taken.and_all(&self.buffer.piece[self.at..self.end]);
                 self.at = self.end;
                 None
             }
@@ -127,7 +144,7 @@ impl<S: Source> Statements<S> {
         requires { self.old.at ≡ self.old.end }
         ensures { Fills self.old result self.new }
     {
-        let count = self.input.read(&mut self.piece)?;
+        let count = self.input.read(&mut self.buffer.piece)?;
         self.at = 0;
         self.end = count;
         Ok(count > 0)
@@ -138,7 +155,7 @@ impl<S: Source> Statements<S> {
         requires { self.old.at ≡ self.old.end }
         ensures { Closes self.old result self.new }
     {
-        let last = self.cutter.close();
+        let last = self.buffer.cutter.close();
         self.taken = History::new();
         last
     }

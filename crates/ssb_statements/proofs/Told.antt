@@ -11,7 +11,7 @@ use Rattle.ssb_statements.specs.declared.cutter.Statement.{Statement}
 use Rattle.ssb_statements.specs.declared.statements.Statements.{Statements}
 
 -- these bytes were given, and these of their statements were told
-pub record AreTold {S : Type 0} {source : Source S} (bytes : List ℕ) (told : List (List ℕ)) (r : Statements S source) : Type 0 where
+pub record AreTold {S : Type 0} (bytes : List ℕ) (told : List (List ℕ)) (r : Statements S) : Type 0 where
   pub same : Whatever (has_ended r) (λ more. statements_of (bytes ++ more) ≡ told ++ statements_of (ahead r ++ more))
 
 later : (was now : Bool) (P Q : List ℕ → Type 0) (fresh : List ℕ) → (was ≡ true → (fresh ≡ []) × (now ≡ true)) → ((more : List ℕ) → P (fresh ++ more) → Q more) → Whatever was P → Whatever now Q
@@ -24,19 +24,20 @@ both : (b : Bool) (P Q R : List ℕ → Type 0) → ((more : List ℕ) → P mor
 both true P Q R step p q = step [] p q
 both false P Q R step p q = λ more. step more (p more) (q more)
 
-module _ {S : Type 0} {source : Source S} where
-  pub told-none : (r : Statements S source) → ahead r ≡ [] → has_ended r ≡ false → AreTold [] [] r
+module _ {S : Type 0} where
+  pub told-none : (r : Statements S) → ahead r ≡ [] → has_ended r ≡ false → AreTold [] [] r
   told-none r none going = record { same = subst (λ b. Whatever b (λ more. statements_of more ≡ statements_of (ahead r ++ more))) (sym going) (λ more. ap (λ a. statements_of (a ++ more)) (sym none)) }
 
   -- the bytes that were given by now
-  told-given : (old new : Statements S source) (bytes fresh : List ℕ) (told : List (List ℕ)) → AreTold bytes told old → (has_ended old ≡ true → (fresh ≡ []) × (has_ended new ≡ true))
+  told-given : (old new : Statements S) (bytes fresh : List ℕ) (told : List (List ℕ)) → AreTold bytes told old → (has_ended old ≡ true → (fresh ≡ []) × (has_ended new ≡ true))
       → Whatever (has_ended new) (λ more. statements_of ((bytes ++ fresh) ++ more) ≡ told ++ statements_of (ahead old ++ (fresh ++ more)))
   told-given old new bytes fresh told k over =
       later (has_ended old) (has_ended new) (λ more. statements_of (bytes ++ more) ≡ told ++ statements_of (ahead old ++ more)) (λ more. statements_of ((bytes ++ fresh) ++ more) ≡ told ++ statements_of (ahead old ++ (fresh ++ more))) fresh over
       (λ more h. ap statements_of (append_assoc bytes fresh more) ∙ h) k.same
 
+module _ {S : Type 0} {source : Source S} where
   -- the next statement was told
-  pub told-more : (old new : Statements S source) (t : Statement) (bytes : List ℕ) (told : List (List ℕ)) → AreTold bytes told old → (g : Gave old (Ok (Some t)) new) → AreTold (bytes ++ g.fresh) (told ++ g.answer.statement ∷ []) new
+  pub told-more : (old new : Statements S) (t : Statement) (bytes : List ℕ) (told : List (List ℕ)) → AreTold bytes told old → (g : Gave source old (Ok (Some t)) new) → AreTold (bytes ++ g.fresh) (told ++ g.answer.statement ∷ []) new
   told-more old new t bytes told k g =
       let s = g.answer.statement in
       record {
@@ -47,7 +48,7 @@ module _ {S : Type 0} {source : Source S} where
       }
 
   -- a read failed
-  pub told-kept : (old new : Statements S source) (e : SourceFault) (bytes : List ℕ) (told : List (List ℕ)) → AreTold bytes told old → (g : Gave old (Err e) new) → AreTold (bytes ++ g.fresh) told new
+  pub told-kept : (old new : Statements S) (e : SourceFault) (bytes : List ℕ) (told : List (List ℕ)) → AreTold bytes told old → (g : Gave source old (Err e) new) → AreTold (bytes ++ g.fresh) told new
   told-kept old new e bytes told k g =
       record {
         same = later (has_ended old) (has_ended new) (λ more. statements_of (bytes ++ more) ≡ told ++ statements_of (ahead old ++ more)) (λ more. statements_of ((bytes ++ g.fresh) ++ more) ≡ told ++ statements_of (ahead new ++ more)) g.fresh
@@ -56,7 +57,7 @@ module _ {S : Type 0} {source : Source S} where
       }
 
   -- no statement was left: those that were told are all
-  pub told-all : (old new : Statements S source) (bytes : List ℕ) (told : List (List ℕ)) → AreTold bytes told old → (g : Gave old (Ok None) new) → statements_of (bytes ++ g.fresh) ≡ told
+  pub told-all : (old new : Statements S) (bytes : List ℕ) (told : List (List ℕ)) → AreTold bytes told old → (g : Gave source old (Ok None) new) → statements_of (bytes ++ g.fresh) ≡ told
   told-all old new bytes told k g =
       let given = told-given old new bytes g.fresh told k (λ h. ((g.quiet h).1, (g.quiet h).2)) in
       let all = subst (λ b. Whatever b (λ more. statements_of ((bytes ++ g.fresh) ++ more) ≡ told ++ statements_of (ahead old ++ (g.fresh ++ more)))) g.answer.ended given in

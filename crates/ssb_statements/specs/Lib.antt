@@ -1,6 +1,7 @@
 pub mod Bytes
 pub mod Cutting
 pub mod Parting
+pub mod Reader
 pub mod Reading
 pub mod Scripts
 pub mod Telling

@@ -1,17 +1,18 @@
 -- What the parts of a call of `next` do.
 -- For the contracts inside this crate.
-use Rattle.std.specs.Prelude.{◌≡◌, ◌<◌, ◌≤◌, ◌+◌, ◌==◌, ℕ, Bool, true, false, List, [], ◌∷◌, ◌++◌, length, Option, Some, None, Result, Ok, Err, IfOk, if◌then◌else◌}
+use Rattle.std.specs.Prelude.{◌≡◌, ◌<◌, ◌≤◌, ◌+◌, ◌==◌, ℕ, Bool, true, false, List, [], ◌∷◌, ◌++◌, length, take, drop, Option, Some, None, Result, Ok, Err, IfOk, if◌then◌else◌}
 use Rattle.std.specs.Result.{is_err}
 use Rattle.ssb_records.specs.Giving.{failures_of, given_of}
 use Rattle.ssb_records.specs.declared.source.Source.{Ghosts as Source}
 use Rattle.ssb_records.specs.declared.source.SourceFault.{SourceFault}
 use Rattle.ssb_tokens.specs.Statements.{statements_of}
 use Rattle.ssb_statements.specs.Cutting.{cut, told_text}
-use Rattle.ssb_statements.specs.Telling.{IsCut, IsTold, ahead, has_ended, source_of, text_of}
+use Rattle.ssb_statements.specs.Reader.{Reader}
+use Rattle.ssb_statements.specs.Telling.{IsCut, IsTold}
+use Rattle.ssb_statements.specs.declared.buffer.StatementBuffer.{StatementBuffer}
 use Rattle.ssb_statements.specs.declared.cutter.Cutter.{Cutter}
 use Rattle.ssb_statements.specs.declared.cutter.Statement.{Statement}
 use Rattle.ssb_statements.specs.declared.input.Input.{Input}
-use Rattle.ssb_statements.specs.declared.statements.Statements.{Statements}
 
 -- whether the end was met, by what a read answered
 abbrev pub is_end_of : Result ℕ SourceFault → Bool
@@ -28,15 +29,26 @@ pub record WasRead {S : Type 0} {source : Source S} (old : Input S source) (resu
   pub forth : source.ends old.source ≤ source.ends new.source
   pub whole : source.whole new.source ≡ source.whole old.source
 
--- the bytes ahead have the next statement to its end, or all of them were taken and have none
-abbrev pub FindsBy : {S : Type 0} {source : Source S} → Option Statement → Statements S source → Statements S source → Type 0
-FindsBy (Some t) old new = (s : List ℕ) × IsTold t (text_of new) s × ((more : List ℕ) → statements_of (ahead old ++ more) ≡ s ∷ statements_of (ahead new ++ more))
-FindsBy None old new = (ahead new ≡ ahead old) × (new.at ≡ new.end) × ((s rest : List ℕ) → ¬ IsCut (ahead old) s rest)
+-- the bytes that were read and that belong to no statement told so far
+abbrev pub bytes_in : StatementBuffer → List ℕ
+bytes_in b = b.taken.items ++ drop b.at (take b.end b.piece.items)
 
--- it was looked for the end of the next statement, with no read
-pub record Finds {S : Type 0} {source : Source S} (old : Statements S source) (result : Option Statement) (new : Statements S source) : Type 0 where
-  pub same : new.input ≡ old.input
-  pub found : FindsBy result old new
+-- the bytes of the statement told last
+abbrev pub text_in : StatementBuffer → List ℕ
+text_in b = told_text b.cutter
+
+-- all bytes of the piece were taken
+abbrev pub IsSpent : StatementBuffer → Type 0
+IsSpent b = b.at ≡ b.end
+
+-- a source that is read through a buffer
+abbrev pub read_through : {S : Type 0} {source : Source S} → Input S source → StatementBuffer → Reader S
+read_through input buffer = record { source = input.source; ended = input.ended; ahead = bytes_in buffer; text = text_in buffer }
+
+-- The end of the next statement was looked for: the bytes have it, or all of them were taken and have none.
+abbrev pub Finds : StatementBuffer → Option Statement → StatementBuffer → Type 0
+Finds old (Some t) new = (s : List ℕ) × IsTold t (text_in new) s × IsCut (bytes_in old) s (bytes_in new)
+Finds old None new = (bytes_in new ≡ bytes_in old) × IsSpent new × ((s rest : List ℕ) → ¬ IsCut (bytes_in old) s rest)
 
 -- the next piece is there, or the end was met, or a read failed
 abbrev pub FillsBy : Result Bool SourceFault → List ℕ → Bool → Type 0
@@ -45,29 +57,28 @@ FillsBy (Ok false) fresh ended = (fresh ≡ []) × (ended ≡ true)
 FillsBy (Err e) fresh ended = (fresh ≡ []) × (ended ≡ false)
 
 -- the next piece was read, behind bytes that were all taken
-pub record Fills {S : Type 0} {source : Source S} (old : Statements S source) (result : Result Bool SourceFault) (new : Statements S source) : Type 0 where
+pub record Fills {S : Type 0} {source : Source S} (old : Input S source) (spent : StatementBuffer) (result : Result Bool SourceFault) (new : Input S source) (full : StatementBuffer) : Type 0 where
   pub fresh : List ℕ
-  pub given : source.given (source_of new) ≡ source.given (source_of old) ++ fresh
-  pub kept : ahead new ≡ ahead old ++ fresh
-  pub filled : FillsBy result fresh (has_ended new)
-  pub none : has_ended new ≡ true → new.at ≡ new.end
-  pub failures : source.failures (source_of new) ≡ source.failures (source_of old) + (if is_err result then 1 else 0)
-  pub quiet : has_ended old ≡ true → (source_of new ≡ source_of old) × (has_ended new ≡ true)
-  pub forth : source.ends (source_of old) ≤ source.ends (source_of new)
-  pub whole : source.whole (source_of new) ≡ source.whole (source_of old)
+  pub given : source.given new.source ≡ source.given old.source ++ fresh
+  pub kept : bytes_in full ≡ bytes_in spent ++ fresh
+  pub filled : FillsBy result fresh new.ended
+  pub none : new.ended ≡ true → IsSpent full
+  pub failures : source.failures new.source ≡ source.failures old.source + (if is_err result then 1 else 0)
+  pub quiet : old.ended ≡ true → (new.source ≡ old.source) × (new.ended ≡ true)
+  pub forth : source.ends old.source ≤ source.ends new.source
+  pub whole : source.whole new.source ≡ source.whole old.source
 
 -- the last statement at hand was told, if there is one
 abbrev pub IsClosed : Option Statement → Cutter → Cutter → Type 0
 IsClosed (Some t) old new = (s : List ℕ) × IsTold t (told_text new) s × (cut old.boundary [] ≡ s ∷ [])
 IsClosed None old new = cut old.boundary [] ≡ []
 
--- the bytes ahead are the last statement, or none
-abbrev pub ClosesBy : {S : Type 0} {source : Source S} → Option Statement → Statements S source → Statements S source → Type 0
-ClosesBy (Some t) old new = (s : List ℕ) × IsTold t (text_of new) s × (statements_of (ahead old) ≡ s ∷ [])
-ClosesBy None old new = statements_of (ahead old) ≡ []
+-- the bytes are the last statement, or none
+abbrev pub IsLast : Option Statement → List ℕ → List ℕ → Type 0
+IsLast (Some t) bytes text = (s : List ℕ) × IsTold t text s × (statements_of bytes ≡ s ∷ [])
+IsLast None bytes text = statements_of bytes ≡ []
 
--- the last statement was told, with no read
-pub record Closes {S : Type 0} {source : Source S} (old : Statements S source) (result : Option Statement) (new : Statements S source) : Type 0 where
-  pub same : new.input ≡ old.input
-  pub rest : ahead new ≡ []
-  pub last : ClosesBy result old new
+-- the last statement was told
+pub record Closes (old : StatementBuffer) (result : Option Statement) (new : StatementBuffer) : Type 0 where
+  pub rest : bytes_in new ≡ []
+  pub last : IsLast result (bytes_in old) (text_in new)

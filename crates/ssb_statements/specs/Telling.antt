@@ -1,29 +1,28 @@
 -- The statements told of a source are those of the bytes that it gave, however it cuts these into pieces.
 -- Source: own.
-use Rattle.std.specs.Prelude.{◌≡◌, ◌<◌, ◌≤◌, ◌+◌, ◌^◌, ◌⊎◌, ℕ, Bool, true, false, List, [], ◌∷◌, ◌++◌, length, take, drop, Option, Some, None, Result, Ok, Err}
+use Rattle.std.specs.Prelude.{◌≡◌, ◌<◌, ◌≤◌, ◌+◌, ◌^◌, ◌⊎◌, ℕ, Bool, true, false, List, [], ◌∷◌, ◌++◌, length, Option, Some, None, Result, Ok, Err}
 use Rattle.ssb_records.specs.declared.source.Source.{Ghosts as Source}
 use Rattle.ssb_records.specs.declared.source.SourceFault.{SourceFault}
 use Rattle.ssb_tokens.specs.Statements.{statements_of}
-use Rattle.ssb_statements.specs.Cutting.{told_text}
 use Rattle.ssb_statements.specs.declared.cutter.Statement.{Statement}
 use Rattle.ssb_statements.specs.declared.cutter.Statement.TheVariants.{Text, TooLong}
 use Rattle.ssb_statements.specs.declared.statements.Statements.{Statements}
 
 -- the source, as the reads left it
-abbrev pub source_of : {S : Type 0} {source : Source S} → Statements S source → S
-source_of r = r.input.source
+abbrev pub source_of : {S : Type 0} → Statements S → S
+source_of r = r.source
 
 -- whether it met its end
-abbrev pub has_ended : {S : Type 0} {source : Source S} → Statements S source → Bool
-has_ended r = r.input.ended
+abbrev pub has_ended : {S : Type 0} → Statements S → Bool
+has_ended r = r.ended
 
 -- the bytes that it gave and that belong to no statement told so far
-abbrev pub ahead : {S : Type 0} {source : Source S} → Statements S source → List ℕ
-ahead r = r.taken.items ++ drop r.at (take r.end r.buffer.piece.items)
+abbrev pub ahead : {S : Type 0} → Statements S → List ℕ
+ahead r = r.ahead
 
 -- the bytes of the statement told last
-abbrev pub text_of : {S : Type 0} {source : Source S} → Statements S source → List ℕ
-text_of r = told_text r.buffer.cutter
+abbrev pub text_of : {S : Type 0} → Statements S → List ℕ
+text_of r = r.text
 
 -- this is told of a statement, with its bytes where it has at most 65,536
 abbrev pub IsTold : Statement → List ℕ → List ℕ → Type 0
@@ -40,37 +39,37 @@ abbrev pub IsCut : List ℕ → List ℕ → List ℕ → Type 0
 IsCut text s rest = (more : List ℕ) → statements_of (text ++ more) ≡ s ∷ statements_of (rest ++ more)
 
 -- the next statement was told: the first of the bytes ahead
-pub record Tells {S : Type 0} {source : Source S} (t : Statement) (old : Statements S source) (fresh : List ℕ) (new : Statements S source) : Type 0 where
+pub record Tells {S : Type 0} (source : Source S) (t : Statement) (old : Statements S) (fresh : List ℕ) (new : Statements S) : Type 0 where
   pub statement : List ℕ
   pub told : IsTold t (text_of new) statement
   pub next : Whatever (has_ended new) (λ more. statements_of (ahead old ++ (fresh ++ more)) ≡ statement ∷ statements_of (ahead new ++ more))
   pub failures : source.failures (source_of new) ≡ source.failures (source_of old)
 
 -- no statement was left, and none comes
-pub record Ends {S : Type 0} {source : Source S} (old : Statements S source) (fresh : List ℕ) (new : Statements S source) : Type 0 where
+pub record Ends {S : Type 0} (source : Source S) (old : Statements S) (fresh : List ℕ) (new : Statements S) : Type 0 where
   pub none : statements_of (ahead old ++ fresh) ≡ []
   pub rest : ahead new ≡ []
   pub ended : has_ended new ≡ true
   pub failures : source.failures (source_of new) ≡ source.failures (source_of old)
 
 -- a read failed, or one statement goes on for 2 ^ 64 - 1 bytes: no byte is lost
-pub record Breaks {S : Type 0} {source : Source S} (old : Statements S source) (fresh : List ℕ) (new : Statements S source) : Type 0 where
+pub record Breaks {S : Type 0} (source : Source S) (old : Statements S) (fresh : List ℕ) (new : Statements S) : Type 0 where
   pub failed : (source.failures (source_of old) < source.failures (source_of new)) ⊎ (2 ^ 64 ≤ length fresh + 1)
   pub kept : ahead new ≡ ahead old ++ fresh
   pub ended : has_ended new ≡ false
 
 -- what `next` told
-abbrev pub Answers : {S : Type 0} {source : Source S} → Result (Option Statement) SourceFault → Statements S source → List ℕ → Statements S source → Type 0
-Answers (Ok (Some t)) old fresh new = Tells t old fresh new
-Answers (Ok None) old fresh new = Ends old fresh new
-Answers (Err e) old fresh new = Breaks old fresh new
+abbrev pub Answers : {S : Type 0} → Source S → Result (Option Statement) SourceFault → Statements S → List ℕ → Statements S → Type 0
+Answers source (Ok (Some t)) old fresh new = Tells source t old fresh new
+Answers source (Ok None) old fresh new = Ends source old fresh new
+Answers source (Err e) old fresh new = Breaks source old fresh new
 
 -- a call of `next`
-pub record Gave {S : Type 0} {source : Source S} (old : Statements S source) (result : Result (Option Statement) SourceFault) (new : Statements S source) : Type 0 where
+pub record Gave {S : Type 0} (source : Source S) (old : Statements S) (result : Result (Option Statement) SourceFault) (new : Statements S) : Type 0 where
   -- the source gave these bytes
   pub fresh : List ℕ
   pub given : source.given (source_of new) ≡ source.given (source_of old) ++ fresh
-  pub answer : Answers result old fresh new
+  pub answer : Answers source result old fresh new
   -- a statement that is ahead to its end is told with no read
   pub prompt : (s rest : List ℕ) → IsCut (ahead old) s rest → source_of new ≡ source_of old
   -- the source has met its end where the reader says so, and is not read again then

@@ -1,29 +1,29 @@
 // The statements of what a source gives.
 
-ghost use Rattle.std.specs.Prelude.{◌≡◌, ◌++◌, ◌≤◌, ◌<◌, ℕ, [], List, vec_len, false, IfOk};
-ghost use Rattle.ssb_tokens.specs.Statements.{statements_of};
-ghost use Rattle.ssb_statements.specs.Cutting.{cut};
+ghost use Rattle.std.specs.Prelude.{◌≡◌, [], false, IfOk};
 
 use crate::buffer::StatementBuffer;
 use crate::cutter::Statement;
 use crate::input::Input;
-use ssb_records::{History, Source, SourceFault};
+use ssb_records::{Source, SourceFault};
 use std::alloc::{AllocError, Global};
-use std::mem;
+use std::marker::Model;
 
 /// The statements of what a source gives, one by one. A statement is told once the bytes up to its `;`
 /// were given, and the last one, if it has none, at the end of the source.
 pub struct Statements<S: Source> {
     input: Input<S>,
     buffer: StatementBuffer,
-    // The bytes of the buffer's piece from here to their end were not taken.
-    at: usize,
-    end: usize,
-    // The bytes that were taken since the last statement was told.
-    taken: History<u8>,
-    ghost inside: { at ≤ end },
-    ghost held: { end ≤ vec_len buffer.piece },
-    ghost known: { (more : List ℕ) → statements_of (taken.items ++ more) ≡ cut buffer.cutter.boundary more },
+}
+
+impl<S: Source> Model for Statements<S> {
+    ghost use Rattle.ssb_statements.specs.Reader.{Reader};
+
+    ghost Value = { Reader S };
+
+    ghost use Rattle.ssb_statements.specs.Reading.{read_through};
+
+    ghost view = { λ r. read_through r.input r.buffer };
 }
 
 // Written out, so that the crates above need no proof of how its parts are let go.
@@ -35,7 +35,6 @@ impl<S: Source + Drop> Drop for Statements<S> {
 
 impl<S: Source> Statements<S> {
     ghost use Rattle.ssb_statements.specs.Telling.{Gave, ahead, has_ended, source_of, text_of};
-    ghost use Rattle.ssb_statements.specs.Reading.{Closes, Fills, Finds};
 
     /// The statements of what a source gives from now on. `next` asks for no memory.
     ///
@@ -61,13 +60,10 @@ impl<S: Source> Statements<S> {
         ensures ended { has_ended result ≡ false }
         ensures text { text_of result ≡ [] }
     {
-        buffer.cutter.clear();
+        buffer.clear();
         Statements {
             input: Input::new(source),
             buffer,
-            at: 0,
-            end: 0,
-            taken: History::new(),
         }
     }
 
@@ -75,13 +71,7 @@ impl<S: Source> Statements<S> {
     pub fn into_parts(self) -> (S, StatementBuffer)
         ensures { result.0 ≡ source_of self }
     {
-        let Statements {
-            input,
-            buffer,
-            at: _,
-            end: _,
-            taken: _,
-        } = self;
+        let Statements { input, buffer } = self;
         (input.into_source(), buffer)
     }
 
@@ -112,52 +102,7 @@ impl<S: Source> Statements<S> {
     pub fn text(&self) -> &[u8]
         ensures { result.now ≡ text_of self.now }
     {
-        self.buffer.cutter.text()
-    }
-
-    // The next statement, where the piece has its end.
-    fn find(&mut self) -> Option<Statement>
-        ensures { Finds self.old result self.new }
-    {
-        match self
-            .buffer
-            .cutter
-            .take_all(&self.buffer.piece[self.at..self.end])
-        {
-            Some(count) => {
-                self.at += count;
-                let statement = self.buffer.cutter.finish();
-                self.taken = History::new();
-                Some(statement)
-            }
-            None => {
-                let taken = mem::replace(&mut self.taken, History::new());
-                self.taken = taken.and_all(&self.buffer.piece[self.at..self.end]);
-                self.at = self.end;
-                None
-            }
-        }
-    }
-
-    // Reads the next piece, and says whether there is one.
-    fn fill(&mut self) -> Result<bool, SourceFault>
-        requires { self.old.at ≡ self.old.end }
-        ensures { Fills self.old result self.new }
-    {
-        let count = self.input.read(&mut self.buffer.piece)?;
-        self.at = 0;
-        self.end = count;
-        Ok(count > 0)
-    }
-
-    // The last statement, once the source met its end.
-    fn close(&mut self) -> Option<Statement>
-        requires { self.old.at ≡ self.old.end }
-        ensures { Closes self.old result self.new }
-    {
-        let last = self.buffer.cutter.close();
-        self.taken = History::new();
-        last
+        self.buffer.text()
     }
 
     /// Goes on to the next statement, and says what it is, or that none comes. It reads the source only
@@ -168,14 +113,14 @@ impl<S: Source> Statements<S> {
     ///
     /// `SourceFault` where a read failed, and where one statement goes on for 2 ^ 64 - 1 bytes.
     pub fn next(&mut self) -> Result<Option<Statement>, SourceFault>
-        ensures { Gave self.old result self.new }
+        ensures { Gave S.Source self.old result self.new }
     {
         for _ in 0..u64::MAX {
-            if let Some(statement) = self.find() {
+            if let Some(statement) = self.buffer.find() {
                 return Ok(Some(statement));
             }
-            if !self.fill()? {
-                return Ok(self.close());
+            if !self.buffer.fill(&mut self.input)? {
+                return Ok(self.buffer.close());
             }
         }
         // No statement has as many bytes.

@@ -10,11 +10,9 @@ use Rattle.ssb_records.specs.declared.source.Source.{Ghosts as Source}
 use Rattle.ssb_records.specs.declared.source.SourceFault.{SourceFault}
 use Rattle.ssb_statements.specs.Parting.{EndsBefore, HasNoCommand, IsAtCommand, IsBeforeCommand, IsEndOf, is_dot}
 use Rattle.ssb_statements.proofs.Finding.{drop-drop}
-use Rattle.ssb_statements.specs.Scripts.{Comes, IsLine, IsQuiet, Refills, TakesByte, TakesLine, has_met_end, source_in, stretch, waiting}
-use Rattle.ssb_statements.specs.declared.input.Input.{Input}
-use Rattle.ssb_statements.specs.declared.prefix.Prefix.{Prefix}
+use Rattle.ssb_statements.specs.Reader.{ScriptReader}
+use Rattle.ssb_statements.specs.Scripts.{Comes, IsLine, IsQuiet, Refills, TakesByte, TakesLine, has_met_end, line_of, source_in, stretch, waiting}
 use Rattle.ssb_statements.specs.declared.script.Next.TheVariants.{Command, End, Statements}
-use Rattle.ssb_statements.specs.declared.script.Script.{Script}
 
 -- so many bytes were given
 pub record GivesAt (n : ℕ) (bytes old now room_old room : List ℕ) : Type 0 where
@@ -67,6 +65,12 @@ waits a e xs lt le = omega (arith, wait-long a e xs le)
 
 pub not-none : (xs : List ℕ) → 0 < length xs → xs ≡ [] → ⊥
 not-none xs l e = absurd (omega (arith, ap length e))
+
+-- a read that gave no byte met the end
+pub none-read : (n : ℕ) (room : List ℕ) → n ≤ length room → take n room ≡ [] → (n == 0) ≡ true
+none-read zero room le e = refl
+none-read (suc n) [] le e = absurd (omega arith)
+none-read (suc n) (b ∷ bs) le e = cc
 
 pub first-waits : (a e : ℕ) (xs : List ℕ) (d : ℕ) → a < e → e ≤ length xs → drop a (take e xs) ≡ get_or (take e xs) a d ∷ drop (a + 1) (take e xs)
 first-waits a e xs d lt le = drop_more (take e xs) a d (omega (arith, length-take e xs))
@@ -133,131 +137,161 @@ ends-same n a old now bytes all over z passed ends =
 
 -- ---- a line that is taken byte by byte
 
-module _ {S P : Type 0} {source : Source S} where
-  -- so many bytes of a line were taken, from a script that had these before
-  pub record LineAt (n : ℕ) (old now : Script S P source) : Type 0 where
-    pub fresh : List ℕ
-    pub given : source.given (source_in now) ≡ source.given (source_in old) ++ fresh
-    pub same : now.line.all.items ++ waiting now ≡ waiting old ++ fresh
-    pub count : length now.line.all.items ≡ n
-    pub part : IsPartOfLine now.line.all.items
-    pub anew : stretch now ≡ []
-    pub failures : source.failures (source_in now) ≡ source.failures (source_in old)
-    pub quiet : IsQuiet old now
+-- the first bytes of a text that grows
+pub first-more : (n b : ℕ) (xs ys : List ℕ) → take n xs ≡ take n ys → take n (xs ++ b ∷ []) ≡ take n (ys ++ b ∷ [])
+first-more zero b xs ys e = refl
+first-more (suc n) b [] [] e = refl
+first-more (suc n) b [] (y ∷ ys) e = cc
+first-more (suc n) b (x ∷ xs) [] e = cc
+first-more (suc n) b (x ∷ xs) (y ∷ ys) e = same _ _ _ _ (head _ _ _ _ e) (first-more n b xs ys (tail _ _ _ _ e))
+  where
+    head : (x y : ℕ) (xs ys : List ℕ) → x ∷ xs ≡ y ∷ ys → x ≡ y
+    head x y xs ys e = cc
 
+    tail : (x y : ℕ) (xs ys : List ℕ) → x ∷ xs ≡ y ∷ ys → xs ≡ ys
+    tail x y xs ys e = cc
+
+    same : (x y : ℕ) (xs ys : List ℕ) → x ≡ y → xs ≡ ys → x ∷ xs ≡ y ∷ ys
+    same x y xs ys e f = cc
+
+module _ {S : Type 0} where
   -- no read follows the end, over two steps
-  pub quiet-on : (old mid new : Script S P source) → IsQuiet old mid → IsQuiet mid new → IsQuiet old new
+  pub quiet-on : (old mid new : ScriptReader S) → IsQuiet old mid → IsQuiet mid new → IsQuiet old new
   quiet-on old mid new a b h = let m = a h in let n = b m.1 in (n.0 ∙ m.0, n.1)
 
-  quiet-same : (old new : Script S P source) → new.input ≡ old.input → IsQuiet old new
-  quiet-same old new same h = (ap (λ (i : Input S source). i.source) same, ap (λ (i : Input S source). i.ended) same ∙ h)
+  quiet-same : (old new : ScriptReader S) → source_in new ≡ source_in old → has_met_end new ≡ has_met_end old → IsQuiet old new
+  quiet-same old new same ended h = (same, ended ∙ h)
 
-  pub line-begins : (old now : Script S P source) → now.input ≡ old.input → waiting now ≡ waiting old → stretch now ≡ [] → now.line.all.items ≡ [] → LineAt 0 old now
-  line-begins old now input bytes anew none = record {
+module _ {S : Type 0} (source : Source S) where
+  -- so many bytes of a line were taken, from a script that had these before
+  pub record LineAt (n : ℕ) (old now : ScriptReader S) : Type 0 where
+    pub fresh : List ℕ
+    pub text : List ℕ
+    pub given : source.given (source_in now) ≡ source.given (source_in old) ++ fresh
+    pub same : text ++ waiting now ≡ waiting old ++ fresh
+    pub line : line_of now ≡ take 4096 text
+    pub count : length text ≡ n
+    pub part : IsPartOfLine text
+    pub anew : stretch now ≡ []
+    pub failures : source.failures (source_in now) ≡ source.failures (source_in old)
+    pub met : has_met_end now ≡ true → 0 < source.ends (source_in now)
+    pub quiet : IsQuiet old now
+
+  met-same : (old new : ScriptReader S) → source_in new ≡ source_in old → has_met_end new ≡ has_met_end old → (has_met_end old ≡ true → 0 < source.ends (source_in old)) → has_met_end new ≡ true → 0 < source.ends (source_in new)
+  met-same old new same ended met h = subst (λ s. 0 < source.ends s) (sym same) (met (sym ended ∙ h))
+
+  pub line-begins : (old now : ScriptReader S) → source_in now ≡ source_in old → has_met_end now ≡ has_met_end old → (has_met_end now ≡ true → 0 < source.ends (source_in now)) → waiting now ≡ waiting old → stretch now ≡ [] → line_of now ≡ [] → LineAt 0 old now
+  line-begins old now same ended met bytes anew none = record {
     fresh = [];
-    given = ap (λ (i : Input S source). source.given i.source) input ∙ sym (append-nil (source.given (source_in old)));
-    same = ap (λ t. t ++ waiting now) none ∙ bytes ∙ sym (append-nil (waiting old));
-    count = ap length none;
-    part = subst IsPartOfLine (sym none) refl;
+    text = [];
+    given = ap source.given same ∙ sym (append-nil (source.given (source_in old)));
+    same = bytes ∙ sym (append-nil (waiting old));
+    line = none;
+    count = refl;
+    part = refl;
     anew = anew;
-    failures = ap (λ (i : Input S source). source.failures i.source) input;
-    quiet = quiet-same old now input;
+    failures = ap source.failures same;
+    met = met;
+    quiet = quiet-same old now same ended;
   }
 
-  read-given : (old now mid : Script S P source) (n : ℕ) (result : Result (Unit {0}) SourceFault) (l : LineAt n old now) (r : Refills now result mid) → source.given (source_in mid) ≡ source.given (source_in old) ++ (l.fresh ++ r.fresh)
+  read-given : (old now mid : ScriptReader S) (n : ℕ) (result : Result (Unit {0}) SourceFault) (l : LineAt n old now) (r : Refills source now result mid) → source.given (source_in mid) ≡ source.given (source_in old) ++ (l.fresh ++ r.fresh)
   read-given old now mid n result l r = r.given ∙ ap (λ t. t ++ r.fresh) l.given ∙ append_assoc (source.given (source_in old)) l.fresh r.fresh
 
-  read-same : (old now mid : Script S P source) (n : ℕ) (result : Result (Unit {0}) SourceFault) (l : LineAt n old now) (r : Refills now result mid) → mid.line.all.items ++ waiting mid ≡ waiting old ++ (l.fresh ++ r.fresh)
+  read-same : (old now mid : ScriptReader S) (n : ℕ) (result : Result (Unit {0}) SourceFault) (l : LineAt n old now) (r : Refills source now result mid) → l.text ++ waiting mid ≡ waiting old ++ (l.fresh ++ r.fresh)
   read-same old now mid n result l r =
-      ap (λ (i : Prefix). i.all.items ++ waiting mid) r.line ∙ ap (λ t. now.line.all.items ++ t) r.bytes ∙ sym (append_assoc now.line.all.items (waiting now) r.fresh)
-      ∙ ap (λ t. t ++ r.fresh) l.same ∙ append_assoc (waiting old) l.fresh r.fresh
+      ap (λ t. l.text ++ t) r.bytes ∙ sym (append_assoc l.text (waiting now) r.fresh) ∙ ap (λ t. t ++ r.fresh) l.same ∙ append_assoc (waiting old) l.fresh r.fresh
 
-  pub line-stopped : (old now mid : Script S P source) (n : ℕ) (e : SourceFault) → LineAt n old now → Refills now (Err e) mid → TakesLine old (Err e) mid
+  pub line-stopped : (old now mid : ScriptReader S) (n : ℕ) (e : SourceFault) → LineAt n old now → Refills source now (Err e) mid → TakesLine source old (Err e) mid
   line-stopped old now mid n e l r = record {
     fresh = l.fresh ++ r.fresh;
     given = read-given old now mid n (Err e) l r;
-    taken = record {
-      failed = inl (omega (arith, r.failures, l.failures));
-      part = subst (λ (i : Prefix). IsPartOfLine i.all.items) (sym r.line) l.part;
-      kept = sym (read-same old now mid n (Err e) l r);
-    };
+    text = l.text;
+    taken = record { failed = inl (omega (arith, r.failures, l.failures)); part = l.part; kept = sym (read-same old now mid n (Err e) l r) };
+    line = r.line ∙ l.line;
     anew = r.same ∙ l.anew;
     clean = tt;
+    met = r.met;
     quiet = quiet-on old now mid l.quiet r.quiet;
   }
 
-  pub line-long : (old now : Script S P source) (n : ℕ) (e : SourceFault) → 2 ^ 64 ≤ n + 1 → LineAt n old now → TakesLine old (Err e) now
+  pub line-long : (old now : ScriptReader S) (n : ℕ) (e : SourceFault) → 2 ^ 64 ≤ n + 1 → LineAt n old now → TakesLine source old (Err e) now
   line-long old now n e long l = record {
     fresh = l.fresh;
     given = l.given;
-    taken = record { failed = inr (omega (arith, long, l.count, ap length l.same, length-append now.line.all.items (waiting now))); part = l.part; kept = sym l.same };
+    text = l.text;
+    taken = record { failed = inr (omega (arith, long, l.count, ap length l.same, length-append l.text (waiting now))); part = l.part; kept = sym l.same };
+    line = l.line;
     anew = l.anew;
     clean = tt;
+    met = l.met;
     quiet = l.quiet;
   }
 
-  pub line-over : (old now mid new : Script S P source) (n : ℕ) → LineAt n old now → Refills now (Ok tt) mid → TakesByte mid None new → TakesLine old (Ok tt) new
+  pub line-over : (old now mid new : ScriptReader S) (n : ℕ) → LineAt n old now → Refills source now (Ok tt) mid → TakesByte mid None new → TakesLine source old (Ok tt) new
   line-over old now mid new n l r t =
-      let line : new.line.all.items ≡ mid.line.all.items = ap (λ (i : Prefix). i.all.items) t.line in
-      let part : IsPartOfLine mid.line.all.items = subst (λ (i : Prefix). IsPartOfLine i.all.items) (sym r.line) l.part in
-      let all : waiting old ++ (l.fresh ++ r.fresh) ≡ new.line.all.items =
-      sym (read-same old now mid n (Ok tt) l r) ∙ ap (λ w. mid.line.all.items ++ w) t.byte.0 ∙ append-nil mid.line.all.items ∙ sym line in
+      let all : waiting old ++ (l.fresh ++ r.fresh) ≡ l.text = sym (read-same old now mid n (Ok tt) l r) ∙ ap (λ w. l.text ++ w) t.byte.0 ∙ append-nil l.text in
       record {
         fresh = l.fresh ++ r.fresh;
-        given = ap (λ (i : Input S source). source.given i.source) t.input ∙ read-given old now mid n (Ok tt) l r;
-        taken = record { part = subst IsPartOfLine (sym line) part; split = inr (all, t.byte.1, ap (λ (i : Input S source). i.ended) t.input ∙ r.over t.byte.0) };
+        given = ap source.given t.source ∙ read-given old now mid n (Ok tt) l r;
+        text = l.text;
+        taken = record { part = l.part; split = inr (all, t.byte.1, t.ended ∙ r.over t.byte.0) };
+        line = t.line ∙ r.line ∙ l.line;
         anew = t.same ∙ r.same ∙ l.anew;
-        clean = omega (arith, ap (λ (i : Input S source). source.failures i.source) t.input, r.failures, l.failures);
-        quiet = quiet-on old mid new (quiet-on old now mid l.quiet r.quiet) (quiet-same mid new t.input);
+        clean = omega (arith, ap source.failures t.source, r.failures, l.failures);
+        met = met-same mid new t.source t.ended r.met;
+        quiet = quiet-on old mid new (quiet-on old now mid l.quiet r.quiet) (quiet-same mid new t.source t.ended);
       }
 
-  pub line-ended : (old now mid new : Script S P source) (n b : ℕ) → b ≡ 10 → LineAt n old now → Refills now (Ok tt) mid → TakesByte mid (Some b) new → TakesLine old (Ok tt) new
-  line-ended old now mid new n b is l r t =
-      let line : new.line.all.items ≡ mid.line.all.items = ap (λ (i : Prefix). i.all.items) t.line in
-      let part : IsPartOfLine mid.line.all.items = subst (λ (i : Prefix). IsPartOfLine i.all.items) (sym r.line) l.part in
-      record {
-        fresh = l.fresh ++ r.fresh;
-        given = ap (λ (i : Input S source). source.given i.source) t.input ∙ read-given old now mid n (Ok tt) l r;
-        taken = record {
-          part = subst IsPartOfLine (sym line) part;
-          split = inl (sym (read-same old now mid n (Ok tt) l r) ∙ ap (λ w. mid.line.all.items ++ w) t.byte ∙ ap (λ x. mid.line.all.items ++ x ∷ waiting new) is ∙ ap (λ x. x ++ 10 ∷ waiting new) (sym line));
-        };
-        anew = t.same ∙ r.same ∙ l.anew;
-        clean = omega (arith, ap (λ (i : Input S source). source.failures i.source) t.input, r.failures, l.failures);
-        quiet = quiet-on old mid new (quiet-on old now mid l.quiet r.quiet) (quiet-same mid new t.input);
-      }
+  pub line-ended : (old now mid new : ScriptReader S) (n b : ℕ) → b ≡ 10 → LineAt n old now → Refills source now (Ok tt) mid → TakesByte mid (Some b) new → TakesLine source old (Ok tt) new
+  line-ended old now mid new n b is l r t = record {
+    fresh = l.fresh ++ r.fresh;
+    given = ap source.given t.source ∙ read-given old now mid n (Ok tt) l r;
+    text = l.text;
+    taken = record {
+      part = l.part;
+      split = inl (sym (read-same old now mid n (Ok tt) l r) ∙ ap (λ w. l.text ++ w) t.byte ∙ ap (λ x. l.text ++ x ∷ waiting new) is);
+    };
+    line = t.line ∙ r.line ∙ l.line;
+    anew = t.same ∙ r.same ∙ l.anew;
+    clean = omega (arith, ap source.failures t.source, r.failures, l.failures);
+    met = met-same mid new t.source t.ended r.met;
+    quiet = quiet-on old mid new (quiet-on old now mid l.quiet r.quiet) (quiet-same mid new t.source t.ended);
+  }
 
-  pub line-more : (old now mid new last : Script S P source) (n b : ℕ) → (b ≡ 10 → ⊥) → LineAt n old now → Refills now (Ok tt) mid → TakesByte mid (Some b) new
-      → last.input ≡ new.input → waiting last ≡ waiting new → stretch last ≡ stretch new → last.line.all.items ≡ new.line.all.items ++ b ∷ [] → LineAt (n + 1) old last
-  line-more old now mid new last n b not l r t input bytes same more =
-      let line : new.line.all.items ≡ mid.line.all.items = ap (λ (i : Prefix). i.all.items) t.line in
-      let was : mid.line.all.items ≡ now.line.all.items = ap (λ (i : Prefix). i.all.items) r.line in
-      let now-line : last.line.all.items ≡ now.line.all.items ++ b ∷ [] = more ∙ ap (λ x. x ++ b ∷ []) (line ∙ was) in
+  -- the byte was put behind the line's first bytes
+  pub line-more : (old now mid new last : ScriptReader S) (n b : ℕ) (all : List ℕ) → (b ≡ 10 → ⊥) → LineAt n old now → Refills source now (Ok tt) mid → TakesByte mid (Some b) new
+      → source_in last ≡ source_in new → has_met_end last ≡ has_met_end new → waiting last ≡ waiting new → stretch last ≡ stretch new → take 4096 all ≡ line_of new → line_of last ≡ take 4096 (all ++ b ∷ []) → LineAt (n + 1) old last
+  line-more old now mid new last n b all not l r t from ended bytes same was more =
+      let given : source_in last ≡ source_in mid = from ∙ t.source in
+      let met : has_met_end last ≡ has_met_end mid = ended ∙ t.ended in
       record {
         fresh = l.fresh ++ r.fresh;
-        given = ap (λ (i : Input S source). source.given i.source) (input ∙ t.input) ∙ read-given old now mid n (Ok tt) l r;
-        same = ap (λ w. last.line.all.items ++ w) bytes ∙ ap (λ x. x ++ waiting new) (more ∙ ap (λ x. x ++ b ∷ []) line) ∙ append_assoc mid.line.all.items (b ∷ []) (waiting new)
-            ∙ ap (λ w. mid.line.all.items ++ w) (sym t.byte) ∙ read-same old now mid n (Ok tt) l r;
-        count = omega (arith, l.count, ap length now-line, length-append now.line.all.items (b ∷ []));
-        part = subst IsPartOfLine (sym now-line) (part-more now.line.all.items b l.part not);
+        text = l.text ++ b ∷ [];
+        given = ap source.given given ∙ read-given old now mid n (Ok tt) l r;
+        same = ap (λ w. (l.text ++ b ∷ []) ++ w) bytes ∙ append_assoc l.text (b ∷ []) (waiting new) ∙ ap (λ w. l.text ++ w) (sym t.byte) ∙ read-same old now mid n (Ok tt) l r;
+        line = more ∙ first-more 4096 b all l.text (was ∙ t.line ∙ r.line ∙ l.line);
+        count = omega (arith, l.count, length-append l.text (b ∷ []));
+        part = part-more l.text b l.part not;
         anew = same ∙ t.same ∙ r.same ∙ l.anew;
-        failures = omega (arith, ap (λ (i : Input S source). source.failures i.source) (input ∙ t.input), r.failures, l.failures);
-        quiet = quiet-on old mid last (quiet-on old now mid l.quiet r.quiet) (quiet-same mid last (input ∙ t.input));
+        failures = omega (arith, ap source.failures given, r.failures, l.failures);
+        met = met-same mid last given met r.met;
+        quiet = quiet-on old mid last (quiet-on old now mid l.quiet r.quiet) (quiet-same mid last given met);
       }
 
   -- ---- what comes next
 
-  pub comes-statements : (old new : Script S P source) → Refills old (Ok tt) new → 0 < length (waiting new) → (IsAtCommand (stretch new) (waiting new) → ⊥) → Comes old (Ok Statements) new
+  pub comes-statements : (old new : ScriptReader S) → Refills source old (Ok tt) new → 0 < length (waiting new) → (IsAtCommand (stretch new) (waiting new) → ⊥) → Comes source old (Ok Statements) new
   comes-statements old new r some none = record {
     fresh = r.fresh;
     given = r.given;
     comes = record { bytes = r.bytes; some = some; none = none; same = r.same };
     clean = omega (arith, r.failures);
-    over = new.input.over;
+    over = r.met;
     quiet = r.quiet;
   }
 
-  pub comes-command : (old mid new : Script S P source) → Refills old (Ok tt) mid → IsAtCommand (stretch mid) (waiting mid) → TakesLine mid (Ok tt) new → Comes old (Ok Command) new
+  pub comes-command : (old mid new : ScriptReader S) → Refills source old (Ok tt) mid → IsAtCommand (stretch mid) (waiting mid) → TakesLine source mid (Ok tt) new → Comes source old (Ok Command) new
   comes-command old mid new r at t =
       let whole : waiting old ++ (r.fresh ++ t.fresh) ≡ waiting mid ++ t.fresh = sym (append_assoc (waiting old) r.fresh t.fresh) ∙ ap (λ w. w ++ t.fresh) (sym r.bytes) in
       record {
@@ -265,17 +299,17 @@ module _ {S P : Type 0} {source : Source S} where
         given = t.given ∙ ap (λ g. g ++ t.fresh) r.given ∙ append_assoc (source.given (source_in old)) r.fresh t.fresh;
         comes = record {
           here = record { here = subst IsBeforeCommand r.same at.here; dot = ap (begins is_dot) whole ∙ begins-more is_dot (waiting mid) t.fresh at.dot };
-          text = new.line.all.items;
-          taken = subst (λ w. IsLine w new.line.all.items (waiting new) (has_met_end new)) (sym whole) t.taken;
-          line = refl;
+          text = t.text;
+          taken = subst (λ w. IsLine w t.text (waiting new) (has_met_end new)) (sym whole) t.taken;
+          line = t.line;
           anew = t.anew;
         };
         clean = omega (arith, r.failures, t.clean);
-        over = new.input.over;
+        over = t.met;
         quiet = quiet-on old mid new r.quiet t.quiet;
       }
 
-  pub comes-fault : (old mid new : Script S P source) (e : SourceFault) → Refills old (Ok tt) mid → IsAtCommand (stretch mid) (waiting mid) → TakesLine mid (Err e) new → Comes old (Err e) new
+  pub comes-fault : (old mid new : ScriptReader S) (e : SourceFault) → Refills source old (Ok tt) mid → IsAtCommand (stretch mid) (waiting mid) → TakesLine source mid (Err e) new → Comes source old (Err e) new
   comes-fault old mid new e r at t =
       let whole : waiting old ++ (r.fresh ++ t.fresh) ≡ waiting mid ++ t.fresh = sym (append_assoc (waiting old) r.fresh t.fresh) ∙ ap (λ w. w ++ t.fresh) (sym r.bytes) in
       record {
@@ -283,36 +317,36 @@ module _ {S P : Type 0} {source : Source S} where
         given = t.given ∙ ap (λ g. g ++ t.fresh) r.given ∙ append_assoc (source.given (source_in old)) r.fresh t.fresh;
         comes = record {
           failed = elim t.taken.failed [ inl f ↦ inl (omega (arith, f, r.failures)) | inr f ↦ inr (omega (arith, f, ap length whole)) ];
-          text = new.line.all.items;
+          text = t.text;
           kept = whole ∙ t.taken.kept;
           command = inr (record {
             here = record { here = subst IsBeforeCommand r.same at.here; dot = ap (begins is_dot) whole ∙ begins-more is_dot (waiting mid) t.fresh at.dot };
             part = t.taken.part;
-            line = refl;
+            line = t.line;
             anew = t.anew;
           });
         };
         clean = tt;
-        over = new.input.over;
+        over = t.met;
         quiet = quiet-on old mid new r.quiet t.quiet;
       }
 
-  pub comes-broken : (old new : Script S P source) (e : SourceFault) → Refills old (Err e) new → Comes old (Err e) new
+  pub comes-broken : (old new : ScriptReader S) (e : SourceFault) → Refills source old (Err e) new → Comes source old (Err e) new
   comes-broken old new e r = record {
     fresh = r.fresh;
     given = r.given;
     comes = record { failed = inl (omega (arith, r.failures)); text = []; kept = sym r.bytes; command = inl (refl, r.same) };
     clean = tt;
-    over = new.input.over;
+    over = r.met;
     quiet = r.quiet;
   }
 
-  pub comes-end : (old new : Script S P source) → Refills old (Ok tt) new → waiting new ≡ [] → Comes old (Ok End) new
+  pub comes-end : (old new : ScriptReader S) → Refills source old (Ok tt) new → waiting new ≡ [] → Comes source old (Ok End) new
   comes-end old new r none = record {
     fresh = r.fresh;
     given = r.given;
     comes = record { none = sym r.bytes ∙ none; rest = none; ended = r.over none; same = r.same };
     clean = omega (arith, r.failures);
-    over = new.input.over;
+    over = r.met;
     quiet = r.quiet;
   }

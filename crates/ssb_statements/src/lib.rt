@@ -1,15 +1,16 @@
 //! Statements: the statements of what a source gives, one by one, wherever it cuts its bytes; and scripts, in
 //! which lines that are commands stand between statements.
 //!
-//! - Offers: [`Statements`], which reads nothing where it has the next statement to its end; [`StatementBuffer`],
-//!   the room that it takes, which serves one reader after another;
-//!   [`Statement`], what it tells of one; [`STATEMENT_SIZE`], how long one may be; [`Script`], a source that
-//!   ends before each command, with [`Next`] and [`Prompts`].
+//! - Offers: [`Statements`], which reads nothing where it has the next statement to its end; [`Statement`],
+//!   what it tells of one; [`STATEMENT_SIZE`], how long one may be; [`StatementBuffer`], the room that this
+//!   takes, which serves one reader after another; [`Script`], a source that ends before each command, with
+//!   [`Next`] and [`Prompts`].
 //! - Callers: `ssb_answer`, which answers the statements of a source; the program, which obeys commands.
 //! - Apart: bytes are cut here before any of them is read as a token.
 //! - Files: `statements`, `input`, `buffer`; `cutter`, which takes bytes one by one, over `boundary` and `prefix`;
 //!   `script`, `position`.
-//! - Definitions: `Telling`; `Parting`, `Scripts`; `Bytes`, `Cutting`, `Reading`: for the contracts inside.
+//! - Definitions: `Reader`, what contracts see of both; `Telling`; `Parting`, `Scripts`; `Bytes`, `Cutting`,
+//!   `Reading`, `ScriptParts`: for the contracts inside.
 #![tactic(auto)]
 
 mod boundary;

@@ -1,13 +1,14 @@
 // Statements mixed with lines that are commands.
 
-ghost use Rattle.std.specs.Prelude.{◌≡◌, ◌≤◌, ◌<◌, ◌++◌, [], drop, length, take, vec_len, ◌↔◌, None, IfOk, IsTrue};
-ghost use Rattle.ssb_statements.specs.Parting.{EndsBefore, IsAtCommand, IsEndOf};
+ghost use Rattle.std.specs.Prelude.{◌≡◌, ◌≤◌, ◌<◌, ◌++◌, [], length, take, ◌↔◌, None, IfOk, IsTrue};
+ghost use Rattle.ssb_statements.specs.Parting.{EndsBefore, IsAtCommand};
 
 use crate::input::Input;
 use crate::position::{Position, counted};
 use crate::prefix::Prefix;
 use ssb_records::{History, Source, SourceFault};
 use std::alloc::{AllocError, Global};
+use std::marker::Model;
 use std::mem;
 
 // How many bytes of a source are taken at once.
@@ -56,12 +57,18 @@ pub struct Script<S: Source, P: Prompts> {
     line: Prefix,
     // How often this stretch was told to have ended.
     ended: History<()>,
-    ghost inside: { at ≤ end },
-    ghost held: { end ≤ vec_len piece },
-    ghost room: { 0 < vec_len piece },
-    ghost line_room: { vec_len line.kept ≡ 4096 },
-    ghost kept: { IsEndOf (S.given input.source) (position.all.items ++ drop at (take end piece.items)) },
-    ghost over: { 0 < length ended.items → EndsBefore position.all.items (drop at (take end piece.items)) input.ended },
+}
+
+impl<S: Source, P: Prompts> Model for Script<S, P> {
+    ghost use Rattle.ssb_statements.specs.Reader.{ScriptReader};
+
+    ghost Value = { ScriptReader S };
+
+    ghost use Rattle.ssb_statements.specs.ScriptParts.{IsWhole, seen};
+
+    ghost view = { seen };
+
+    ghost invariant = { IsWhole };
 }
 
 // Written out, so that the crates above need no proof of how its parts are let go.
@@ -145,7 +152,9 @@ impl<S: Source, P: Prompts> Script<S, P> {
     /// the script's own source met its end.
     pub fn stretches_are_whole(&self)
         ensures { 0 < ⟦<Script<S, P> as Source>⟧.ends self.now → EndsBefore (stretch self.now) (waiting self.now) (has_met_end self.now) }
-    {}
+    {
+        let _ended = &self.ended;
+    }
 
     /// The command told last, without its line feed: its first 4,096 bytes.
     pub fn line(&self) -> &[u8]
@@ -163,7 +172,7 @@ impl<S: Source, P: Prompts> Script<S, P> {
 
     // Reads the next piece where none waits.
     fn refill(&mut self) -> Result<(), SourceFault>
-        ensures { Refills self.old result self.new }
+        ensures { Refills S.Source self.old result self.new }
     {
         if self.at < self.end {
             return Ok(());
@@ -201,7 +210,7 @@ impl<S: Source, P: Prompts> Script<S, P> {
 
     // Takes the line that begins here, and begins a new stretch behind it.
     fn take_line(&mut self) -> Result<(), SourceFault>
-        ensures { TakesLine self.old result self.new }
+        ensures { TakesLine S.Source self.old result self.new }
     {
         self.position.restart();
         self.ended = History::new();
@@ -228,7 +237,7 @@ impl<S: Source, P: Prompts> Script<S, P> {
     /// `SourceFault` where a read failed, and where one line goes on for 2 ^ 64 - 1 bytes. Of a command that has
     /// begun `line` gives what came then, its first 4,096 bytes; all other bytes still wait.
     pub fn next(&mut self) -> Result<Next, SourceFault>
-        ensures { Comes self.old result self.new }
+        ensures { Comes S.Source self.old result self.new }
     {
         self.refill()?;
         if self.at == self.end {
@@ -243,11 +252,13 @@ impl<S: Source, P: Prompts> Script<S, P> {
 }
 
 impl<S: Source, P: Prompts> Source for Script<S, P> {
-    ghost given = { λ s. s.position.all.items };
+    ghost use Rattle.ssb_statements.specs.Scripts.{source_in, stretch};
 
-    ghost failures = { λ s. S.failures s.input.source };
+    ghost given = { stretch };
 
-    ghost ends = { λ s. length s.ended.items };
+    ghost failures = { λ s. S.failures (source_in s) };
+
+    ghost ends = { λ s. s.ends };
 
     // It is not told what comes, since only the bytes show where a command is.
     ghost whole = { λ s. None };

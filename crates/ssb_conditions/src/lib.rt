@@ -21,7 +21,7 @@ mod value;
 
 pub use coded::CodeTest;
 pub use evaluation::{all_true, eval, truth_of};
-pub use local::{LocalTest, local_tests, meets_local};
+pub use local::{LocalRow, LocalTest, local_tests, meets_local};
 pub use only::only_at;
 pub use ranged::RangeTest;
 pub use valuation::{Valuation, literal_value};

@@ -181,10 +181,6 @@ halts-broken now s p bytes more b subject h =
 
 -- ---- the last line
 
--- no part of a line waits
-pub whole-none : (a : Assembly) (bytes : List ℕ) (h : IsAssembled a bytes) → a.pending.items ≡ [] → IsWhole a bytes
-whole-none a bytes h none = record { lists = h.lists; latest = h.latest; records = ap records_of (whole-of a bytes h none) ∙ h.records; held = h.held }
-
 last-records : (a : Assembly) (bytes : List ℕ) (h : IsAssembled a bytes) → records_of bytes ≡ all_in h.lists ++ (h.latest ++ records_of (lead a.is_cut ++ a.pending.items))
 last-records a bytes h = ap records_of h.split ∙ records-begin a.is_cut h.lines a.pending.items h.begins ∙ ap (λ t. t ++ records_of (lead a.is_cut ++ a.pending.items)) h.records ∙ append_assoc (all_in h.lists) h.latest (records_of (lead a.is_cut ++ a.pending.items))
 

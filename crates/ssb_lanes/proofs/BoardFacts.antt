@@ -57,14 +57,6 @@ set-next : {A B : Type 0} (f : A → B) (n w : B) (done : List A) (ys : List B) 
 set-next f n w [] ys = refl
 set-next f n w (x ∷ xs) ys = ap (λ t. f x ∷ t) (set-next f n w xs ys)
 
--- what holds of each value holds of the next one
-pub next-of : {A : Type 0} (P : A → Type 0) (done : List A) (x : A) (rest all : List A) → done ++ x ∷ rest ≡ all → All P all → P x
-next-of P done x rest all is h = here done (subst (All P) (sym is) h)
-  where
-    here : (front : List _) → All P (front ++ x ∷ rest) → P x
-    here [] g = g 0 x (omega arith)
-    here (y ∷ ys) g = here ys (λ i d lt. g (suc i) d (omega (arith, lt)))
-
 -- the next place lies in the list
 pub inside-next : {A : Type 0} (done : List A) (x : A) (rest all : List A) (i : ℕ) → done ++ x ∷ rest ≡ all → i ≡ length done → i < length all
 inside-next done x rest all i is at =

@@ -215,18 +215,6 @@ module _ {S : Type 0} (s : Source S) where
         over = λ _. (refl, omega (arith, n, over));
       }
 
-  -- a read failed before any end was met, and the sources before the place have met theirs
-  pub joined-stopped : (lanes : List (Lane S)) (at failures : ℕ) → All HasMet (take at (sources_in lanes)) → All (IsForth s.failures) lanes → HasFailedAt s.failures lanes at → IsJoined s lanes at true true failures 0
-  joined-stopped lanes at failures met forth failed = record {
-    met = met;
-    fresh = λ going. absurd (false≢true (sym going));
-    untouched = λ not. absurd (false≢true (sym not));
-    forth = forth;
-    broken = λ _. failed;
-    told = λ _. refl;
-    over = λ more. absurd (omega (arith, more));
-  }
-
 -- before any read it gave nothing
 pub none-given : {S : Type 0} (s : Source S) (j : Joined S s) → j.begun ≡ false → given_upto s.given j.at (sources_in j.lanes.items) ≡ []
 none-given s j unread = given-none s.given (sources_in j.lanes.items) j.at (silent-sources s.given j.lanes.items (j.joined.untouched unread).unread)

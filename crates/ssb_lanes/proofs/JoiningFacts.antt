@@ -102,9 +102,6 @@ pub record AreStacked (rules : List Rule) (lists : List (List Fields)) (stacks :
   pub stacks_are : stacks ≡ columns_of rules (all_in front)
   pub rest_are : rest ≡ map (columns_of rules) back
 
-pub stacked-none : (rules : List Rule) (lists : List (List Fields)) (stacks : List Filled) (parts : List (List Filled)) → AreColumnsOf rules parts lists → stacks ≡ columns_of rules [] → AreStacked rules lists stacks parts
-stacked-none rules lists stacks parts are none = record { front = []; back = lists; split = refl; stacks_are = none; rest_are = are.columns }
-
 -- the next part, whose columns are those of a list of records
 record IsNextPart (rules : List Rule) (part : List Filled) (rest : List (List Filled)) (back : List (List Fields)) : Type 0 where
   list : List Fields

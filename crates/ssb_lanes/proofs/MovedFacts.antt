@@ -52,9 +52,6 @@ fault-split rules m good r none =
 
 -- ---- one record
 
-long-of : List Rule → Fields → Bool
-long-of rules r = any_field is_too_long rules r
-
 -- what is tested before the limit is told of before it
 data IsEarly : Option RecordFault → Type 0 where
   nothing : IsEarly None

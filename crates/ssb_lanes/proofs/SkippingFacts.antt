@@ -1,7 +1,7 @@
 -- Sources that are read on for nothing, one after the other.
-use Rattle.std.proofs.Common.{◌≡◌, ◌∙◌, ◌+◌, ◌<◌, ◌≤◌, ◌++◌, ℕ, List, [], length, map, take, drop, refl, sym, ap, subst, append_assoc, arith}
+use Rattle.std.proofs.Common.{◌≡◌, ◌∙◌, ◌+◌, ◌<◌, ◌≤◌, ◌++◌, ℕ, List, [], length, map, take, drop, sym, ap, subst, append_assoc, arith}
 use Rattle.std.specs.List.{All, flat_map}
-use Rattle.std.proofs.lemmas.List.{append-nil, length-map, length-set, take-set, take_more_set}
+use Rattle.std.proofs.lemmas.List.{length-map, length-set, take-set, take_more_set}
 use Rattle.std.proofs.lemmas.List.Elements.{All-push, All-same}
 use Rattle.std.proofs.lemmas.List.Concat.{flat_map-append}
 use lib.Seq.{take-add}
@@ -22,13 +22,6 @@ use Rattle.ssb_lanes.specs.declared.lane.Lane.{Lane}
 use Rattle.ssb_lanes.proofs.TogetherFacts.{never-read, of-read, whenever-read}
 use Rattle.ssb_lanes.proofs.JoinedFacts.{IsRead as IsReadOnce, after_read, forth-after, given-after, sources-set, whole-after}
 
--- some bytes more behind those that came
-pub since-more : (base mid x all : List ℕ) → mid ≡ base ++ given_since base mid → all ≡ mid ++ x → all ≡ base ++ given_since base all
-since-more base mid x all e f = grows base (given_since base mid ++ x) all (f ∙ ap (λ t. t ++ x) e ∙ append_assoc base (given_since base mid) x)
-
-pub since-nothing : (base : List ℕ) → base ≡ base ++ given_since base base
-since-nothing base = grows base [] base (sym (append-nil base))
-
 module _ {S : Type 0} (s : Source S) where
   -- the sources before this place have met their ends since the beginning
   pub record IsSkipping (lanes : List (Lane S)) (from : ℕ) (now : List (Lane S)) (at : ℕ) : Type 0 where
@@ -38,9 +31,6 @@ module _ {S : Type 0} (s : Source S) where
     pub given : given_upto s.given at (sources_in now) ≡ given_upto s.given from (sources_in lanes) ++ more
     pub met : All (λ x. 0 < s.ends x) (take at (sources_in now))
     pub forth : All (IsForth s.failures) now
-
-  pub skip-begins : (lanes : List (Lane S)) (from : ℕ) → All (λ x. 0 < s.ends x) (take from (sources_in lanes)) → All (IsForth s.failures) lanes → IsSkipping lanes from lanes from
-  skip-begins lanes from met forth = record { whole = refl; long = refl; more = []; given = sym (append-nil _); met = met; forth = forth }
 
   -- what the next source gave so far comes behind
   given-behind : (sources : List S) (at : ℕ) → given_upto s.given (at + 1) sources ≡ given_upto s.given at sources ++ flat_map s.given (take 1 (drop (at + 1) sources))

@@ -1,35 +1,17 @@
 -- Sources that are read side by side: why they stop, said of the bytes given and of all bytes.
 use Rattle.std.proofs.Common.{◌≡◌, ◌∙◌, ◌<◌, ◌++◌, ◌∷◌, ℕ, List, [], IfSome, Option, length, length-append, take, drop, sym, ap, subst, arith, append_assoc}
-use Rattle.std.specs.Prelude.{Vec}
-use Rattle.std.specs.declared.alloc.Global.{Global}
-use Rattle.std.proofs.lemmas.List.{append-nil, drop_all, length-map, take_all}
+use Rattle.std.proofs.lemmas.List.{append-nil}
 use Rattle.ssb_lanes.specs.Assembly.{Halts}
 use Rattle.ssb_records.specs.CutShort.{IfRead}
 use Rattle.ssb_records.specs.Giving.{given_since}
 use Rattle.ssb_records.specs.Intake.{Refuses, Stops, StopsBy, StopsIn}
 use Rattle.ssb_load.specs.Subject.{RefusesRow, Subject, judge}
-use Rattle.ssb_lanes.specs.Joined.{sources_in}
 use Rattle.ssb_lanes.specs.Lane.{IsRead}
 use Rattle.ssb_records.specs.Records.{Fields, records_of}
 use Rattle.ssb_records.specs.declared.fault.LoadFault.{LoadFault}
 use Rattle.ssb_records.specs.declared.fault.LoadFault.TheVariants as load
-use Rattle.ssb_lanes.specs.declared.lane.Lane.{Lane}
 use Rattle.ssb_records.proofs.LineRecords.{first-records}
 use Rattle.ssb_records.proofs.TakingAll.{always, grows, holds-of, later-is, since-is}
-
--- a list that was written over by one as long
-written : {A : Type 0} (n : ℕ) (old new : List A) → length old ≡ n → length new ≡ n → take n (new ++ drop (length new) old) ≡ new
-written n old new was is =
-    let none : drop (length new) old ≡ [] = drop_all (length new) old (omega (arith, was, is)) in
-    rw (none, append-nil new) (take_all n new (omega (arith, is)))
-
--- lanes that were lent, as they came back
-pub record IsBack {S : Type 0} (old : Vec (Lane S) Global) (new : List (Lane S)) : Type 0 where
-  pub is : take old.len (new ++ drop (length new) old.items) ≡ new
-  pub count : length (sources_in new) ≡ old.len
-
-pub came-back : {S : Type 0} (old : Vec (Lane S) Global) (new : List (Lane S)) → length new ≡ old.len → IsBack old new
-came-back old new long = record { is = written old.len old.items new (sym old.ok.0) long; count = length-map new (λ l. l.source) ∙ long }
 
 -- where nothing was given before, all bytes count
 pub since-none : (base all : List ℕ) → base ≡ [] → given_since base all ≡ all

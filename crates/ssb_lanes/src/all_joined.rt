@@ -13,7 +13,8 @@ ghost use Rattle.ssb_load.specs.Loading.{rules_at};
 ghost use Rattle.ssb_load.specs.Runs.{ArePutTogether, FailedRead, RanFrom};
 
 use crate::joined::Joined;
-use crate::read_joined::{load_beside, load_with};
+use crate::options::ReadOptions;
+use crate::read_joined::{CatalogTable, load_beside, load_with};
 use ssb_catalog::Catalog;
 use ssb_cells::Table;
 use ssb_load::{FileFault, load_all, load_tables};
@@ -22,16 +23,14 @@ use std::alloc::Global;
 use std::sync::Wait;
 use std::thread::{Threads, join_mut};
 
-// Which catalog's tables are loaded, with which allocator, in pieces of how many bytes and in at most how
-// many threads. It stands behind one reference, since the borrow checker does not cover two closures that
-// share a value.
+// Which catalog's tables are loaded, with which allocator, and how their sources are read. It stands behind
+// one reference, since the borrow checker does not cover two closures that share a value.
 #[derive(Clone, Copy)]
 struct Loading<'a> {
     alloc: Global,
     catalog: &'a Catalog,
-    piece_size: usize,
-    threads: u32,
-    ghost some: { 0 < threads },
+    options: ReadOptions,
+    ghost some: { 0 < options.threads },
 }
 
 // The tables before the fact table and those behind it, each list with its own answer.
@@ -57,6 +56,19 @@ fn put_together(
     }
 }
 
+// The table of this number, with all its rows.
+fn whole_table(catalog: &Catalog, number: u32) -> CatalogTable<'_>
+    ensures catalog { result.catalog.now ≡ catalog.now }
+    ensures number { result.number ≡ number }
+    ensures rows { result.max_rows ≡ 4294967295 }
+{
+    CatalogTable {
+        catalog,
+        number: number as usize,
+        max_rows: u32::MAX,
+    }
+}
+
 // The table of this number, by the caller's thread and others, and in one thread more what is beside.
 fn load_apart<S: Source + Send + Drop, R: Threads + Wait + Sync, F: FnMut() + Send>(
     rt: &R,
@@ -73,25 +85,13 @@ fn load_apart<S: Source + Send + Drop, R: Threads + Wait + Sync, F: FnMut() + Se
     let Loading {
         alloc,
         catalog,
-        piece_size,
-        threads,
+        options,
     } = *loading;
-    let place = number as usize;
+    let table = whole_table(catalog, number);
     let mut own = || -> Result<Table, LoadFault>
-        requires { IsSync R.row × IsSend S.row × (place < length catalog.now) × (0 < threads) }
-        ensures { LoadsJoined (rules_at catalog.entry.now place) 4294967295 source.entry.now source.exit.now result }
-    {
-        load_with(
-            rt,
-            alloc,
-            catalog,
-            place,
-            u32::MAX,
-            source,
-            piece_size,
-            threads,
-        )
-    };
+        requires { IsSync R.row × IsSend S.row × (table.number < length table.catalog.now) × (0 < options.threads) }
+        ensures { LoadsJoined (rules_at table.entry.catalog.now table.entry.number) table.entry.max_rows source.entry.now source.exit.now result }
+    { load_with(rt, alloc, table, source, options) };
     join_mut(rt, beside, &mut own).1
 }
 
@@ -112,17 +112,8 @@ fn load_table<S: Source + Send + Drop, R: Threads + Wait + Sync, F: FnMut() + Se
     if !source.is_divided() {
         return load_apart(rt, loading, number, source, beside);
     }
-    load_beside(
-        rt,
-        loading.alloc,
-        loading.catalog,
-        number as usize,
-        u32::MAX,
-        source,
-        loading.piece_size,
-        loading.threads,
-        beside,
-    )
+    let table = whole_table(loading.catalog, number);
+    load_beside(rt, loading.alloc, table, source, loading.options, beside)
 }
 
 // The table of this number alone, and what is beside it.
@@ -183,10 +174,9 @@ fn load_in_turn<J: Source>(
     let Loading {
         alloc,
         catalog,
-        piece_size,
-        ..
+        options,
     } = *loading;
-    load_tables(alloc, catalog, first as usize, sources, piece_size)
+    load_tables(alloc, catalog, first as usize, sources, options.piece_size)
 }
 
 // The tables before the fact table and those behind it beside the fact table. Of any sources, so that it takes
@@ -259,8 +249,10 @@ pub fn load_all_with<S: Source + Send + Drop, R: Threads + Wait + Sync>(
     let loading = Loading {
         alloc,
         catalog,
-        piece_size,
-        threads,
+        options: ReadOptions {
+            piece_size,
+            threads,
+        },
     };
     let fact = fact_number(catalog);
     let (front, rest) = sources.split_at_mut(fact as usize);

@@ -7,7 +7,7 @@ ghost use Rattle.ssb_lanes.specs.Lane.{IsLaneRead};
 ghost use Rattle.ssb_load.specs.Subject.{table};
 ghost use Rattle.ssb_load.specs.TableIntake.{subject_of};
 
-use crate::lane::{Lane, Way, read_lane};
+use crate::lane::{Lane, ReadContext, read_lane};
 use crossbeam_queue::protocol::{Lesson, Outcome, Protocol, Split};
 use crossbeam_queue::{Pass, RuledArrayQueue};
 use ssb_load::TableIntake;
@@ -191,31 +191,31 @@ fn put<S: Source + Drop, R: Wait>(rt: &R, berth: &Berth<S>, pass: &mut BerthPass
 }
 
 // Reads the lane's source to its end, where that was not done.
-fn read_laid<S: Source>(way: &Way<'_>, laid: &mut Laid<S>)
+fn read_laid<S: Source>(context: &ReadContext<'_>, laid: &mut Laid<S>)
     requires kept { IsKept S.Source laid.old }
-    requires table { subject_of laid.old.table.value ≡ table way.now.rules.now way.now.max_rows }
+    requires table { subject_of laid.old.table.value ≡ table context.now.rules.now context.now.max_rows }
     ensures kept { IsKept S.Source laid.new }
     ensures known { known_of laid.new ≡ known_of laid.old }
 {
     if laid.lane.read.is_none() {
-        read_lane(way, &mut laid.lane);
+        read_lane(context, &mut laid.lane);
     }
 }
 
 // Takes the lane, where no other thread has it, reads it, where nobody has, and puts it back.
 pub(crate) fn read_one<S: Source + Drop, R: Wait>(
     rt: &R,
-    way: &Way<'_>,
+    context: &ReadContext<'_>,
     berth: &Berth<S>,
     pass: &mut BerthPass<S>,
 )
     requires queue { IsPassOf berth.now pass.old }
-    requires knows { Knows (table way.now.rules.now way.now.max_rows) (view pass.old) }
+    requires knows { Knows (table context.now.rules.now context.now.max_rows) (view pass.old) }
     ensures queue { IsSamePass pass.old pass.new }
     ensures view { view pass.new ≡ view pass.old }
 {
     if let Some(mut laid) = try_take(rt, berth, pass) {
-        read_laid(way, &mut laid);
+        read_laid(context, &mut laid);
         put(rt, berth, pass, laid);
     }
 }
@@ -223,20 +223,20 @@ pub(crate) fn read_one<S: Source + Drop, R: Wait>(
 // Takes the lane out, as soon as no other thread has it, and reads it, where nobody has.
 pub(crate) fn take_read<S: Source + Drop, R: Wait>(
     rt: &R,
-    way: &Way<'_>,
+    context: &ReadContext<'_>,
     berth: &Berth<S>,
     pass: &mut BerthPass<S>,
 ) -> Laid<S>
     requires queue { IsPassOf berth.now pass.old }
-    requires knows { Knows (table way.now.rules.now way.now.max_rows) (view pass.old) }
+    requires knows { Knows (table context.now.rules.now context.now.max_rows) (view pass.old) }
     ensures queue { IsSamePass pass.old pass.new }
     ensures view { view pass.new ≡ view pass.old }
     ensures known { view pass.old ≡ Some (known_of result) }
     ensures told { S.whole result.lane.source ≡ S.whole result.lane.joined.value }
-    ensures read { IsLaneRead S.Source (table way.now.rules.now way.now.max_rows) result.lane }
+    ensures read { IsLaneRead S.Source (table context.now.rules.now context.now.max_rows) result.lane }
 {
     let mut laid = take(rt, berth, pass);
-    read_laid(way, &mut laid);
+    read_laid(context, &mut laid);
     laid
 }
 

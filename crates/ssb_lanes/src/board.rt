@@ -16,7 +16,7 @@ ghost use Rattle.ssb_lanes.specs.Joined.{IsUnread, sources_in};
 ghost use Rattle.ssb_lanes.specs.Lane.{IsLaneRead};
 
 use crate::berth::{Berth, BerthPass, Laid, another, lay, new_berth, read_one, take_read};
-use crate::lane::{Lane, Way, read_lane};
+use crate::lane::{Lane, ReadContext, read_lane};
 use ssb_load::TableIntake;
 use ssb_records::Source;
 use std::alloc::{AllocError, Global};
@@ -26,6 +26,13 @@ use std::{mem, thread};
 
 // A thread's pass of each queue.
 type Hand<S> = Vec<BerthPass<S>>;
+
+// The queues of lanes, the first pass of each, and a list with room for all lanes.
+struct Board<S: Source> {
+    berths: Vec<Berth<S>>,
+    passes: Hand<S>,
+    room: Vec<Lane<S>>,
+}
 
 // A queue for each of so many lanes, and the first pass of each.
 fn new_berths<S: Source + Drop>(
@@ -122,18 +129,18 @@ fn add_hands<S: Source + Drop>(
 // Goes over the queues of these numbers, and reads each lane that no thread has or had.
 fn work<S: Source + Drop, R: Wait>(
     rt: &R,
-    way: &Way<'_>,
+    context: &ReadContext<'_>,
     berths: &[Berth<S>],
     hand: &mut Hand<S>,
     from: usize,
     to: usize,
 )
     requires within { to ≤ length berths.now }
-    requires hand { IsHand (table way.now.rules.now way.now.max_rows) berths.now hand.old.items }
-    ensures hand { IsHand (table way.now.rules.now way.now.max_rows) berths.now hand.new.items }
+    requires hand { IsHand (table context.now.rules.now context.now.max_rows) berths.now hand.old.items }
+    ensures hand { IsHand (table context.now.rules.now context.now.max_rows) berths.now hand.new.items }
 {
     for at in from..to {
-        read_one(rt, way, &berths[at], &mut hand[at]);
+        read_one(rt, context, &berths[at], &mut hand[at]);
     }
 }
 
@@ -142,12 +149,12 @@ fn work<S: Source + Drop, R: Wait>(
 // allocator keep more of it.
 fn work_all<S: Source + Send + Drop, R: Threads + Wait + Sync, F: FnMut() + Send>(
     rt: &R,
-    way: &Way<'_>,
+    context: &ReadContext<'_>,
     berths: &[Berth<S>],
     hands: &mut [Hand<S>],
     beside: &mut F,
 )
-    requires hands { All (λ h. IsHand (table way.now.rules.now way.now.max_rows) berths.now h.items) hands.old }
+    requires hands { All (λ h. IsHand (table context.now.rules.now context.now.max_rows) berths.now h.items) hands.old }
     requires beside { F.pre beside.old }
     ensures beside { F.step beside.old tt beside.new }
 {
@@ -157,175 +164,172 @@ fn work_all<S: Source + Send + Drop, R: Threads + Wait + Sync, F: FnMut() + Send
     };
     let count = others.len();
     let mut own = ||
-        requires { IsHand (table way.now.rules.now way.now.max_rows) berths.now first.now.items × F.pre beside.now }
+        requires { IsHand (table context.now.rules.now context.now.max_rows) berths.now first.now.items × F.pre beside.now }
         ensures { F.step beside.entry.now tt beside.exit.now }
     {
         let last = berths.len() - berths.len() / 4;
-        work(rt, way, berths, first, 0, last);
+        work(rt, context, berths, first, 0, last);
         beside();
-        work(rt, way, berths, first, last, berths.len());
+        work(rt, context, berths, first, last, berths.len());
     };
     if count == 0 {
         own();
         return;
     }
     let mut rest = ||
-        requires { IsSync R.row × IsSend S.row × (0 < count) × All (λ h. IsHand (table way.now.rules.now way.now.max_rows) berths.now h.items) others.now }
-    { work_each(rt, way, berths, others, count) };
+        requires { IsSync R.row × IsSend S.row × (0 < count) × All (λ h. IsHand (table context.now.rules.now context.now.max_rows) berths.now h.items) others.now }
+    { work_each(rt, context, berths, others, count) };
     join_mut(rt, &mut own, &mut rest);
 }
 
 // A thread for each hand, the caller's among them.
 fn work_each<S: Source + Send + Drop, R: Threads + Wait + Sync>(
     rt: &R,
-    way: &Way<'_>,
+    context: &ReadContext<'_>,
     berths: &[Berth<S>],
     hands: &mut [Hand<S>],
     count: usize,
 )
     requires count { 0 < count }
-    requires hands { All (λ h. IsHand (table way.now.rules.now way.now.max_rows) berths.now h.items) hands.old }
+    requires hands { All (λ h. IsHand (table context.now.rules.now context.now.max_rows) berths.now h.items) hands.old }
 {
     thread::for_each_mut(
         rt,
         hands,
         count,
         &|_: usize, hand: &mut Hand<S>|
-            requires { IsHand (table way.now.rules.now way.now.max_rows) berths.now hand.now.items }
-        { work(rt, way, berths, hand, 0, berths.len()) },
+            requires { IsHand (table context.now.rules.now context.now.max_rows) berths.now hand.now.items }
+        { work(rt, context, berths, hand, 0, berths.len()) },
     );
 }
 
 // Takes all lanes out, and reads those that nobody has.
 fn collect<S: Source + Drop, R: Wait>(
     rt: &R,
-    way: &Way<'_>,
+    context: &ReadContext<'_>,
     berths: &[Berth<S>],
     passes: &mut Hand<S>,
     lanes: &mut Vec<Lane<S>>,
 )
-    requires hand { IsHand (table way.now.rules.now way.now.max_rows) berths.now passes.old.items }
+    requires hand { IsHand (table context.now.rules.now context.now.max_rows) berths.now passes.old.items }
     requires none { lanes.old.items ≡ [] }
     requires room { length berths.now ≤ vec_capacity lanes.old }
     ensures whole { map (λ l. S.whole l.source) lanes.new.items ≡ map (told_of S.whole) (map view passes.old.items) }
-    ensures read { All (IsLaneRead S.Source (table way.now.rules.now way.now.max_rows)) lanes.new.items }
+    ensures read { All (IsLaneRead S.Source (table context.now.rules.now context.now.max_rows)) lanes.new.items }
 {
     for at in 0..berths.len() {
-        let Laid { lane, .. } = take_read(rt, way, &berths[at], &mut passes[at]);
+        let Laid { lane, .. } = take_read(rt, context, &berths[at], &mut passes[at]);
         lanes.push_reserved(lane);
     }
 }
 
-// Reads each lane to its end, in at most so many threads, the caller's among them, each of which has a run
-// of lanes of its own.
+// Reads each lane to its end, in at most as many threads as the options say, the caller's among them, each of
+// which has a run of lanes of its own.
 fn read_by_runs<S: Source + Send, R: Threads + Sync>(
     rt: &R,
-    way: &Way<'_>,
-    threads: u32,
+    context: &ReadContext<'_>,
     lanes: &mut [Lane<S>],
 )
-    requires threads { 0 < threads }
+    requires threads { 0 < context.now.options.threads }
     requires unread { All (IsUnread S.given) lanes.old }
     ensures whole { map S.whole (sources_in lanes.new) ≡ map S.whole (sources_in lanes.old) }
-    ensures read { All (IsLaneRead S.Source (table way.now.rules.now way.now.max_rows)) lanes.new }
+    ensures read { All (IsLaneRead S.Source (table context.now.rules.now context.now.max_rows)) lanes.new }
 {
     thread::for_each_mut(
         rt,
         lanes,
-        threads as usize,
+        context.options.threads as usize,
         &|_: usize, lane: &mut Lane<S>|
             requires { IsUnread S.given lane.now }
-            ensures { (S.whole lane.exit.now.source ≡ S.whole lane.entry.now.source) × IsLaneRead S.Source (table way.entry.now.rules.now way.entry.now.max_rows) lane.exit.now }
-        { read_lane(way, lane) },
+            ensures { (S.whole lane.exit.now.source ≡ S.whole lane.entry.now.source) × IsLaneRead S.Source (table context.entry.now.rules.now context.entry.now.max_rows) lane.exit.now }
+        { read_lane(context, lane) },
     );
 }
 
-// Reads these lanes to their ends by their queues, and puts them into an empty list with room for them.
+// Reads each lane to its end by its queue.
 fn read_shared<S: Source + Send + Drop, R: Threads + Wait + Sync, F: FnMut() + Send>(
     rt: &R,
-    way: &Way<'_>,
+    context: &ReadContext<'_>,
     rows: &TableIntake,
-    threads: u32,
-    berths: &[Berth<S>],
-    passes: &mut Hand<S>,
-    unread: Vec<Lane<S>>,
+    board: Board<S>,
     lanes: &mut Vec<Lane<S>>,
     beside: &mut F,
 )
-    requires each { AreOfEach berths.now passes.old.items }
-    requires single { All (λ b. ruled_capacity b ≡ 1) berths.now }
-    requires new { All (λ p. view p ≡ None) passes.old.items }
-    requires count { length unread.items ≡ length berths.now }
-    requires silent { All (IsUnread S.given) unread.items }
-    requires none { lanes.old.items ≡ [] }
-    requires room { length berths.now ≤ vec_capacity lanes.old }
-    requires rows { subject_of rows.now ≡ table way.now.rules.now way.now.max_rows }
+    requires each { AreOfEach board.berths.items board.passes.items }
+    requires single { All (λ b. ruled_capacity b ≡ 1) board.berths.items }
+    requires new { All (λ p. view p ≡ None) board.passes.items }
+    requires count { length lanes.old.items ≡ length board.berths.items }
+    requires unread { All (IsUnread S.given) lanes.old.items }
+    requires none { board.room.items ≡ [] }
+    requires room { length board.berths.items ≤ vec_capacity board.room }
+    requires rows { subject_of rows.now ≡ table context.now.rules.now context.now.max_rows }
     requires beside { F.pre beside.old }
-    ensures whole { map S.whole (sources_in lanes.new.items) ≡ map S.whole (sources_in unread.items) }
-    ensures read { All (IsLaneRead S.Source (table way.now.rules.now way.now.max_rows)) lanes.new.items }
+    ensures whole { map S.whole (sources_in lanes.new.items) ≡ map S.whole (sources_in lanes.old.items) }
+    ensures read { All (IsLaneRead S.Source (table context.now.rules.now context.now.max_rows)) lanes.new.items }
     ensures beside { F.step beside.old tt beside.new }
 {
-    let mut hands = Vec::new(way.alloc);
-    lay_all(rt, rows, berths, passes, unread);
+    let Board {
+        berths,
+        mut passes,
+        room,
+    } = board;
+    let unread = mem::replace(lanes, room);
+    let mut hands = Vec::new(context.alloc);
+    lay_all(rt, rows, &berths, &mut passes, unread);
     // Where memory for a pass is refused, there are as many threads as have passes.
-    let _added = add_hands(way.alloc, rows, berths, passes, threads, &mut hands);
-    work_all(rt, way, berths, &mut hands, beside);
-    collect(rt, way, berths, passes, lanes);
+    let threads = context.options.threads;
+    let _added = add_hands(
+        context.alloc,
+        rows,
+        &berths,
+        &mut passes,
+        threads,
+        &mut hands,
+    );
+    work_all(rt, context, &berths, &mut hands, beside);
+    collect(rt, context, &berths, &mut passes, lanes);
 }
 
 // A queue for each lane and its first pass, and an empty list with room for all lanes.
-fn board_of<S: Source + Drop>(
-    alloc: Global,
-    count: usize,
-) -> Result<(Vec<Berth<S>>, Hand<S>, Vec<Lane<S>>), AllocError>
-    ensures each { IfOk result (λ r. AreOfEach r.0.items r.1.items) }
-    ensures single { IfOk result (λ r. All (λ b. ruled_capacity b ≡ 1) r.0.items) }
-    ensures new { IfOk result (λ r. All (λ p. view p ≡ None) r.1.items) }
-    ensures count { IfOk result (λ r. length r.0.items ≡ count) }
-    ensures none { IfOk result (λ r. r.2.items ≡ []) }
-    ensures room { IfOk result (λ r. count ≤ vec_capacity r.2) }
+fn board_of<S: Source + Drop>(alloc: Global, count: usize) -> Result<Board<S>, AllocError>
+    ensures each { IfOk result (λ b. AreOfEach b.berths.items b.passes.items) }
+    ensures single { IfOk result (λ b. All (λ q. ruled_capacity q ≡ 1) b.berths.items) }
+    ensures new { IfOk result (λ b. All (λ p. view p ≡ None) b.passes.items) }
+    ensures count { IfOk result (λ b. length b.berths.items ≡ count) }
+    ensures none { IfOk result (λ b. b.room.items ≡ []) }
+    ensures room { IfOk result (λ b. count ≤ vec_capacity b.room) }
 {
     let (berths, passes) = new_berths(alloc, count)?;
     let room = Vec::with_capacity(alloc, count)?;
-    Ok((berths, passes, room))
+    Ok(Board {
+        berths,
+        passes,
+        room,
+    })
 }
 
-// Reads each lane to its end, in at most so many threads, the caller's among them; one of them does what is
-// beside as well. Where memory for the queues is refused, each has a run of lanes, and the caller does
-// what is beside.
+// Reads each lane to its end, in at most as many threads as the options say, the caller's among them; one of
+// them does what is beside as well. Where memory for the queues is refused, each has a run of lanes, and the
+// caller does what is beside.
 pub(crate) fn read_each<S: Source + Send + Drop, R: Threads + Wait + Sync, F: FnMut() + Send>(
     rt: &R,
-    way: &Way<'_>,
+    context: &ReadContext<'_>,
     rows: &TableIntake,
-    threads: u32,
     lanes: &mut Vec<Lane<S>>,
     beside: &mut F,
 )
-    requires threads { 0 < threads }
+    requires threads { 0 < context.now.options.threads }
     requires unread { All (IsUnread S.given) lanes.old.items }
-    requires rows { subject_of rows.now ≡ table way.now.rules.now way.now.max_rows }
+    requires rows { subject_of rows.now ≡ table context.now.rules.now context.now.max_rows }
     requires beside { F.pre beside.old }
     ensures whole { map S.whole (sources_in lanes.new.items) ≡ map S.whole (sources_in lanes.old.items) }
-    ensures read { All (IsLaneRead S.Source (table way.now.rules.now way.now.max_rows)) lanes.new.items }
+    ensures read { All (IsLaneRead S.Source (table context.now.rules.now context.now.max_rows)) lanes.new.items }
     ensures beside { F.step beside.old tt beside.new }
 {
-    match board_of(way.alloc, lanes.len()) {
-        Ok((berths, mut passes, room)) => {
-            let unread = mem::replace(lanes, room);
-            read_shared(
-                rt,
-                way,
-                rows,
-                threads,
-                &berths,
-                &mut passes,
-                unread,
-                lanes,
-                beside,
-            );
-        }
+    match board_of(context.alloc, lanes.len()) {
+        Ok(board) => read_shared(rt, context, rows, board, lanes, beside),
         Err(AllocError) => {
-            read_by_runs(rt, way, threads, lanes);
+            read_by_runs(rt, context, lanes);
             beside();
         }
     }

@@ -13,6 +13,7 @@ ghost use Rattle.ssb_load.specs.Subject.{judge};
 use crate::assembly::Assembly;
 use crate::lane::Lane;
 use crate::lanes::{Stop, read_together};
+use crate::options::ReadOptions;
 use ssb_records::{History, LoadFault, Source, SourceFault};
 use std::alloc::{AllocError, Global};
 use std::snapshot::Snapshot;
@@ -130,19 +131,18 @@ impl<S: Source + Send + Drop> Joined<S> {
         !self.begun && self.lanes.len() > 1
     }
 
-    // Reads each source to its end, in at most so many threads, one of which does as well what is
-    // beside, and puts together what they gave. Behind a fault each source is at its end, or one of which a
-    // read failed is at turn.
+    // Reads each source to its end, in at most as many threads as the options say, one of which does as well
+    // what is beside, and puts together what they gave. Behind a fault each source is at its end, or one of
+    // which a read failed is at turn.
     pub(crate) fn read_together<R: Threads + Wait + Sync, F: FnMut() + Send>(
         &mut self,
         rt: &R,
         alloc: Global,
-        size: usize,
-        threads: u32,
+        options: ReadOptions,
         assembly: &mut Assembly,
         beside: &mut F,
     ) -> Result<(), LoadFault>
-        requires threads { 0 < threads }
+        requires threads { 0 < options.threads }
         requires unread { self.old.begun ≡ false }
         requires none { IsAssembled assembly.old [] }
         requires beside { F.pre beside.old }
@@ -156,7 +156,7 @@ impl<S: Source + Send + Drop> Joined<S> {
         ensures beside { F.step beside.old tt beside.new }
     {
         self.begun = true;
-        match read_together(rt, alloc, size, threads, &mut self.lanes, assembly, beside) {
+        match read_together(rt, alloc, options, &mut self.lanes, assembly, beside) {
             Ok(()) => {
                 self.at = self.lanes.len();
                 self.ended = self.ended.and(&());

@@ -6,6 +6,7 @@ ghost use Rattle.ssb_records.specs.Giving.{given_since};
 ghost use Rattle.ssb_lanes.specs.Joined.{IsUnread};
 ghost use Rattle.ssb_lanes.specs.Lane.{IsLaneRead};
 
+use crate::options::ReadOptions;
 use crate::part::Part;
 use ssb_records::{LoadFault, Source};
 use ssb_terms::Rule;
@@ -32,26 +33,30 @@ pub(crate) struct Reading {
 }
 
 // How sources are read: with which allocator, as rows of a table under which rules, of at most how many
-// rows, and in pieces of how many bytes.
+// rows, and by which options.
 #[derive(Clone, Copy)]
-pub(crate) struct Way<'a> {
+pub(crate) struct ReadContext<'a> {
     pub(crate) alloc: Global,
     pub(crate) rules: &'a [Rule],
     pub(crate) max_rows: u32,
-    pub(crate) size: usize,
+    pub(crate) options: ReadOptions,
 }
 
 // Reads a source to its end, unless memory for a part is refused.
-pub(crate) fn read_lane<S: Source>(way: &Way<'_>, lane: &mut Lane<S>)
+pub(crate) fn read_lane<S: Source>(context: &ReadContext<'_>, lane: &mut Lane<S>)
     requires { IsUnread S.given lane.old }
     ensures whole { S.whole lane.new.source ≡ S.whole lane.old.source }
     ensures joined { lane.new.joined ≡ lane.old.joined }
     ensures unread { lane.new.read ≡ None → IsUnread S.given lane.new }
-    ensures read { IsLaneRead S.Source (table way.now.rules.now way.now.max_rows) lane.new }
+    ensures read { IsLaneRead S.Source (table context.now.rules.now context.now.max_rows) lane.new }
 {
-    lane.read = match Part::new(way.alloc, way.rules, way.max_rows) {
+    lane.read = match Part::new(context.alloc, context.rules, context.max_rows) {
         Ok(mut part) => {
-            let stop = match part.read(way.alloc, &mut lane.source, way.size) {
+            let stop = match part.read(
+                context.alloc,
+                &mut lane.source,
+                context.options.piece_size,
+            ) {
                 Ok(()) => None,
                 Err(fault) => Some(fault),
             };

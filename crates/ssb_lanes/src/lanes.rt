@@ -12,7 +12,8 @@ ghost use Rattle.ssb_load.specs.Subject.{Subject};
 
 use crate::assembly::Assembly;
 use crate::board::read_each;
-use crate::lane::{Lane, Reading, Way, skip};
+use crate::lane::{Lane, ReadContext, Reading, skip};
+use crate::options::ReadOptions;
 use ssb_records::{LoadFault, Source};
 use std::alloc::Global;
 use std::mem;
@@ -74,18 +75,17 @@ pub(crate) fn add_all<S: Source>(
     Ok(())
 }
 
-// Reads each source to its end, in at most so many threads, one of which does what is beside as well,
-// and puts together what they gave.
+// Reads each source to its end, in at most as many threads as the options say, one of which does what is
+// beside as well, and puts together what they gave.
 pub(crate) fn read_together<S: Source + Send + Drop, R: Threads + Wait + Sync, F: FnMut() + Send>(
     rt: &R,
     alloc: Global,
-    size: usize,
-    threads: u32,
+    options: ReadOptions,
     lanes: &mut Vec<Lane<S>>,
     assembly: &mut Assembly,
     beside: &mut F,
 ) -> Result<(), Stop>
-    requires threads { 0 < threads }
+    requires threads { 0 < options.threads }
     requires unread { All (IsUnread S.given) lanes.old.items }
     requires none { IsAssembled assembly.old [] }
     requires beside { F.pre beside.old }
@@ -97,13 +97,13 @@ pub(crate) fn read_together<S: Source + Send + Drop, R: Threads + Wait + Sync, F
     ensures beside { F.step beside.old tt beside.new }
 {
     let rows = &assembly.last;
-    let way = Way {
+    let context = ReadContext {
         alloc,
         rules: rows.rules(),
         max_rows: rows.max_rows,
-        size,
+        options,
     };
-    read_each(rt, &way, rows, threads, lanes, beside);
+    read_each(rt, &context, rows, lanes, beside);
     add_up(rt, alloc, lanes, assembly)
 }
 

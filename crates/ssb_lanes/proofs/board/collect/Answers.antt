@@ -17,7 +17,7 @@ take_read-lane-requires-clause-knows g c =
     let inv = c.loop-at.invariant in
     let long = passes-long _ _ inv.each in
     let lt = c.loop-at-test.true in
-    let Ready = Knows (table c.args.way.now.rules.now c.args.way.now.max_rows) in
+    let Ready = Knows (table c.args.context.now.rules.now c.args.context.now.max_rows) in
     knows-at Ready c.loop-at.passes.items _ _ (subst (All Ready) (sym inv.same) c.requires.hand.knows) (omega (arith, long, lt)) c.index_mut.ensures.value
 
 pub loop-at-preserved : goal.loop-at-preserved
@@ -39,7 +39,7 @@ loop-at-preserved g c =
       same = view-same c.loop-at.passes.items _ _ _ is taken.view ∙ inv.same;
       whole = image-more (λ lane. g.S.Source.whole lane.source) c.loop-at.lanes.items (map told (map view before)) c.loop-at.at c.take_read-lane.result.lane inv.whole (omega (arith, n, m, o, lt))
           (taken.told ∙ sym (told-at told c.loop-at.passes.items before c.loop-at.at _ _ inv.same (omega (arith, long, lt)) is ∙ ap told taken.known));
-      read = All-push (IsLaneRead g.S.Source (table c.args.way.now.rules.now c.args.way.now.max_rows)) c.loop-at.lanes.items _ inv.read taken.read;
+      read = All-push (IsLaneRead g.S.Source (table c.args.context.now.rules.now c.args.context.now.max_rows)) c.loop-at.lanes.items _ inv.read taken.read;
       count = omega (arith, more, count);
       room = c.push_reserved.ensures.capacity ∙ inv.room;
     })

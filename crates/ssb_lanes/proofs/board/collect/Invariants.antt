@@ -12,7 +12,7 @@ invariant-loop-at g l = record {
   each : AreOfEach l.berths l.passes.items;
   same : map view l.passes.items ≡ map view l.fn.passes.items;
   whole : map (λ lane. g.S.Source.whole lane.source) l.lanes.items ≡ take l.at (map (told_of g.S.Source.whole) (map view l.fn.passes.items));
-  read : All (IsLaneRead g.S.Source (table l.way.rules.now l.way.max_rows)) l.lanes.items;
+  read : All (IsLaneRead g.S.Source (table l.context.rules.now l.context.max_rows)) l.lanes.items;
   count : length l.lanes.items ≡ l.at;
   room : vec_capacity l.lanes ≡ vec_capacity l.fn.lanes;
 }

@@ -18,7 +18,7 @@ returns-clause-read g c =
     λ i d lt.
     let n = c.for_each_mut.auto.s in
     let k = (c.for_each_mut.ensures i d (omega (arith, n, lt))).1 in
-    subst (IsLaneRead g.S.Source (table c.args.way.now.rules.now c.args.way.now.max_rows)) k.left k.call.1
+    subst (IsLaneRead g.S.Source (table c.args.context.now.rules.now c.args.context.now.max_rows)) k.left k.call.1
 
 pub for_each_mut-requires-clause-accepts : goal.for_each_mut-requires-clause-accepts
 for_each_mut-requires-clause-accepts g c = grind (arith, common_steps)

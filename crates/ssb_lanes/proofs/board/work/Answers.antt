@@ -13,7 +13,7 @@ read_one-requires-clause-knows g c =
     let inv = c.loop-at.invariant in
     let long = passes-long _ _ inv.each in
     let lt = c.loop-at-test.true in
-    knows-at (Knows (table c.args.way.now.rules.now c.args.way.now.max_rows)) c.loop-at.hand.items _ _ inv.knows (omega (arith, long, lt, c.requires.within)) c.index_mut.ensures.value
+    knows-at (Knows (table c.args.context.now.rules.now c.args.context.now.max_rows)) c.loop-at.hand.items _ _ inv.knows (omega (arith, long, lt, c.requires.within)) c.index_mut.ensures.value
 
 pub loop-at-preserved : goal.loop-at-preserved
 loop-at-preserved g c =
@@ -22,5 +22,5 @@ loop-at-preserved g c =
     let lt = c.loop-at-test.true in
     record {
       each = pass-set c.args.berths.now c.loop-at.hand.items c.loop-at.at _ _ inv.each (omega (arith, lt, c.requires.within)) is c.read_one.ensures.queue;
-      knows = subst (All (Knows (table c.args.way.now.rules.now c.args.way.now.max_rows))) (sym (view-same c.loop-at.hand.items _ _ _ is c.read_one.ensures.view)) inv.knows;
+      knows = subst (All (Knows (table c.args.context.now.rules.now c.args.context.now.max_rows))) (sym (view-same c.loop-at.hand.items _ _ _ is c.read_one.ensures.view)) inv.knows;
     }

@@ -3,4 +3,4 @@ use Rattle.ssb_lanes.specs.Berth.{IsHand}
 use Rattle.ssb_lanes.proofs.board.work.Given as goal
 
 abbrev pub invariant-loop-at : goal.invariant-loop-at
-invariant-loop-at g l = IsHand (table l.way.rules.now l.way.max_rows) l.berths l.hand.items
+invariant-loop-at g l = IsHand (table l.context.rules.now l.context.max_rows) l.berths l.hand.items

@@ -27,7 +27,9 @@ pub use law::{outcomes_are_replies, replies_of_files, sessions_are_whole};
 pub use readers::{run, run_alone};
 pub use session::{Session, SessionEnd, answer_each};
 pub use show::{Laps, NoLaps, Step, plain_shows_replies};
-pub use ssb_lanes::{Joined, Section, load_all_with, load_with, sections_of};
+pub use ssb_lanes::{
+    CatalogTable, Joined, ReadOptions, Section, load_all_with, load_with, sections_of,
+};
 pub use ssb_load::{In, Source};
 pub use ssb_pipeline::{Gate, NoGate};
 pub use ssb_reply::{RunFault, Settings, run_line};

@@ -5,7 +5,7 @@ Usage: bench.py load FOLDER [--old PROGRAM]
        bench.py query FOLDER [--old PROGRAM] [--queries NAME..] [--morsels N..] [--times N]
        bench.py threads FOLDER [--queries NAME..] [--workers N..] [--parts N..] [--morsels N..]
                                 [--batches N..] [--times N]
-       bench.py session FOLDER
+       bench.py session FOLDER [--old PROGRAM] [--tiny N]
        bench.py check
 
 Each takes [--runs N] [--ssb PROGRAM] [--ssb-bench PROGRAM] too. FOLDER has tables and their catalog, as
@@ -68,6 +68,12 @@ THRICE = "the thirteen three times"
 FEW = 10
 MANY = 1000
 NO_ROW = "select count(*) from lineorder where lo_orderkey < 0;\n"
+
+# The tables of the many tiny statements of a session: one of seven rows.
+TINY_CATALOG = "t|a|int|null\n"
+TINY_ROWS = "".join(f"{row}|\n" for row in range(1, 8))
+TINY = "select sum(a) from t;\n"
+TINY_SUM = "28\n"
 
 # What `check` reads.
 CATALOG = "t|a|int|null\n"
@@ -235,6 +241,36 @@ def shell(given, path):
     return ["sh", "-c", 'exec "$@" <"$0"', path, *program]
 
 
+def tiny_shell(program, folder, path, workers):
+    """The command of a session over the tiny table, whose input is a pipe."""
+    words = [program, "shell", "--data", folder, "--catalog", folder / "catalog", "--workers", workers]
+    return ["sh", "-c", 'cat "$0" | "$@"', path, *words]
+
+
+def tiny_session(given, folder):
+    """The rows of a table: seconds of many tiny statements, and how those of other workers and builds compare."""
+    path = folder / "tiny.sql"
+    for name, text in (("catalog", TINY_CATALOG), ("t.tbl", TINY_ROWS), (path.name, given.tiny * TINY)):
+        (folder / name).write_text(text, encoding="utf-8")
+    programs = {NEW: given.ssb} | ({OLD: given.old} if given.old else {})
+    commands = {
+        (name, workers): tiny_shell(program, folder, path, workers)
+        for name, program in programs.items()
+        for workers in ((1, WORKERS) if name == NEW else (1,))
+    }
+    runs = measure.run_all(commands, given.runs)
+    for name, some in runs.items():
+        measure.check_outputs(f"{name[0]}, {name[1]} workers", some, given.tiny * TINY_SUM)
+    took = {name: measure.least_seconds(some) for name, some in runs.items()}
+    rows = [
+        [f"{given.tiny:,} statements over seven rows, 1 worker, seconds", f"{took[NEW, 1]:.3f}"],
+        [f"by {WORKERS} workers, against 1", f"{took[NEW, WORKERS] / took[NEW, 1]:.2f}"],
+    ]
+    if given.old:
+        rows.append(["new / old, 1 worker", f"{took[NEW, 1] / took[OLD, 1]:.2f}"])
+    return rows
+
+
 def session(given, texts):
     """Sessions: the thirteen against one load and their own times; what a further statement takes."""
     queries = "\n".join(thirteen().values())
@@ -254,7 +290,7 @@ def session(given, texts):
         [f"peak memory of {FEW} such, MB", f"{peak[FEW]:.1f}"],
         [f"of {MANY}, more", f"{peak[MANY] - peak[FEW]:.1f}"],
     ]
-    measure.print_table(["Session", "Figure"], rows)
+    measure.print_table(["Session", "Figure"], rows + tiny_session(given, texts))
 
 
 def filled(first, again, last):
@@ -298,7 +334,7 @@ COMMANDS = {
     load: (["ssb", "ssb_bench"], ["folder", "--old"]),
     query: (["ssb_bench"], ["folder", "--old", "--queries", "--morsels", "--times"]),
     threads: (["ssb_bench"], ["folder", "--queries", "--workers", "--parts", "--morsels", "--batches", "--times"]),
-    session: (["ssb"], ["folder"]),
+    session: (["ssb"], ["folder", "--old", "--tiny"]),
     check: (["ssb"], []),
 }
 

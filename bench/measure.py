@@ -40,6 +40,7 @@ OPTIONS = {
     "--batches": {**NUMBERS, "default": [1], "help": "morsels that a worker takes at a time"},
     "--morsels": {**NUMBERS, "default": [10_000, 100_000], "help": "rows of a morsel"},
     "--times": {**NUMBER, "default": 5, "help": "answers in a run, which tells the least"},
+    "--tiny": {**NUMBER, "default": 100_000, "help": "statements of a session over seven rows"},
     "--runs": {**NUMBER, "default": 5, "help": "runs of each program"},
     "--ssb": {**PROGRAM, "default": ROOT / "crates" / "ssb_cli" / "out" / "ssb_cli"},
     "--ssb-bench": {**PROGRAM, "default": ROOT / "crates" / "ssb_bench" / "out" / "ssb_bench"},

@@ -3,8 +3,9 @@ mod Fresh
 mod InMemory
 mod Keyed
 pub mod Running
-pub mod SessionFacts
+mod SessionFacts
 mod ShownFacts
+mod StatementFacts
 mod WholeSessions
 mod WorkedOff
 pub mod WrittenBack

@@ -1,38 +1,32 @@
--- Turns of a session, and how they go on one after the other.
+-- Steps of a session, and how they go on one after the other.
 use Rattle.std.proofs.Common.{◌≡◌, ◌∙◌, ◌<◌, ◌≤◌, ◌++◌, [], ◌∷◌, ℕ, ◌+◌, ◌^◌, inl, inr, arith, Bool, true, false, List, Option, None, Some, Result, Ok, Err, length, length-append, map, refl, sym, ap, subst, append_assoc}
+use Rattle.std.specs.Prelude.{IsSome, OnErr, OnOk, is_ok, ◌⊎◌}
 use Rattle.std.specs.List.{AllZip, flat_map}
 use Rattle.std.proofs.lemmas.Grind.{flat_map-append}
 use Rattle.std.proofs.lemmas.List.{append-nil}
-use Rattle.ssb_catalog.specs.Shapes.{TableShape}
-use Rattle.ssb_cells.specs.Tables.{Columns}
 use Rattle.ssb_load.specs.Files.{Bytes}
 use Rattle.ssb_records.specs.declared.source.Source.{Ghosts as Source}
-use Rattle.ssb_rows.specs.Order.{Row}
-use Rattle.ssb_rows.specs.Taking.{IsBeginning}
+use Rattle.ssb_records.specs.declared.source.SourceFault.{SourceFault}
+use Rattle.ssb_reply.specs.FaultLine.{line_of, run_words}
 use Rattle.ssb_reply.specs.declared.run_fault.RunFault.{RunFault}
+use Rattle.ssb_rows.specs.Taking.{IsBeginning}
+use Rattle.ssb_rows.specs.declared.sink.SinkFault.{SinkFault}
+use Rattle.ssb_show.specs.Shown.{shown}
+use Rattle.ssb_show.specs.declared.shape.Shape.{Shape}
 use Rattle.ssb_statements.specs.Telling.{Gave, Whatever, ahead, has_ended, source_of}
 use Rattle.ssb_statements.specs.declared.cutter.Statement.{Statement}
-use Rattle.ssb_statements.specs.declared.statements.Statements.{Statements}
-use Rattle.ssb_records.specs.declared.source.SourceFault.{SourceFault}
 use Rattle.ssb_tokens.specs.Statements.{statements_from, statements_of}
-use Rattle.ssb_rows.specs.Text.{text_of as rows_of}
-use Rattle.ssb_rows.specs.declared.fault.AnswerFault.TheVariants as answer
-use Rattle.ssb_sql.specs.declared.fault.SqlFault.TheVariants as sql
-use Rattle.ssb_reply.specs.FaultLine.{line_of, run_words}
-use Rattle.ssb_reply.specs.Reply.{Replies}
-use Rattle.ssb_reply.specs.declared.run_fault.RunFault.TheVariants as run
-use Rattle.ssb_load.specs.Files.{loaded}
-use Rattle.std.specs.Prelude.{IsSome, IsUtf8, OnErr, OnOk, is_ok, ◌⊎◌}
-use Rattle.ssb_rows.specs.declared.sink.SinkFault.{SinkFault}
-use Rattle.ssb_answer.specs.Asking.{AnswersText}
-use Rattle.ssb_answer.specs.Database.{RepliesOver}
-use Rattle.ssb_answer.specs.Session.{AnswersStatement, Desk, IsSession, Outcome, StopsAtFault, Took, Went, desk, fault_text, first_fault, rows_text, told, wrote_lines, wrote_rows}
-use Rattle.ssb_answer.specs.Session.AnswersStatement.{asked, too_long, no_text, refused}
-use Rattle.ssb_answer.specs.SessionStep.{RepliesToStatement, Turned, is_unwritten}
-use Rattle.ssb_answer.specs.Writing.{Writes}
+use Rattle.ssb_answer.specs.Database.{Loaded}
+use Rattle.ssb_answer.specs.Session.{HasMetEnd, IsSession, StopsAtFault, Went, first_fault, first_of, wrote_lines, wrote_rows}
+use Rattle.ssb_answer.specs.SessionStep.{end_of, fault_of}
+use Rattle.ssb_answer.specs.Showing.{Sheet}
+use Rattle.ssb_answer.specs.Steps.{AnswersStatement, DoesStep, IsSilent, Outcome, SessionState, SinkState, Took, fault_text, rows_text}
+use Rattle.ssb_answer.specs.Steps.DoesStep.{ended, unread, answered, told}
+use Rattle.ssb_answer.specs.declared.session.Manner.{Manner}
 use Rattle.ssb_answer.specs.declared.session.SessionEnd.{SessionEnd}
 use Rattle.ssb_answer.specs.declared.session.SessionEnd.TheVariants as end
-use Rattle.ssb_answer.proofs.Running.{replied-over}
+use Rattle.ssb_answer.specs.declared.session.Step.{Step}
+use Rattle.ssb_answer.specs.declared.session.Step.TheVariants as step
 
 -- ---- lists
 
@@ -78,7 +72,7 @@ same-cut false A = λ more. refl
 
 -- ---- what was written
 
-took-on : (w : Bool) (x y : Bytes) (a b d : Desk) → Took true x a b → Took w y b d → Took w (x ++ y) a d
+took-on : (w : Bool) (x y : Bytes) (a b d : SinkState) → Took true x a b → Took w y b d → Took w (x ++ y) a d
 took-on true x y a b d g h = (h.0 ∙ ap (λ t. t ++ y) g.0 ∙ append_assoc a.taken x y, h.1 ∙ g.1)
 took-on false x y a b d g h = (
   record {
@@ -90,190 +84,140 @@ took-on false x y a b d g h = (
   subst (λ n. n < d.failures) g.1 h.1,
 )
 
-took-each : (f : Outcome → Bytes) (w : Bool) (xs ys : List Outcome) (a b d : Desk) → Took true (flat_map f xs) a b → Took w (flat_map f ys) b d → Took w (flat_map f (xs ++ ys)) a d
+took-each : (f : Outcome → Bytes) (w : Bool) (xs ys : List Outcome) (a b d : SinkState) → Took true (flat_map f xs) a b → Took w (flat_map f ys) b d → Took w (flat_map f (xs ++ ys)) a d
 took-each f w xs ys a b d g h = subst (λ t. Took w t a d) (sym (flat_map-append f xs ys)) (took-on w (flat_map f xs) (flat_map f ys) a b d g h)
 
-pub took-all : (r : Result (Unit {0}) SinkFault) (text old new : Bytes) (m n : ℕ) → OnOk r (new ≡ old ++ text) → OnOk r (n ≡ m) → OnErr r (m < n) → OnErr r (IsBeginning old new text) → Took (is_ok r) text (desk old m) (desk new n)
-took-all (Ok u) text old new m n wrote clean failed began = (wrote, clean)
-took-all (Err e) text old new m n wrote clean failed began = (began, failed)
+pub took-all : (r : Result (Unit {0}) SinkFault) (text : Bytes) (old new : SinkState) → OnOk r (new.taken ≡ old.taken ++ text) → OnOk r (new.failures ≡ old.failures) → OnErr r (old.failures < new.failures)
+    → OnErr r (IsBeginning old.taken new.taken text) → Took (is_ok r) text old new
+took-all (Ok u) text old new wrote clean failed began = (wrote, clean)
+took-all (Err e) text old new wrote clean failed began = (began, failed)
 
-took-none : (a : Desk) → Took true [] a a
+took-none : (a : SinkState) → Took true [] a a
 took-none a = (sym (append-nil a.taken), refl)
 
-took-one : (f : Outcome → Bytes) (w : Bool) (r : Outcome) (text : Bytes) (a b : Desk) → f r ≡ text → Took w text a b → Took w (flat_map f (r ∷ [])) a b
+took-none-of : (a b : SinkState) → b ≡ a → Took true [] a b
+took-none-of a b same = subst (λ t. Took true [] a t) (sym same) (took-none a)
+
+took-one : (f : Outcome → Bytes) (w : Bool) (r : Outcome) (text : Bytes) (a b : SinkState) → f r ≡ text → Took w text a b → Took w (flat_map f (r ∷ [])) a b
 took-one f w r text a b is g = subst (λ t. Took w t a b) (sym (append-nil (f r) ∙ is)) g
 
 -- ---- the first fault
 
-pub first-none : (f : Option RunFault) → first_fault f [] ≡ f
-first-none None = refl
-first-none (Some x) = refl
-
-first-on : (f : Option RunFault) (rs qs : List Outcome) → first_fault (first_fault f rs) qs ≡ first_fault f (rs ++ qs)
-first-on (Some x) rs qs = refl
-first-on None [] qs = refl
-first-on None (Ok rows ∷ rs) qs = first-on None rs qs
-first-on None (Err f ∷ rs) qs = refl
+first-append : (rs qs : List Outcome) → first_of (first_fault rs) (first_fault qs) ≡ first_fault (rs ++ qs)
+first-append [] qs = refl
+first-append (Ok s ∷ rs) qs = first-append rs qs
+first-append (Err f ∷ rs) qs = refl
 
 -- where no fault is the first, all are answers
 record AreAnswers (rs : List Outcome) : Type 0 where
-  answers : List (List Row)
+  answers : List Sheet
   all : rs ≡ map Ok answers
 
-answers-all : (rs : List Outcome) → first_fault None rs ≡ None → AreAnswers rs
+answers-all : (rs : List Outcome) → first_fault rs ≡ None → AreAnswers rs
 answers-all [] e = record { answers = []; all = refl }
-answers-all (Ok rows ∷ rs) e = let more = answers-all rs e in record { answers = rows ∷ more.answers; all = ap (λ t. Ok rows ∷ t) more.all }
+answers-all (Ok s ∷ rs) e = let more = answers-all rs e in record { answers = s ∷ more.answers; all = ap (λ t. Ok s ∷ t) more.all }
 answers-all (Err f ∷ rs) e = cc e
 
-pub stops-at : (rs last : List Outcome) → first_fault None rs ≡ None → length last ≤ 1 → StopsAtFault (rs ++ last)
+stops-at : (rs last : List Outcome) → first_fault rs ≡ None → length last ≤ 1 → StopsAtFault (rs ++ last)
 stops-at rs last e one = let a = answers-all rs e in record { answers = a.answers; last = last; all = ap (λ t. t ++ last) a.all; one = one }
 
 break-on : (m n k : ℕ) (f g : Bytes) (P : Type 0) → n ≡ m → (n < k) ⊎ (2 ^ 64 ≤ length g + 1) → (m < k) ⊎ ((2 ^ 64 ≤ length (f ++ g) + 1) ⊎ P)
 break-on m n k f g P same (inl rose) = inl (subst (λ x. x < k) same rose)
 break-on m n k f g P same (inr long) = let count = length-append f g in inr (inl (omega (arith, long, count)))
 
--- ---- what comes of a statement
+-- whether the rows, and the lines, were written whole
+abbrev whole_rows : Option SessionEnd → Bool
+whole_rows None = true
+whole_rows (Some e) = wrote_rows e
 
-pub is-write : (f : RunFault) → is_unwritten f ≡ true → f ≡ run.Answer answer.Write
-is-write (run.Answer answer.Write) e = refl
-is-write (run.Answer (answer.RowOverflow n)) e = cc e
-is-write (run.Answer answer.SumOutOfRange) e = cc e
-is-write (run.Answer answer.Memory) e = cc e
-is-write (run.Load t f) e = cc e
-is-write (run.Sql f) e = cc e
-is-write (run.Bind f) e = cc e
-is-write run.Memory e = cc e
+abbrev whole_lines : Option SessionEnd → Bool
+whole_lines None = true
+whole_lines (Some e) = wrote_lines e
 
-pub is-no-write : (f : RunFault) → is_unwritten f ≡ false → f ≡ run.Answer answer.Write → ⊥
-is-no-write f e is = let both : true ≡ false = sym (ap is_unwritten is) ∙ e in cc both
+-- ---- steps
 
-pub outcome-replied : (c : List TableShape) (files : List Bytes) (ts : List Columns) (s : Bytes) (r : Outcome) (old : Bytes) → loaded c files ≡ Ok ts → IsUtf8 s → AnswersStatement c ts s r → Replies c files s (told r) old (old ++ rows_text r)
-outcome-replied c files ts s (Ok rows) old loads text (asked is h) = replied-over c files ts s (Ok rows) (Ok tt) old (old ++ rows_of rows) 0 0 loads h (refl, refl)
-outcome-replied c files ts s (Err f) old loads text (asked is h) = replied-over c files ts s (Err f) (Err f) old (old ++ []) 0 0 loads h (refl, append-nil old, refl)
-outcome-replied c files ts s (Err (run.Sql sql.TooLong)) old loads text (too_long long) = ((ts, loads), long)
-outcome-replied c files ts s (Err (run.Sql sql.Syntax)) old loads text (no_text short not) = absurd (not text)
-outcome-replied c files ts s (Err run.Memory) old loads text refused = tt
+module _ {S : Type 0} (source : Source S) (d : Loaded) (shape : Shape) where
+  abbrev Goes : Bool → Bool → SessionState S → SessionState S → Type 0
+  Goes rows_whole lines_whole old new = Went source d shape rows_whole lines_whole old new
 
-module _ (c : List TableShape) (tables : List Columns) (s : Bytes) where
-  pub replied-too-long : (d : Desk) → 65536 < length s → RepliesToStatement c tables s (Err (run.Sql sql.TooLong)) d d
-  replied-too-long d long = record { outcome = Err (run.Sql sql.TooLong); answers = too_long long; writes = (refl, refl, refl) }
-
-  pub replied-no-text : (d : Desk) → length s ≤ 65536 → (IsUtf8 s → ⊥) → RepliesToStatement c tables s (Err (run.Sql sql.Syntax)) d d
-  replied-no-text d short not = record { outcome = Err (run.Sql sql.Syntax); answers = no_text short not; writes = (refl, refl, refl) }
-
-  pub replied-text : (r : Result (Unit {0}) RunFault) (old new : Bytes) (m n : ℕ) → IsUtf8 s → RepliesOver c tables s r old new m n → RepliesToStatement c tables s r (desk old m) (desk new n)
-  replied-text r old new m n text over = record { outcome = over.answered; answers = asked text over.answers; writes = over.writes }
-
-  no-write : (f : RunFault) → AnswersStatement c tables s (Err f) → f ≡ run.Answer answer.Write → ⊥
-  no-write f (asked text h) is = subst (λ e. AnswersText c tables s (Err e)) is h
-  no-write (run.Sql sql.TooLong) (too_long long) is = cc is
-  no-write (run.Sql sql.Syntax) (no_text short not) is = cc is
-  no-write run.Memory refused is = cc is
-
-  -- rows that were written whole, rows that were not, and a fault of which nothing was written
-  pub record Answered (old new : Desk) : Type 0 where
-    pub rows : List Row
-    pub answers : AnswersStatement c tables s (Ok rows)
-    pub took : Took true (rows_of rows) old new
-
-  pub record Unwritten (old new : Desk) : Type 0 where
-    pub rows : List Row
-    pub answers : AnswersStatement c tables s (Ok rows)
-    pub took : Took false (rows_of rows) old new
-
-  pub record Refused (f : RunFault) (old new : Desk) : Type 0 where
-    pub answers : AnswersStatement c tables s (Err f)
-    pub took : Took true [] old new
-
-  answered-by : (o : Outcome) (old new : Desk) → AnswersStatement c tables s o → Writes o (Ok tt) old.taken new.taken old.failures new.failures → Answered old new
-  answered-by (Ok rows) old new a w = record { rows = rows; answers = a; took = w }
-  answered-by (Err f) old new a w = cc w.0
-
-  unwritten-by : (o : Outcome) (old new : Desk) → AnswersStatement c tables s o → Writes o (Err (run.Answer answer.Write)) old.taken new.taken old.failures new.failures → Unwritten old new
-  unwritten-by (Ok rows) old new a w = record { rows = rows; answers = a; took = w.1 }
-  unwritten-by (Err f) old new a w = let is : f ≡ run.Answer answer.Write = cc w.0 in absurd (no-write f a is)
-
-  refused-by : (o : Outcome) (f : RunFault) (old new : Desk) → (f ≡ run.Answer answer.Write → ⊥) → AnswersStatement c tables s o → Writes o (Err f) old.taken new.taken old.failures new.failures → Refused f old new
-  refused-by (Ok rows) f old new not a w = absurd (not w.0)
-  refused-by (Err g) f old new not a w = let is : g ≡ f = cc w.0 in record { answers = subst (λ e. AnswersStatement c tables s (Err e)) is a; took = (w.1 ∙ sym (append-nil old.taken), w.2) }
-
--- ---- turns
-
-module _ {S : Type 0} {source : Source S} (c : List TableShape) (tables : List Columns) where
-  abbrev Goes : Bool → Bool → Statements S source → Statements S source → Option RunFault → Option RunFault → Desk → Desk → Desk → Desk → Type 0
-  Goes rows_whole lines_whole old new f g ro rn lo ln = Went c tables rows_whole lines_whole old new f g ro rn lo ln
-
-  abbrev went-on : (rw_ lw : Bool) (a b d : Statements S source) (f g h : Option RunFault) (r0 r1 r2 l0 l1 l2 : Desk) → Goes true true a b f g r0 r1 l0 l1 → Goes rw_ lw b d g h r1 r2 l1 l2
-      → Goes rw_ lw a d f h r0 r2 l0 l2
-  went-on rw_ lw a b d f g h r0 r1 r2 l0 l1 l2 x y = record {
+  abbrev went-on : (rw_ lw : Bool) (a b e : SessionState S) → Goes true true a b → Goes rw_ lw b e → Goes rw_ lw a e
+  went-on rw_ lw a b e x y = record {
     fresh = x.fresh ++ y.fresh;
-    given = y.given ∙ ap (λ t. t ++ y.fresh) x.given ∙ append_assoc (source.given (source_of a)) x.fresh y.fresh;
+    given = y.given ∙ ap (λ t. t ++ y.fresh) x.given ∙ append_assoc (source.given (source_of a.statements)) x.fresh y.fresh;
     statements = x.statements ++ y.statements;
-    cut = cut-on (has_ended b) (has_ended d) (ahead a) (ahead b) (ahead d) x.fresh y.fresh x.statements y.statements y.quiet x.cut y.cut;
+    cut = cut-on (has_ended b.statements) (has_ended e.statements) (ahead a.statements) (ahead b.statements) (ahead e.statements) x.fresh y.fresh x.statements y.statements y.quiet x.cut y.cut;
     outcomes = x.outcomes ++ y.outcomes;
-    each = all-zip-append (AnswersStatement c tables) x.statements y.statements x.outcomes y.outcomes x.each y.each;
-    rows = took-each rows_text rw_ x.outcomes y.outcomes r0 r1 r2 x.rows y.rows;
-    lines = took-each fault_text lw x.outcomes y.outcomes l0 l1 l2 x.lines y.lines;
-    first = y.first ∙ ap (λ t. first_fault t y.outcomes) x.first ∙ first-on f x.outcomes y.outcomes;
-    quiet = λ e. let q = x.quiet e in let p = y.quiet q.1 in (ap (λ t. t ++ y.fresh) q.0 ∙ p.0, p.1);
+    each = all-zip-append (AnswersStatement d) x.statements y.statements x.outcomes y.outcomes x.each y.each;
+    rows = took-each (rows_text shape) rw_ x.outcomes y.outcomes a.rows b.rows e.rows x.rows y.rows;
+    lines = took-each fault_text lw x.outcomes y.outcomes a.lines b.lines e.lines x.lines y.lines;
+    quiet = λ is. let q = x.quiet is in let p = y.quiet q.1 in (ap (λ t. t ++ y.fresh) q.0 ∙ p.0, p.1);
   }
 
-  abbrev went-nowhere : (a : Statements S source) (f : Option RunFault) (r l : Desk) → Goes true true a a f f r r l l
-  went-nowhere a f r l = record {
+  abbrev went-nowhere : (a : SessionState S) → Goes true true a a
+  went-nowhere a = record {
     fresh = [];
-    given = sym (append-nil (source.given (source_of a)));
+    given = sym (append-nil (source.given (source_of a.statements)));
     statements = [];
-    cut = same-cut (has_ended a) (ahead a);
+    cut = same-cut (has_ended a.statements) (ahead a.statements);
     outcomes = [];
     each = tt;
-    rows = took-none r;
-    lines = took-none l;
-    first = sym (first-none f);
-    quiet = λ e. (refl, e);
+    rows = took-none a.rows;
+    lines = took-none a.lines;
+    quiet = λ is. (refl, is);
   }
 
   -- what a call that told nothing did to the source
-  module _ (old new : Statements S source) (r : Result (Option Statement) SourceFault) (g : Gave old r new) where
-    abbrev went-unheard : (f : Option RunFault) (rows lines : Desk) → Whatever (has_ended new) (λ more. statements_of (ahead old ++ (g.fresh ++ more)) ≡ [] ++ statements_of (ahead new ++ more))
-        → Goes true true old new f f rows rows lines lines
-    went-unheard f rows lines cut = record {
-      fresh = g.fresh;
-      given = g.given;
-      statements = [];
-      cut = cut;
-      outcomes = [];
-      each = tt;
-      rows = took-none rows;
-      lines = took-none lines;
-      first = sym (first-none f);
-      quiet = λ e. ((g.quiet e).1, (g.quiet e).2);
-    }
+  abbrev went-unheard : (old new : SessionState S) (r : Result (Option Statement) SourceFault) (g : Gave source old.statements r new.statements) → IsSilent old new
+      → Whatever (has_ended new.statements) (λ more. statements_of (ahead old.statements ++ (g.fresh ++ more)) ≡ [] ++ statements_of (ahead new.statements ++ more)) → Goes true true old new
+  went-unheard old new r g silent cut = record {
+    fresh = g.fresh;
+    given = g.given;
+    statements = [];
+    cut = cut;
+    outcomes = [];
+    each = tt;
+    rows = took-none-of old.rows new.rows silent.rows;
+    lines = took-none-of old.lines new.lines silent.lines;
+    quiet = λ is. ((g.quiet is).1, (g.quiet is).2);
+  }
 
-    abbrev went-told : (statement : Bytes) (outcome : Outcome) (rows_whole lines_whole : Bool) (f h : Option RunFault) (ro rn lo ln : Desk)
-        → Whatever (has_ended new) (λ more. statements_of (ahead old ++ (g.fresh ++ more)) ≡ statement ∷ statements_of (ahead new ++ more)) → AnswersStatement c tables statement outcome
-        → Took rows_whole (rows_text outcome) ro rn → Took lines_whole (fault_text outcome) lo ln → h ≡ first_fault f (outcome ∷ []) → Goes rows_whole lines_whole old new f h ro rn lo ln
-    went-told statement outcome rows_whole lines_whole f h ro rn lo ln cut answers rows lines first = record {
-      fresh = g.fresh;
-      given = g.given;
-      statements = statement ∷ [];
-      cut = cut;
-      outcomes = outcome ∷ [];
-      each = (answers, tt);
-      rows = took-one rows_text rows_whole outcome (rows_text outcome) ro rn refl rows;
-      lines = took-one fault_text lines_whole outcome (fault_text outcome) lo ln refl lines;
-      first = first;
-      quiet = λ e. ((g.quiet e).1, (g.quiet e).2);
-    }
+  abbrev went-told : (old new : SessionState S) (t : Statement) (g : Gave source old.statements (Ok (Some t)) new.statements) (o : Outcome) (rows_whole lines_whole : Bool) → AnswersStatement d g.answer.statement o
+      → Took rows_whole (rows_text shape o) old.rows new.rows → Took lines_whole (fault_text o) old.lines new.lines → Goes rows_whole lines_whole old new
+  went-told old new t g o rows_whole lines_whole answers rows lines = record {
+    fresh = g.fresh;
+    given = g.given;
+    statements = g.answer.statement ∷ [];
+    cut = g.answer.next;
+    outcomes = o ∷ [];
+    each = (answers, tt);
+    rows = took-one (rows_text shape) rows_whole o (rows_text shape o) old.rows new.rows refl rows;
+    lines = took-one fault_text lines_whole o (fault_text o) old.lines new.lines refl lines;
+    quiet = λ is. ((g.quiet is).1, (g.quiet is).2);
+  }
 
-  -- ---- one turn
+  -- a step as a part of a session, and how the session ends with it, where it does
+  record Turned (stops : Bool) (r : Option SessionEnd) (f : Option RunFault) (old new : SessionState S) : Type 0 where
+    went : Goes (whole_rows r) (whole_lines r) old new
+    fault : f ≡ first_fault went.outcomes
+    one : length went.outcomes ≤ 1
+    some : r ≡ None → length went.outcomes ≡ 1
+    calm : r ≡ None → source.failures (source_of new.statements) ≡ source.failures (source_of old.statements)
+    on : r ≡ None → stops ≡ true → f ≡ None
+    met : r ≡ Some end.Input → HasMetEnd source new.statements
+    all : r ≡ Some end.Input → statements_of (ahead old.statements ++ went.fresh) ≡ went.statements
+    stop : r ≡ Some end.Stop → (stops ≡ true) × IsSome f
+    broken : r ≡ Some end.Read → (source.failures (source_of old.statements) < source.failures (source_of new.statements)) ⊎ (2 ^ 64 ≤ length went.fresh + 1)
 
-  module _ (stops : Bool) (old new : Statements S source) where
-    pub turned-input : (f : Option RunFault) (rows lines : Desk) → Gave old (Ok None) new → Turned c tables stops (Some end.Input) old new f f rows rows lines lines
-    turned-input f rows lines g =
-        let none : statements_of (ahead old ++ (g.fresh ++ [])) ≡ [] = ap (λ t. statements_of (ahead old ++ t)) (append-nil g.fresh) ∙ g.answer.none in
-        let left : statements_of (ahead new ++ []) ≡ [] = ap (λ t. statements_of (t ++ [])) g.answer.rest ∙ no-statement in
+  module _ (stops : Bool) (old new : SessionState S) where
+    turned-end : Gave source old.statements (Ok None) new.statements → IsSilent old new → Turned stops (Some end.Input) None old new
+    turned-end g silent =
+        let a = old.statements in
+        let b = new.statements in
+        let none : statements_of (ahead a ++ (g.fresh ++ [])) ≡ [] = ap (λ t. statements_of (ahead a ++ t)) (append-nil g.fresh) ∙ g.answer.none in
+        let left : statements_of (ahead b ++ []) ≡ [] = ap (λ t. statements_of (t ++ [])) g.answer.rest ∙ no-statement in
         record {
-          went = went-unheard old new (Ok None) g f rows lines (ended-so (has_ended new) (λ more. statements_of (ahead old ++ (g.fresh ++ more)) ≡ [] ++ statements_of (ahead new ++ more)) g.answer.ended (none ∙ sym left));
+          went = went-unheard old new (Ok None) g silent (ended-so (has_ended b) (λ more. statements_of (ahead a ++ (g.fresh ++ more)) ≡ [] ++ statements_of (ahead b ++ more)) g.answer.ended (none ∙ sym left));
+          fault = refl;
           one = omega arith;
           some = λ e. cc e;
           calm = λ e. cc e;
@@ -284,11 +228,14 @@ module _ {S : Type 0} {source : Source S} (c : List TableShape) (tables : List C
           broken = λ e. cc e;
         }
 
-    pub turned-read : (f : Option RunFault) (rows lines : Desk) (e : SourceFault) → Gave old (Err e) new → Turned c tables stops (Some end.Read) old new f f rows rows lines lines
-    turned-read f rows lines e g =
-        let cut = λ (more : List ℕ). ap statements_of (sym (append_assoc (ahead old) g.fresh more) ∙ ap (λ t. t ++ more) (sym g.answer.kept)) in
+    turned-unread : (e : SourceFault) → Gave source old.statements (Err e) new.statements → IsSilent old new → Turned stops (Some end.Read) None old new
+    turned-unread e g silent =
+        let a = old.statements in
+        let b = new.statements in
+        let cut = λ (more : List ℕ). ap statements_of (sym (append_assoc (ahead a) g.fresh more) ∙ ap (λ t. t ++ more) (sym g.answer.kept)) in
         record {
-          went = went-unheard old new (Err e) g f rows lines (open-so (has_ended new) (λ more. statements_of (ahead old ++ (g.fresh ++ more)) ≡ [] ++ statements_of (ahead new ++ more)) g.answer.ended cut);
+          went = went-unheard old new (Err e) g silent (open-so (has_ended b) (λ more. statements_of (ahead a ++ (g.fresh ++ more)) ≡ [] ++ statements_of (ahead b ++ more)) g.answer.ended cut);
+          fault = refl;
           one = omega arith;
           some = λ e. cc e;
           calm = λ e. cc e;
@@ -299,91 +246,25 @@ module _ {S : Type 0} {source : Source S} (c : List TableShape) (tables : List C
           broken = λ e. g.answer.failed;
         }
 
-    module _ (t : Statement) (g : Gave old (Ok (Some t)) new) where
-      abbrev statement : Bytes
-      statement = g.answer.statement
-
-      first-rows : (f : Option RunFault) (rows : List Row) → f ≡ first_fault f (Ok rows ∷ [])
-      first-rows None rows = refl
-      first-rows (Some x) rows = refl
-
-      pub turned-rows : (f : Option RunFault) (ro rn lines : Desk) → RepliesToStatement c tables statement (Ok tt) ro rn → Turned c tables stops None old new f f ro rn lines lines
-      turned-rows f ro rn lines h =
-          let a = answered-by c tables statement h.outcome ro rn h.answers h.writes in
-          record {
-            went = went-told old new (Ok (Some t)) g statement (Ok a.rows) true true f f ro rn lines lines g.answer.next a.answers a.took (took-none lines) (first-rows f a.rows);
-            one = omega arith;
-            some = λ e. refl;
-            calm = λ e. g.answer.failures;
-            on = λ e s n. n;
-            met = λ e. cc e;
-            all = λ e. cc e;
-            stop = λ e. cc e;
-            broken = λ e. cc e;
-          }
-
-      pub turned-unwritten : (f : Option RunFault) (ro rn lines : Desk) → RepliesToStatement c tables statement (Err (run.Answer answer.Write)) ro rn → Turned c tables stops (Some end.Rows) old new f f ro rn lines lines
-      turned-unwritten f ro rn lines h =
-          let a = unwritten-by c tables statement h.outcome ro rn h.answers h.writes in
-          record {
-            went = went-told old new (Ok (Some t)) g statement (Ok a.rows) false true f f ro rn lines lines g.answer.next a.answers a.took (took-none lines) (first-rows f a.rows);
-            one = omega arith;
-            some = λ e. cc e;
-            calm = λ e. cc e;
-            on = λ e. cc e;
-            met = λ e. cc e;
-            all = λ e. cc e;
-            stop = λ e. cc e;
-            broken = λ e. cc e;
-          }
-
-      some-fault : (f : Option RunFault) (fault : RunFault) → IsSome (first_fault f (Err fault ∷ []))
-      some-fault None fault = refl
-      some-fault (Some x) fault = refl
-
-      -- the fault that was told is that of the statement, or memory
-      told-answers : (f g : RunFault) → AnswersStatement c tables statement (Err f) → (g ≡ f) ⊎ (g ≡ run.Memory) → AnswersStatement c tables statement (Err g)
-      told-answers f g a (inl e) = rw e a
-      told-answers f g a (inr e) = rw e refused
-
-      abbrev went-fault : (whole : Bool) (fault told : RunFault) (f h : Option RunFault) (ro rn lo ln : Desk) → (fault ≡ run.Answer answer.Write → ⊥) → RepliesToStatement c tables statement (Err fault) ro rn → (told ≡ fault) ⊎ (told ≡ run.Memory)
-          → Took whole (line_of (run_words [] told)) lo ln → h ≡ first_fault f (Err told ∷ []) → Goes true whole old new f h ro rn lo ln
-      went-fault whole fault told f h ro rn lo ln not r is line first =
-          let a = refused-by c tables statement r.outcome fault ro rn not r.answers r.writes in
-          went-told old new (Ok (Some t)) g statement (Err told) true whole f h ro rn lo ln g.answer.next (told-answers fault told a.answers is) a.took line first
-
-      pub turned-fault : (fault told : RunFault) (f h : Option RunFault) (ro rn lo ln : Desk) → (fault ≡ run.Answer answer.Write → ⊥) → RepliesToStatement c tables statement (Err fault) ro rn → (told ≡ fault) ⊎ (told ≡ run.Memory)
-          → Took true (line_of (run_words [] told)) lo ln → h ≡ first_fault f (Err told ∷ []) → stops ≡ false → Turned c tables stops None old new f h ro rn lo ln
-      turned-fault fault told f h ro rn lo ln not r is line first goes = record {
-        went = went-fault true fault told f h ro rn lo ln not r is line first;
+    module _ (t : Statement) (g : Gave source old.statements (Ok (Some t)) new.statements) where
+      turned-rows : (s : Sheet) → AnswersStatement d g.answer.statement (Ok s) → Took true (shown shape s.titles s.rows) old.rows new.rows → new.lines ≡ old.lines → Turned stops None None old new
+      turned-rows s a took same = record {
+        went = went-told old new t g (Ok s) true true a took (took-none-of old.lines new.lines same);
+        fault = refl;
         one = omega arith;
         some = λ e. refl;
         calm = λ e. g.answer.failures;
-        on = λ e s n. cc (goes, s);
+        on = λ e n. refl;
         met = λ e. cc e;
         all = λ e. cc e;
         stop = λ e. cc e;
         broken = λ e. cc e;
       }
 
-      pub turned-stop : (fault told : RunFault) (f h : Option RunFault) (ro rn lo ln : Desk) → (fault ≡ run.Answer answer.Write → ⊥) → RepliesToStatement c tables statement (Err fault) ro rn → (told ≡ fault) ⊎ (told ≡ run.Memory)
-          → Took true (line_of (run_words [] told)) lo ln → h ≡ first_fault f (Err told ∷ []) → stops ≡ true → Turned c tables stops (Some end.Stop) old new f h ro rn lo ln
-      turned-stop fault told f h ro rn lo ln not r is line first ends = record {
-        went = went-fault true fault told f h ro rn lo ln not r is line first;
-        one = omega arith;
-        some = λ e. cc e;
-        calm = λ e. cc e;
-        on = λ e. cc e;
-        met = λ e. cc e;
-        all = λ e. cc e;
-        stop = λ e. (ends, subst IsSome (sym first) (some-fault f told));
-        broken = λ e. cc e;
-      }
-
-      pub turned-untold : (fault told : RunFault) (f h : Option RunFault) (ro rn lo ln : Desk) → (fault ≡ run.Answer answer.Write → ⊥) → RepliesToStatement c tables statement (Err fault) ro rn → (told ≡ fault) ⊎ (told ≡ run.Memory)
-          → Took false (line_of (run_words [] told)) lo ln → h ≡ first_fault f (Err told ∷ []) → Turned c tables stops (Some end.Lines) old new f h ro rn lo ln
-      turned-untold fault told f h ro rn lo ln not r is line first = record {
-        went = went-fault false fault told f h ro rn lo ln not r is line first;
+      turned-unwritten : (s : Sheet) → AnswersStatement d g.answer.statement (Ok s) → Took false (shown shape s.titles s.rows) old.rows new.rows → new.lines ≡ old.lines → Turned stops (Some end.Rows) None old new
+      turned-unwritten s a took same = record {
+        went = went-told old new t g (Ok s) false true a took (took-none-of old.lines new.lines same);
+        fault = refl;
         one = omega arith;
         some = λ e. cc e;
         calm = λ e. cc e;
@@ -394,49 +275,113 @@ module _ {S : Type 0} {source : Source S} (c : List TableShape) (tables : List C
         broken = λ e. cc e;
       }
 
-  -- ---- a session
+      turned-fault : (f : RunFault) → AnswersStatement d g.answer.statement (Err f) → Took true (line_of (run_words [] f)) old.lines new.lines → new.rows ≡ old.rows → stops ≡ false → Turned stops None (Some f) old new
+      turned-fault f a took same goes = record {
+        went = went-told old new t g (Err f) true true a (took-none-of old.rows new.rows same) took;
+        fault = refl;
+        one = omega arith;
+        some = λ e. refl;
+        calm = λ e. g.answer.failures;
+        on = λ e s. cc (goes, s);
+        met = λ e. cc e;
+        all = λ e. cc e;
+        stop = λ e. cc e;
+        broken = λ e. cc e;
+      }
 
-  input-all : (start now next : Statements S source) (f g : Bytes) (ss us : List Bytes) → Whatever (has_ended now) (λ more. statements_of (ahead start ++ (f ++ more)) ≡ ss ++ statements_of (ahead now ++ more)) → statements_of (ahead now ++ g) ≡ us
-      → (has_ended now ≡ true → (g ≡ []) × (has_ended next ≡ true)) → statements_of (ahead start ++ (f ++ g)) ≡ ss ++ us
-  input-all start now next f g ss us cut rest quiet = whatever-at (has_ended now) (λ more. statements_of (ahead start ++ (f ++ more)) ≡ ss ++ statements_of (ahead now ++ more)) g cut (λ e. (quiet e).0) ∙ ap (λ t. ss ++ t) rest
+      turned-stop : (f : RunFault) → AnswersStatement d g.answer.statement (Err f) → Took true (line_of (run_words [] f)) old.lines new.lines → new.rows ≡ old.rows → stops ≡ true → Turned stops (Some end.Stop) (Some f) old new
+      turned-stop f a took same ends = record {
+        went = went-told old new t g (Err f) true true a (took-none-of old.rows new.rows same) took;
+        fault = refl;
+        one = omega arith;
+        some = λ e. cc e;
+        calm = λ e. cc e;
+        on = λ e. cc e;
+        met = λ e. cc e;
+        all = λ e. cc e;
+        stop = λ e. (ends, refl);
+        broken = λ e. cc e;
+      }
 
-  -- so many turns, after which the session goes on
-  pub record SoFar (stops : Bool) (turns : ℕ) (start now : Statements S source) (first : Option RunFault) (ro rn lo ln : Desk) : Type 0 where
-    pub went : Goes true true start now None first ro rn lo ln
-    pub none : stops ≡ true → first ≡ None
-    pub many : turns ≡ length went.outcomes
-    pub calm : source.failures (source_of now) ≡ source.failures (source_of start)
+      turned-untold : (f : RunFault) → AnswersStatement d g.answer.statement (Err f) → Took false (line_of (run_words [] f)) old.lines new.lines → new.rows ≡ old.rows → Turned stops (Some end.Lines) (Some f) old new
+      turned-untold f a took same = record {
+        went = went-told old new t g (Err f) true false a (took-none-of old.rows new.rows same) took;
+        fault = refl;
+        one = omega arith;
+        some = λ e. cc e;
+        calm = λ e. cc e;
+        on = λ e. cc e;
+        met = λ e. cc e;
+        all = λ e. cc e;
+        stop = λ e. cc e;
+        broken = λ e. cc e;
+      }
 
-  pub so-far-nothing : (stops : Bool) (start : Statements S source) (r l : Desk) → SoFar stops 0 start start None r r l l
-  so-far-nothing stops start r l = record { went = went-nowhere start None r l; none = λ s. refl; many = refl; calm = refl }
+  turned : (stops : Bool) (s : Step) (old new : SessionState S) → DoesStep source d shape old new s → Turned stops (end_of stops s) (fault_of s) old new
+  turned stops step.End old new (ended g silent) = turned-end stops old new g silent
+  turned stops step.Unread old new (unread {e = e} g silent) = turned-unread stops old new e g silent
+  turned stops (step.Answered (Ok u)) old new (answered {t = t} {sheet = s} g a took same) = turned-rows stops old new t g s a took same
+  turned stops (step.Answered (Err e)) old new (answered {t = t} {sheet = s} g a took same) = turned-unwritten stops old new t g s a took same
+  turned true (step.Told f (Ok u)) old new (told {t = t} g a took same) = turned-stop true old new t g f a took same refl
+  turned false (step.Told f (Ok u)) old new (told {t = t} g a took same) = turned-fault false old new t g f a took same refl
+  turned stops (step.Told f (Err e)) old new (told {t = t} g a took same) = turned-untold stops old new t g f a took same
 
-  pub so-far-more : (stops : Bool) (turns more : ℕ) (start now next : Statements S source) (f h : Option RunFault) (r0 r1 r2 l0 l1 l2 : Desk) → more ≡ turns + 1 → SoFar stops turns start now f r0 r1 l0 l1
-      → Turned c tables stops None now next f h r1 r2 l1 l2 → SoFar stops more start next h r0 r2 l0 l2
-  so-far-more stops turns more start now next f h r0 r1 r2 l0 l1 l2 is s t = record {
-    went = went-on true true start now next None f h r0 r1 r2 l0 l1 l2 s.went t.went;
-    none = λ e. t.on refl e (s.none e);
-    many = let count = length-append s.went.outcomes t.went.outcomes in let one = t.some refl in let so_far = s.many in omega (arith, is, count, one, so_far);
-    calm = t.calm refl ∙ s.calm;
-  }
+-- ---- a session
 
-  pub session-ends : (stops : Bool) (turns : ℕ) (start now next : Statements S source) (f h : Option RunFault) (e : SessionEnd) (r0 r1 r2 l0 l1 l2 : Desk) → SoFar stops turns start now f r0 r1 l0 l1 → Turned c tables stops (Some e) now next f h r1 r2 l1 l2
-      → IsSession c tables stops (record { first = h; end = e }) start next r0 r2 l0 l2
-  session-ends stops turns start now next f h e r0 r1 r2 l0 l1 l2 s t = record {
-    went = went-on (wrote_rows (Some e)) (wrote_lines (Some e)) start now next None f h r0 r1 r2 l0 l1 l2 s.went t.went;
-    met = λ is. t.met (ap Some is);
-    all = λ is. input-all start now next s.went.fresh t.went.fresh s.went.statements t.went.statements s.went.cut (t.all (ap Some is)) t.went.quiet;
-    stopped = λ is. stops-at s.went.outcomes t.went.outcomes (sym s.went.first ∙ s.none is) t.one;
-    stop = λ is. t.stop (ap Some is);
-    broken = λ is. break-on (source.failures (source_of start)) (source.failures (source_of now)) (source.failures (source_of next)) s.went.fresh t.went.fresh (2 ^ 64 ≤ length (s.went.outcomes ++ t.went.outcomes) + 1) s.calm (t.broken (ap Some is));
-  }
+module _ {S : Type 0} (source : Source S) (d : Loaded) (m : Manner) where
+  input-all : (start now next : SessionState S) (f g : Bytes) (ss us : List Bytes) → Whatever (has_ended now.statements) (λ more. statements_of (ahead start.statements ++ (f ++ more)) ≡ ss ++ statements_of (ahead now.statements ++ more))
+      → statements_of (ahead now.statements ++ g) ≡ us → (has_ended now.statements ≡ true → (g ≡ []) × (has_ended next.statements ≡ true)) → statements_of (ahead start.statements ++ (f ++ g)) ≡ ss ++ us
+  input-all start now next f g ss us cut rest quiet =
+      whatever-at (has_ended now.statements) (λ more. statements_of (ahead start.statements ++ (f ++ more)) ≡ ss ++ statements_of (ahead now.statements ++ more)) g cut (λ e. (quiet e).0) ∙ ap (λ t. ss ++ t) rest
 
-  pub session-spent : (stops : Bool) (turns : ℕ) (start now : Statements S source) (f : Option RunFault) (r0 r1 l0 l1 : Desk) → 2 ^ 64 ≤ turns + 1 → SoFar stops turns start now f r0 r1 l0 l1
-      → IsSession c tables stops (record { first = f; end = end.Read }) start now r0 r1 l0 l1
-  session-spent stops turns start now f r0 r1 l0 l1 spent s = record {
-    went = s.went;
-    met = λ is. cc is;
-    all = λ is. cc is;
-    stopped = λ is. subst StopsAtFault (append-nil s.went.outcomes) (stops-at s.went.outcomes [] (sym s.went.first ∙ s.none is) (omega arith));
-    stop = λ is. cc is;
-    broken = λ is. inr (inr (subst (λ n. 2 ^ 64 ≤ n + 1) s.many spent));
+  -- so many steps, after which the session goes on
+  pub record SoFar (steps : ℕ) (start now : SessionState S) (first : Option RunFault) : Type 0 where
+    pub went : Went source d m.shape true true start now
+    pub told : first ≡ first_fault went.outcomes
+    pub none : m.stops ≡ true → first ≡ None
+    pub many : steps ≡ length went.outcomes
+    pub calm : source.failures (source_of now.statements) ≡ source.failures (source_of start.statements)
+
+  pub so-far-nothing : (start : SessionState S) → SoFar 0 start start None
+  so-far-nothing start = record { went = went-nowhere source d m.shape start; told = refl; none = λ s. refl; many = refl; calm = refl }
+
+  pub so-far-more : (steps more : ℕ) (start now next : SessionState S) (f : Option RunFault) (s : Step) → more ≡ steps + 1 → SoFar steps start now f → DoesStep source d m.shape now next s → end_of m.stops s ≡ None
+      → SoFar more start next (first_of f (fault_of s))
+  so-far-more steps more start now next f s is so does on =
+      let t = subst (λ (e : Option SessionEnd). Turned source d m.shape m.stops e (fault_of s) now next) on (turned source d m.shape m.stops s now next does) in
+      record {
+        went = went-on source d m.shape true true start now next so.went t.went;
+        told = ap (λ x. first_of x (fault_of s)) so.told ∙ ap (λ x. first_of (first_fault so.went.outcomes) x) t.fault ∙ first-append so.went.outcomes t.went.outcomes;
+        none = λ e. ap (λ x. first_of x (fault_of s)) (so.none e) ∙ t.on refl e;
+        many = let count = length-append so.went.outcomes t.went.outcomes in let one = t.some refl in let so_far = so.many in omega (arith, is, count, one, so_far);
+        calm = t.calm refl ∙ so.calm;
+      }
+
+  some-first : (f g : Option RunFault) → IsSome g → IsSome (first_of f g)
+  some-first None g is = is
+  some-first (Some x) g is = refl
+
+  pub session-ends : (steps : ℕ) (start now next : SessionState S) (f : Option RunFault) (s : Step) (e : SessionEnd) → SoFar steps start now f → DoesStep source d m.shape now next s → end_of m.stops s ≡ Some e
+      → IsSession source d m (record { first = first_of f (fault_of s); end = e }) start next
+  session-ends steps start now next f s e so does is =
+      let t = subst (λ (r : Option SessionEnd). Turned source d m.shape m.stops r (fault_of s) now next) is (turned source d m.shape m.stops s now next does) in
+      record {
+        went = went-on source d m.shape (wrote_rows e) (wrote_lines e) start now next so.went t.went;
+        first = ap (λ x. first_of x (fault_of s)) so.told ∙ ap (λ x. first_of (first_fault so.went.outcomes) x) t.fault ∙ first-append so.went.outcomes t.went.outcomes;
+        met = λ k. t.met (ap Some k);
+        all = λ k. input-all start now next so.went.fresh t.went.fresh so.went.statements t.went.statements so.went.cut (t.all (ap Some k)) t.went.quiet;
+        stopped = λ k. stops-at so.went.outcomes t.went.outcomes (sym so.told ∙ so.none k) t.one;
+        stop = λ k. let stop = t.stop (ap Some k) in (stop.0, some-first f (fault_of s) stop.1);
+        broken = λ k. break-on (source.failures (source_of start.statements)) (source.failures (source_of now.statements)) (source.failures (source_of next.statements)) so.went.fresh t.went.fresh (2 ^ 64 ≤ length (so.went.outcomes ++ t.went.outcomes) + 1) so.calm (t.broken (ap Some k));
+      }
+
+  pub session-spent : (steps : ℕ) (start now : SessionState S) (f : Option RunFault) → 2 ^ 64 ≤ steps + 1 → SoFar steps start now f → IsSession source d m (record { first = f; end = end.Read }) start now
+  session-spent steps start now f long so = record {
+    went = so.went;
+    first = so.told;
+    met = λ k. cc k;
+    all = λ k. cc k;
+    stopped = λ k. subst StopsAtFault (append-nil so.went.outcomes) (stops-at so.went.outcomes [] (sym so.told ∙ so.none k) (omega arith));
+    stop = λ k. cc k;
+    broken = λ k. inr (inr (subst (λ n. 2 ^ 64 ≤ n + 1) so.many long));
   }

@@ -12,11 +12,12 @@ some-so None P Q so h = tt
 some-so (Some x) P Q so h = so x h
 
 pub whole-session : {S : Type 0} (source : Source S) → ((s : S) → 0 < source.ends s → IfSome (source.whole s) (λ all. source.given s ≡ all)) → SessionsAreWhole source
-whole-session source settled c tables stops r old new rows_old rows_new lines_old lines_new is ended none silent =
+whole-session source settled d manner r old new is ended none silent =
     let fresh = is.went.fresh in
-    let given : source.given (source_of new) ≡ fresh = is.went.given ∙ ap (λ t. t ++ fresh) silent in
+    let last = source_of new.statements in
+    let given : source.given last ≡ fresh = is.went.given ∙ ap (λ t. t ++ fresh) silent in
     let told : is.went.statements ≡ statements_of fresh = sym (is.all ended) ∙ ap (λ t. statements_of (t ++ fresh)) none in
     record {
       given = told ∙ ap statements_of (sym given);
-      told = some-so (source.whole (source_of new)) (λ all. source.given (source_of new) ≡ all) (λ all. is.went.statements ≡ statements_of all) (λ all e. told ∙ ap statements_of (sym given ∙ e)) (settled (source_of new) (is.met ended).met);
+      told = some-so (source.whole last) (λ all. source.given last ≡ all) (λ all. is.went.statements ≡ statements_of all) (λ all e. told ∙ ap statements_of (sym given ∙ e)) (settled last (is.met ended).met);
     }

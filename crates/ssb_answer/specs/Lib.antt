@@ -4,6 +4,7 @@ pub mod Session
 pub mod SessionStep
 pub mod Showing
 pub mod ShownStep
+pub mod Steps
 pub mod Writing
 pub use Rattle.ssb_catalog.specs.Catalog
 pub use Rattle.ssb_groups.specs.Stands

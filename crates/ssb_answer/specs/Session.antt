@@ -1,127 +1,98 @@
 -- A session: each statement of an input is answered over tables that were loaded once, one after the other.
 -- Source: own.
-use Rattle.std.specs.Prelude.{◌≡◌, ◌<◌, ◌≤◌, ◌+◌, ◌^◌, ◌⊎◌, ◌++◌, [], ◌∷◌, ℕ, Bool, true, false, List, Option, None, Some, Result, Ok, Err, IfSome, IsSome, IsUtf8, length, map}
+use Rattle.std.specs.Prelude.{◌≡◌, ◌<◌, ◌≤◌, ◌+◌, ◌^◌, ◌⊎◌, ◌++◌, [], ◌∷◌, Bool, true, false, List, Option, None, Some, Result, Ok, Err, IfSome, IsSome, IsUtf8, length, map}
 use Rattle.std.specs.List.{AllZip, flat_map}
-use Rattle.ssb_catalog.specs.Shapes.{TableShape}
-use Rattle.ssb_cells.specs.Tables.{Columns}
 use Rattle.ssb_load.specs.Files.{Bytes, loaded}
 use Rattle.ssb_records.specs.declared.source.Source.{Ghosts as Source}
-use Rattle.ssb_sql.specs.declared.fault.SqlFault.TheVariants as sql
-use Rattle.ssb_rows.specs.Order.{Row}
-use Rattle.ssb_rows.specs.Taking.{IsBeginning}
-use Rattle.ssb_rows.specs.Text.{text_of}
-use Rattle.ssb_reply.specs.FaultLine.{line_of, run_words}
 use Rattle.ssb_reply.specs.Reply.{Replies}
 use Rattle.ssb_reply.specs.declared.run_fault.RunFault.{RunFault}
-use Rattle.ssb_reply.specs.declared.run_fault.RunFault.TheVariants as run
+use Rattle.ssb_show.specs.Shown.{plain}
+use Rattle.ssb_show.specs.declared.shape.Shape.{Shape}
 use Rattle.ssb_statements.specs.Telling.{Whatever, ahead, has_ended, source_of}
 use Rattle.ssb_statements.specs.declared.statements.Statements.{Statements}
 use Rattle.ssb_tokens.specs.Statements.{statements_of}
-use Rattle.ssb_answer.specs.Asking.{AnswersText}
-use Rattle.ssb_answer.specs.declared.session.Session.{Session}
+use Rattle.ssb_answer.specs.Database.{Loaded}
+use Rattle.ssb_answer.specs.Showing.{Sheet, ShowsFiles}
+use Rattle.ssb_answer.specs.Steps.{AnswersStatement, Outcome, SessionState, Took, fault_text, rows_text}
+use Rattle.ssb_answer.specs.declared.session.Manner.{Manner}
+use Rattle.ssb_answer.specs.declared.session.SessionOutcome.{SessionOutcome}
 use Rattle.ssb_answer.specs.declared.session.SessionEnd.{SessionEnd}
 use Rattle.ssb_answer.specs.declared.session.SessionEnd.TheVariants as end
 
--- the rows of a statement, or its fault
-abbrev pub Outcome : Type 0
-Outcome = Result (List Row) RunFault
+-- Some statements of an input were answered over a database, one after the other. Its source gave these bytes meanwhile. The sink of rows took the text of each
+-- answer in the shape, and that of lines the line of each fault, whole unless a write of it failed.
+pub record Went {S : Type 0} (source : Source S) (d : Loaded) (shape : Shape) (rows_whole lines_whole : Bool) (old new : SessionState S) : Type 0 where
+  pub fresh : Bytes
+  pub given : source.given (source_of new.statements) ≡ source.given (source_of old.statements) ++ fresh
+  pub statements : List Bytes
+  pub cut : Whatever (has_ended new.statements) (λ more. statements_of (ahead old.statements ++ (fresh ++ more)) ≡ statements ++ statements_of (ahead new.statements ++ more))
+  pub outcomes : List Outcome
+  pub each : AllZip (AnswersStatement d) statements outcomes
+  pub rows : Took rows_whole (flat_map (rows_text shape) outcomes) old.rows new.rows
+  pub lines : Took lines_whole (flat_map fault_text outcomes) old.lines new.lines
+  -- once the input has ended, it gives no byte, and stays so
+  pub quiet : has_ended old.statements ≡ true → (fresh ≡ []) × (has_ended new.statements ≡ true)
 
--- What comes of a statement: what its text asks of the tables. Bytes that are no UTF-8 are no query.
-pub data AnswersStatement (c : List TableShape) (tables : List Columns) : Bytes → Outcome → Type 0 where
-  asked : {s : Bytes} {r : Outcome} → IsUtf8 s → AnswersText c tables s r → AnswersStatement c tables s r
-  too_long : {s : Bytes} → 65536 < length s → AnswersStatement c tables s (Err (run.Sql sql.TooLong))
-  no_text : {s : Bytes} → length s ≤ 65536 → (IsUtf8 s → ⊥) → AnswersStatement c tables s (Err (run.Sql sql.Syntax))
-  refused : {s : Bytes} → AnswersStatement c tables s (Err run.Memory)
-
--- what is written of it: the text of its rows, or the line of its fault
-abbrev pub rows_text : Outcome → Bytes
-rows_text (Ok rows) = text_of rows
-rows_text (Err f) = []
-
-abbrev pub fault_text : Outcome → Bytes
-fault_text (Ok rows) = []
-fault_text (Err f) = line_of (run_words [] f)
+-- the first of two faults
+abbrev pub first_of : Option RunFault → Option RunFault → Option RunFault
+first_of (Some f) g = Some f
+first_of None g = g
 
 -- the first fault, where there is one
-abbrev pub first_fault : Option RunFault → List Outcome → Option RunFault
-first_fault (Some f) rs = Some f
-first_fault None [] = None
-first_fault None (Ok rows ∷ rs) = first_fault None rs
-first_fault None (Err f ∷ rs) = Some f
-
--- a sink: the bytes that it took, and how often it failed
-pub record Desk : Type 0 where
-  pub taken : Bytes
-  pub failures : ℕ
-
-abbrev pub desk : Bytes → ℕ → Desk
-desk taken failures = record { taken = taken; failures = failures }
-
--- a sink took a text, or a beginning of it, where a write failed
-abbrev pub Took : Bool → Bytes → Desk → Desk → Type 0
-Took true text old new = (new.taken ≡ old.taken ++ text) × (new.failures ≡ old.failures)
-Took false text old new = IsBeginning old.taken new.taken text × (old.failures < new.failures)
-
--- Some statements of an input were answered over these tables, one after the other. Its source gave these bytes meanwhile. The sink of rows took the text of
--- each answer, and that of lines the line of each fault, whole unless a write of it failed.
-pub record Went {S : Type 0} {source : Source S} (c : List TableShape) (tables : List Columns) (rows_whole lines_whole : Bool) (old new : Statements S source)
-    (first_old first_new : Option RunFault) (rows_old rows_new lines_old lines_new : Desk) : Type 0 where
-  pub fresh : Bytes
-  pub given : source.given (source_of new) ≡ source.given (source_of old) ++ fresh
-  pub statements : List Bytes
-  pub cut : Whatever (has_ended new) (λ more. statements_of (ahead old ++ (fresh ++ more)) ≡ statements ++ statements_of (ahead new ++ more))
-  pub outcomes : List Outcome
-  pub each : AllZip (AnswersStatement c tables) statements outcomes
-  pub rows : Took rows_whole (flat_map rows_text outcomes) rows_old rows_new
-  pub lines : Took lines_whole (flat_map fault_text outcomes) lines_old lines_new
-  pub first : first_new ≡ first_fault first_old outcomes
-  -- once the input has ended, it gives no byte, and stays so
-  pub quiet : has_ended old ≡ true → (fresh ≡ []) × (has_ended new ≡ true)
+abbrev pub first_fault : List Outcome → Option RunFault
+first_fault [] = None
+first_fault (Ok s ∷ rs) = first_fault rs
+first_fault (Err f ∷ rs) = Some f
 
 -- whether the rows, and the lines, were written whole
-abbrev pub wrote_rows : Option SessionEnd → Bool
-wrote_rows (Some end.Rows) = false
+abbrev pub wrote_rows : SessionEnd → Bool
+wrote_rows end.Rows = false
 wrote_rows _ = true
 
-abbrev pub wrote_lines : Option SessionEnd → Bool
-wrote_lines (Some end.Lines) = false
+abbrev pub wrote_lines : SessionEnd → Bool
+wrote_lines end.Lines = false
 wrote_lines _ = true
 
 -- at most the last of these is a fault
 pub record StopsAtFault (outcomes : List Outcome) : Type 0 where
-  pub answers : List (List Row)
+  pub answers : List Sheet
   pub last : List Outcome
   pub all : outcomes ≡ map Ok answers ++ last
   pub one : length last ≤ 1
 
 -- the source of some statements met its end, once at least, and no byte is left
-pub record HasMetEnd {S : Type 0} {source : Source S} (statements : Statements S source) : Type 0 where
+pub record HasMetEnd {S : Type 0} (source : Source S) (statements : Statements S) : Type 0 where
   pub ended : has_ended statements ≡ true
   pub met : 0 < source.ends (source_of statements)
   pub rest : ahead statements ≡ []
 
 -- What a session did.
-pub record IsSession {S : Type 0} {source : Source S} (c : List TableShape) (tables : List Columns) (stops : Bool) (r : Session) (old new : Statements S source)
-    (rows_old rows_new lines_old lines_new : Desk) : Type 0 where
-  pub went : Went c tables (wrote_rows (Some r.end)) (wrote_lines (Some r.end)) old new None r.first rows_old rows_new lines_old lines_new
+pub record IsSession {S : Type 0} (source : Source S) (d : Loaded) (manner : Manner) (r : SessionOutcome) (old new : SessionState S) : Type 0 where
+  pub went : Went source d manner.shape (wrote_rows r.end) (wrote_lines r.end) old new
+  pub first : r.first ≡ first_fault went.outcomes
   -- where the input ended, its source met its end, nothing was left, and the statements are all of it
-  pub met : r.end ≡ end.Input → HasMetEnd new
-  pub all : r.end ≡ end.Input → statements_of (ahead old ++ went.fresh) ≡ went.statements
+  pub met : r.end ≡ end.Input → HasMetEnd source new.statements
+  pub all : r.end ≡ end.Input → statements_of (ahead old.statements ++ went.fresh) ≡ went.statements
   -- where the first fault is to end it, no statement behind that is answered; else no fault ends it
-  pub stopped : stops ≡ true → StopsAtFault went.outcomes
-  pub stop : r.end ≡ end.Stop → (stops ≡ true) × IsSome r.first
+  pub stopped : manner.stops ≡ true → StopsAtFault went.outcomes
+  pub stop : r.end ≡ end.Stop → (manner.stops ≡ true) × IsSome r.first
   -- it gives the input up only where a read failed, or bytes or statements came without an end
-  pub broken : r.end ≡ end.Read → (source.failures (source_of old) < source.failures (source_of new)) ⊎ ((2 ^ 64 ≤ length went.fresh + 1) ⊎ (2 ^ 64 ≤ length went.outcomes + 1))
+  pub broken : r.end ≡ end.Read → (source.failures (source_of old.statements) < source.failures (source_of new.statements)) ⊎ ((2 ^ 64 ≤ length went.fresh + 1) ⊎ (2 ^ 64 ≤ length went.outcomes + 1))
 
 -- what a run tells of an outcome
 abbrev pub told : Outcome → Result (Unit {0}) RunFault
-told (Ok rows) = Ok tt
+told (Ok s) = Ok tt
 told (Err f) = Err f
 
--- a statement's outcome over the tables of files is what a run of its own over these files replies, with the same bytes written
+-- a statement's outcome over the tables of files is what a run of its own over these files replies, with the same bytes written in the plain shape
 abbrev pub OutcomesAreReplies : Type 0
-OutcomesAreReplies = (c : List TableShape) (files : List Bytes) (tables : List Columns) (s : Bytes) (r : Outcome) (old : Bytes) → loaded c files ≡ Ok tables → IsUtf8 s → AnswersStatement c tables s r
-    → Replies c files s (told r) old (old ++ rows_text r)
+OutcomesAreReplies = (d : Loaded) (files : List Bytes) (s : Bytes) (r : Outcome) (old : Bytes) → loaded d.catalog files ≡ Ok d.tables → IsUtf8 s → AnswersStatement d s r
+    → Replies d.catalog files s (told r) old (old ++ rows_text plain r)
+
+-- and in any shape it is what is shown of those files
+abbrev pub OutcomesAreShown : Type 0
+OutcomesAreShown = (d : Loaded) (files : List Bytes) (shape : Shape) (s : Bytes) (r : Outcome) (old : Bytes) → loaded d.catalog files ≡ Ok d.tables → IsUtf8 s → AnswersStatement d s r
+    → ShowsFiles d.catalog files shape s (told r) old (old ++ rows_text shape r)
 
 -- statements are those of all bytes that a source gave, and of all its bytes, where it tells them
 pub record AreOfAll {S : Type 0} (source : Source S) (statements : List Bytes) (s : S) : Type 0 where
@@ -130,5 +101,5 @@ pub record AreOfAll {S : Type 0} (source : Source S) (statements : List Bytes) (
 
 -- where a session ends with its input, over a source that had given nothing, its statements are those of all bytes
 abbrev pub SessionsAreWhole : {S : Type 0} → Source S → Type 0
-SessionsAreWhole {S = S} source = (c : List TableShape) (tables : List Columns) (stops : Bool) (r : Session) (old new : Statements S source) (rows_old rows_new lines_old lines_new : Desk)
-    → (is : IsSession c tables stops r old new rows_old rows_new lines_old lines_new) → r.end ≡ end.Input → ahead old ≡ [] → source.given (source_of old) ≡ [] → AreOfAll source is.went.statements (source_of new)
+SessionsAreWhole {S = S} source = (d : Loaded) (manner : Manner) (r : SessionOutcome) (old new : SessionState S) → (is : IsSession source d manner r old new)
+    → r.end ≡ end.Input → ahead old.statements ≡ [] → source.given (source_of old.statements) ≡ [] → AreOfAll source is.went.statements (source_of new.statements)

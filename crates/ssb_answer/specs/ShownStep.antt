@@ -11,20 +11,17 @@ use Rattle.ssb_reply.specs.Told.{told_answer}
 use Rattle.ssb_job.specs.Kept.{JobShape}
 use Rattle.ssb_rows.specs.Result.{Answers}
 use Rattle.ssb_rows.specs.declared.fault.AnswerFault.{AnswerFault}
-use Rattle.ssb_show.specs.Shown.{shown}
 use Rattle.ssb_show.specs.Titles.{column_titles}
 use Rattle.ssb_show.specs.declared.shape.Shape.{Shape}
-use Rattle.ssb_answer.specs.Showing.{WritesText}
-use Rattle.ssb_answer.specs.Asking.{AnswersText, IsAnswered}
+use Rattle.ssb_answer.specs.Asking.{AnswersText}
+use Rattle.ssb_answer.specs.Showing.{AnswersSheet, Sheet, WritesSheet}
 use Rattle.ssb_answer.specs.declared.show.Titled.{Titled}
 
--- the rows that a text answers, and the titles of the query that it asks
-pub record IsTitled (c : List TableShape) (tables : List Columns) (text : Bytes) (t : Titled) : Type 0 where
-  pub answered : IsAnswered c tables text (Ok t.answer)
-  pub titles : map string_bytes t.titles.items ≡ column_titles c answered.query
+abbrev pub sheet_of : Titled → Sheet
+sheet_of t = record { titles = map string_bytes t.titles.items; rows = t.answer }
 
 abbrev pub AnswersTitled : List TableShape → List Columns → Bytes → Result Titled RunFault → Type 0
-AnswersTitled c tables text (Ok t) = IsTitled c tables text t
+AnswersTitled c tables text (Ok t) = AnswersSheet c tables text (Ok (sheet_of t))
 AnswersTitled c tables text (Err f) = AnswersText c tables text (Err f)
 
 -- what a job answers, with its titles
@@ -34,6 +31,5 @@ TitlesJob c j (Err f) = (f ≡ run.Memory) ⊎ ((e : AnswerFault) × Answers j.q
 
 -- what is written of it: a fault is passed on, and no room for the widths of columns is one, with nothing written
 abbrev pub ShowsTitled : Shape → Result Titled RunFault → Result (Unit {0}) RunFault → Bytes → Bytes → ℕ → ℕ → Type 0
-ShowsTitled shape (Err f) r old new failed_old failed_new = (r ≡ Err f) × (new ≡ old) × (failed_new ≡ failed_old)
-ShowsTitled shape (Ok t) r old new failed_old failed_new =
-    ((r ≡ Err run.Memory) × (new ≡ old) × (failed_new ≡ failed_old)) ⊎ WritesText (shown shape (map string_bytes t.titles.items) t.answer) r old new failed_old failed_new
+ShowsTitled shape (Err f) r old new failed_old failed_new = WritesSheet shape (Err f) r old new failed_old failed_new
+ShowsTitled shape (Ok t) r old new failed_old failed_new = WritesSheet shape (Err run.Memory) r old new failed_old failed_new ⊎ WritesSheet shape (Ok (sheet_of t)) r old new failed_old failed_new

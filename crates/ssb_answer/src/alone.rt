@@ -21,7 +21,7 @@ use std::alloc::{AllocError, Global};
 use std::sync::Arc;
 
 // One part of all morsels, worked off in this thread.
-fn group_alone(
+pub(crate) fn group_alone(
     alloc: Global,
     job: &Arc<Job, Global>,
     morsel_size: u32,
@@ -58,11 +58,18 @@ pub fn answer_job(
     }
 }
 
+/// How much is taken at once in one thread. Neither size changes an answer.
+#[derive(Clone, Copy, PartialEq, Eq, Debug)]
+pub struct Sizes {
+    /// How many rows of the fact table, from 1 on.
+    pub morsel_size: u32,
+    /// How many bytes of a source; more where a line is longer.
+    pub piece_size: usize,
+}
+
 /// Answers a query over the tables of a catalog, each of what its source gives, in the catalog's order,
 /// and writes the answer's rows, as [`run_from`](crate::run_from) does. The caller's thread does all
-/// of it, and waits for nobody. It reads each source in pieces of `piece_size` bytes, or more
-/// where a line is longer, and works through the fact table in morsels of `morsel_size` rows. Neither
-/// size changes an answer.
+/// of it, in pieces and morsels of these sizes, and waits for nobody.
 ///
 /// # Errors
 ///
@@ -72,15 +79,14 @@ pub fn run_alone_from<S: Source, W: Sink>(
     catalog: &Catalog,
     sources: &mut [S],
     text: &str,
-    morsel_size: u32,
-    piece_size: usize,
+    sizes: Sizes,
     out: &mut W,
 ) -> Result<(), RunFault>
     requires sources { length sources.old ≡ length catalog.now }
-    requires size { 0 < morsel_size }
+    requires size { 0 < sizes.morsel_size }
     ensures runs { RunsFrom S.given S.failures S.ends S.whole catalog.now text.now sources.old sources.new result (W.taken out.old) (W.taken out.new) }
     ensures sink { LeavesSink result (W.taken out.old) (W.taken out.new) (W.failures out.old) (W.failures out.new) (W.contents out.old) (W.contents out.new) }
 {
-    let database = Database::load_alone(alloc, catalog, sources, piece_size)?;
-    database.answer_alone(alloc, text, morsel_size, out)
+    let database = Database::load_alone(alloc, catalog, sources, sizes.piece_size)?;
+    database.answer_alone(alloc, text, sizes.morsel_size, out)
 }

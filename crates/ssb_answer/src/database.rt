@@ -12,6 +12,7 @@ ghost use Rattle.ssb_reply.specs.Reply.{Asks};
 ghost use Rattle.ssb_reply.specs.Running.{LeavesSink};
 
 use crate::alone::answer_job;
+use crate::context::Context;
 use crate::whole::{answer_shared, query_of, write_answered};
 use ssb_catalog::Catalog;
 use ssb_cells::Table;
@@ -193,16 +194,13 @@ impl<'a> Database<'a> {
     // writes out all that it holds where a scope's end lets go of it.
     fn rows_of<R: Threads + Wait + Sync, G: Gate + Sync>(
         &self,
-        rt: &R,
-        alloc: Global,
+        context: &Context<'_, R, G>,
         text: &str,
-        settings: Settings,
-        gate: &G,
     ) -> Result<Answer, RunFault>
         ensures { AnswersText self.now.catalog self.now.tables text.now result }
     {
-        let job = self.job(alloc, text)?;
-        let answer = answer_shared(rt, alloc, &job, settings, gate);
+        let job = self.job(context.alloc, text)?;
+        let answer = answer_shared(context, &job);
         drop(job);
         Ok(answer?)
     }
@@ -231,17 +229,14 @@ impl<'a> Database<'a> {
     /// what it took is a beginning of the answer; `Memory` where a growth was refused.
     pub fn answer<R: Threads + Wait + Sync, G: Gate + Sync, W: Sink>(
         &self,
-        rt: &R,
-        alloc: Global,
+        context: &Context<'_, R, G>,
         text: &str,
-        settings: Settings,
-        gate: &G,
         out: &mut W,
     ) -> Result<(), RunFault>
         ensures replies { RepliesOver self.now.catalog self.now.tables text.now result (W.taken out.old) (W.taken out.new) (W.failures out.old) (W.failures out.new) }
         ensures sink { LeavesSink result (W.taken out.old) (W.taken out.new) (W.failures out.old) (W.failures out.new) (W.contents out.old) (W.contents out.new) }
     {
-        let answered = self.rows_of(rt, alloc, text, settings, gate);
+        let answered = self.rows_of(context, text);
         write_answered(answered, out)
     }
 

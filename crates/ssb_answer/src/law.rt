@@ -2,7 +2,7 @@
 // files that they were loaded of, and no statement is left out.
 
 ghost use Rattle.ssb_answer.specs.Database.{RepliesOfFiles};
-ghost use Rattle.ssb_answer.specs.Session.{OutcomesAreReplies, SessionsAreWhole};
+ghost use Rattle.ssb_answer.specs.Session.{OutcomesAreReplies, OutcomesAreShown, SessionsAreWhole};
 
 use ssb_records::Source;
 
@@ -15,6 +15,11 @@ pub fn replies_of_files()
 /// own over these files.
 pub fn outcomes_are_replies()
     ensures { OutcomesAreReplies }
+{}
+
+/// A law: in any shape, it is what is shown of those files.
+pub fn outcomes_are_shown()
+    ensures { OutcomesAreShown }
 {}
 
 /// A law: where a session ends with its input, over statements of a source that had given nothing, its

@@ -5,7 +5,8 @@ ghost use Rattle.ssb_load.specs.Files.{Bytes};
 ghost use Rattle.ssb_reply.specs.Reply.{Replies};
 ghost use Rattle.ssb_reply.specs.Running.{LeavesSink};
 
-use crate::alone::run_alone_from;
+use crate::alone::{Sizes, run_alone_from};
+use crate::context::Context;
 use crate::whole::run_from;
 use ssb_catalog::Catalog;
 use ssb_lanes::Joined;
@@ -79,15 +80,11 @@ pub fn run_alone<R: Read + Drop, W: Sink>(
     let Ok(mut sources) = sources_of(alloc, readers) else {
         return Err(RunFault::Memory);
     };
-    run_alone_from(
-        alloc,
-        &catalog,
-        &mut sources,
-        text,
+    let sizes = Sizes {
         morsel_size,
-        PIECE_SIZE,
-        out,
-    )
+        piece_size: PIECE_SIZE,
+    };
+    run_alone_from(alloc, &catalog, &mut sources, text, sizes, out)
 }
 
 /// Answers a query over readers by workers in threads of their own: [`run_from`](crate::run_from) over
@@ -114,5 +111,11 @@ pub fn run<T: Threads + Wait + Sync, R: Read + Drop + Send, G: Gate + Sync, W: S
     let Ok(mut sources) = joined_of(alloc, readers) else {
         return Err(RunFault::Memory);
     };
-    run_from(rt, alloc, &catalog, &mut sources, text, settings, gate, out)
+    let context = Context {
+        rt,
+        alloc,
+        settings,
+        gate,
+    };
+    run_from(&context, &catalog, &mut sources, text, out)
 }

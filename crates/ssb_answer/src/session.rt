@@ -1,21 +1,47 @@
 // A session: the statements of an input, answered one after the other over one database.
 
-ghost use Rattle.std.specs.Prelude.{◌≡◌, ◌⊎◌, ◌∷◌, [], Err, List, ℕ, is_ok};
-ghost use Rattle.ssb_answer.specs.Session.{IsSession, Took, desk, first_fault};
-ghost use Rattle.ssb_answer.specs.SessionStep.{RepliesToStatement, Turned, is_unwritten};
+ghost use Rattle.std.specs.Prelude.{◌≡◌, ◌⊎◌, [], List, ℕ, is_ok};
+ghost use Rattle.ssb_answer.specs.Session.{IsSession, first_of};
+ghost use Rattle.ssb_answer.specs.SessionStep.{ShowsStatement, end_of, fault_of, is_unwritten};
+ghost use Rattle.ssb_answer.specs.Steps.{DoesStep, Took, session_state, sink_state};
 ghost use Rattle.ssb_reply.specs.FaultLine.{line_of, run_words};
 ghost use Rattle.ssb_statements.specs.Telling.{IsTold};
 
+use crate::context::Context;
 use crate::database::Database;
+use crate::show::{Lap, Laps};
 use ssb_pipeline::Gate;
 use ssb_records::Source;
-use ssb_reply::{MEMORY_LINE, RunFault, Settings, run_line};
+use ssb_reply::{MEMORY_LINE, RunFault, run_line};
 use ssb_rows::{AnswerFault, Sink, SinkFault, write_all};
+use ssb_show::Shape;
 use ssb_sql::SqlFault;
 use ssb_statements::{Statement, Statements};
 use std::alloc::Global;
 use std::sync::Wait;
 use std::thread::Threads;
+
+/// How a session shows its answers, and whether it goes on behind a fault.
+#[derive(Clone, Copy, PartialEq, Eq, Debug)]
+pub struct Manner {
+    /// The shape that rows are shown in.
+    pub shape: Shape,
+    /// Whether the first fault ends the session.
+    pub stops: bool,
+}
+
+/// What a step of a session did.
+#[derive(Drop)]
+pub enum Step {
+    /// Nothing: no statement is left, and the input ended.
+    End,
+    /// Nothing: the input could not be read further.
+    Unread,
+    /// It answered the next statement. This is whether the rows were written whole.
+    Answered(Result<(), SinkFault>),
+    /// It told the fault of the next statement. This is whether its line was written whole.
+    Told(RunFault, Result<(), SinkFault>),
+}
 
 /// Why a session ended.
 #[derive(Clone, Copy, PartialEq, Eq, Debug)]
@@ -34,39 +60,44 @@ pub enum SessionEnd {
 
 /// What came of a session.
 #[derive(Drop)]
-pub struct Session {
-    /// The first fault that a statement has, none where none has any but that its rows were not written.
+pub struct SessionOutcome {
+    /// The first fault that was told, where one was.
     pub first: Option<RunFault>,
     /// Why it ended.
     pub end: SessionEnd,
 }
 
-// Writes what a statement asks of the tables.
-fn answer_statement<R: Threads + Wait + Sync, G: Gate + Sync, W: Sink>(
-    rt: &R,
-    alloc: Global,
-    database: &Database<'_>,
-    statement: Statement,
-    text: &[u8],
-    settings: Settings,
-    gate: &G,
-    rows: &mut W,
-) -> Result<(), RunFault>
-    ensures { (s : List ℕ) → IsTold statement text.now s → RepliesToStatement database.now.catalog database.now.tables s result (desk (W.taken rows.old) (W.failures rows.old)) (desk (W.taken rows.new) (W.failures rows.new)) }
-{
-    match statement {
-        Statement::TooLong => Err(RunFault::Sql(SqlFault::TooLong)),
-        Statement::Text => match str::from_utf8(text) {
-            Ok(text) => database.answer(rt, alloc, text, settings, gate, rows),
-            Err(_) => Err(RunFault::Sql(SqlFault::Syntax)),
-        },
+impl Step {
+    // Why a session ends with it, where it does.
+    fn end(&self, stops: bool) -> Option<SessionEnd>
+        ensures { result ≡ end_of stops self.now }
+    {
+        match self {
+            Step::End => Some(SessionEnd::Input),
+            Step::Unread => Some(SessionEnd::Read),
+            Step::Answered(Ok(())) => None,
+            Step::Answered(Err(_)) => Some(SessionEnd::Rows),
+            Step::Told(_, Ok(())) if stops => Some(SessionEnd::Stop),
+            Step::Told(_, Ok(())) => None,
+            Step::Told(_, Err(_)) => Some(SessionEnd::Lines),
+        }
+    }
+
+    // The fault that it told.
+    fn into_fault(self) -> Option<RunFault>
+        ensures { result ≡ fault_of self }
+    {
+        match self {
+            Step::Told(fault, _) => Some(fault),
+            Step::End | Step::Unread | Step::Answered(_) => None,
+        }
     }
 }
 
 // Writes the line of a fault, or of memory, which is the fault then, where there was no room for it.
 fn tell<L: Sink>(alloc: Global, fault: RunFault, lines: &mut L) -> (RunFault, Result<(), SinkFault>)
     ensures fault { (result.0 ≡ fault) ⊎ (result.0 ≡ RunFault.Memory) }
-    ensures told { Took (is_ok result.1) (line_of (run_words [] result.0)) (desk (L.taken lines.old) (L.failures lines.old)) (desk (L.taken lines.new) (L.failures lines.new)) }
+    ensures told { Took (is_ok result.1) (line_of (run_words [] result.0)) (sink_state L.Sink lines.old) (sink_state L.Sink lines.new) }
 {
     match run_line(alloc, "", &fault) {
         Ok(line) => {
@@ -97,90 +128,123 @@ fn is_unwritten(fault: &RunFault) -> bool
     }
 }
 
-// The first of the faults so far and this one.
-fn first_of(first: Option<RunFault>, fault: RunFault) -> Option<RunFault>
-    ensures { result ≡ first_fault first (Err fault ∷ []) }
+// The first of the faults so far and of a step's.
+fn first_of(first: Option<RunFault>, fault: Option<RunFault>) -> Option<RunFault>
+    ensures { result ≡ first_of first fault }
 {
     match first {
         Some(first) => {
             drop(fault);
             Some(first)
         }
-        None => Some(fault),
+        None => fault,
     }
 }
 
-// Answers the next statement, or tells its fault. It gives the first fault so far, and why the session ends
-// with it, if it does.
-fn answer_next<R: Threads + Wait + Sync, S: Source, G: Gate + Sync, W: Sink, L: Sink>(
-    rt: &R,
-    alloc: Global,
-    database: &Database<'_>,
-    statements: &mut Statements<S>,
-    settings: Settings,
-    gate: &G,
-    stops: bool,
-    first: Option<RunFault>,
-    rows: &mut W,
-    lines: &mut L,
-) -> (Option<RunFault>, Option<SessionEnd>)
-    ensures { Turned database.now.catalog database.now.tables stops result.1 statements.old statements.new first result.0 (desk (W.taken rows.old) (W.failures rows.old)) (desk (W.taken rows.new) (W.failures rows.new)) (desk (L.taken lines.old) (L.failures lines.old)) (desk (L.taken lines.new) (L.failures lines.new)) }
-{
-    let statement = match statements.next() {
-        Ok(Some(statement)) => statement,
-        Ok(None) => return (first, Some(SessionEnd::Input)),
-        Err(_) => return (first, Some(SessionEnd::Read)),
-    };
-    let text = statements.text();
-    let answered = answer_statement(rt, alloc, database, statement, text, settings, gate, rows);
-    let Err(fault) = answered else {
-        return (first, None);
-    };
-    if is_unwritten(&fault) {
-        drop(fault);
-        return (first, Some(SessionEnd::Rows));
-    }
-    let (fault, told) = tell(alloc, fault, lines);
-    let first = first_of(first, fault);
-    match told {
-        Err(_) => (first, Some(SessionEnd::Lines)),
-        Ok(()) if stops => (first, Some(SessionEnd::Stop)),
-        Ok(()) => (first, None),
-    }
+/// The statements of an input, answered over a database one after the other.
+#[derive(Drop)]
+pub struct Session<'a, 'd, R, G> {
+    context: Context<'a, R, G>,
+    database: &'a Database<'d>,
+    manner: Manner,
 }
 
-/// Answers the statements of an input over a database, one after the other: writes the rows of each to the
-/// one sink, and the line of each fault to the other, before it reads the next. With `stops` the first
-/// fault ends it; a write that fails ends it always.
-///
-/// Bytes that are no UTF-8 are no query, and a statement of more than 65,536 bytes is passed over; both are
-/// told as a run tells them. Memory that was refused is the fault of that statement alone.
-pub fn answer_each<R: Threads + Wait + Sync, S: Source, G: Gate + Sync, W: Sink, L: Sink>(
-    rt: &R,
-    alloc: Global,
-    database: &Database<'_>,
-    statements: &mut Statements<S>,
-    settings: Settings,
-    gate: &G,
-    stops: bool,
-    rows: &mut W,
-    lines: &mut L,
-) -> Session
-    ensures { IsSession database.now.catalog database.now.tables stops result statements.old statements.new (desk (W.taken rows.old) (W.failures rows.old)) (desk (W.taken rows.new) (W.failures rows.new)) (desk (L.taken lines.old) (L.failures lines.old)) (desk (L.taken lines.new) (L.failures lines.new)) }
-{
-    let mut first = None;
-    // No input has as many statements.
-    for _turn in 0..u64::MAX {
-        let (now, end) = answer_next(
-            rt, alloc, database, statements, settings, gate, stops, first, rows, lines,
-        );
-        first = now;
-        if let Some(end) = end {
-            return Session { first, end };
+impl<'a, 'd, R, G> Session<'a, 'd, R, G> {
+    /// A session over a database.
+    pub fn new(
+        context: Context<'a, R, G>,
+        database: &'a Database<'d>,
+        manner: Manner,
+    ) -> Session<'a, 'd, R, G>
+        ensures database { result.database.now ≡ database.now }
+        ensures manner { result.manner ≡ manner }
+    {
+        Session {
+            context,
+            database,
+            manner,
         }
     }
-    Session {
-        first,
-        end: SessionEnd::Read,
+}
+
+impl<R: Threads + Wait + Sync, G: Gate + Sync> Session<'_, '_, R, G> {
+    // Shows what a statement asks of the tables.
+    fn show<W: Sink, T: Laps>(
+        &self,
+        statement: Statement,
+        text: &[u8],
+        laps: &mut T,
+        rows: &mut W,
+    ) -> Result<(), RunFault>
+        ensures { (s : List ℕ) → IsTold statement text.now s → ShowsStatement self.now.database.now self.now.manner.shape s result (sink_state W.Sink rows.old) (sink_state W.Sink rows.new) }
+    {
+        match statement {
+            Statement::TooLong => Err(RunFault::Sql(SqlFault::TooLong)),
+            Statement::Text => match str::from_utf8(text) {
+                Ok(text) => {
+                    let shape = self.manner.shape;
+                    self.database.show(&self.context, text, shape, laps, rows)
+                }
+                Err(_) => Err(RunFault::Sql(SqlFault::Syntax)),
+            },
+        }
+    }
+
+    /// Answers the next statement of an input: writes its rows to the one sink, in the session's shape, or the
+    /// line of its fault to the other. It tells of each lap that the statement reached.
+    ///
+    /// Bytes that are no UTF-8 are no query, and a statement of more than 65,536 bytes is passed over; both are
+    /// told as a run tells them. Memory that was refused is the fault of that statement alone.
+    pub fn step<S: Source, W: Sink, L: Sink, T: Laps>(
+        &self,
+        statements: &mut Statements<S>,
+        rows: &mut W,
+        lines: &mut L,
+        laps: &mut T,
+    ) -> Step
+        ensures { DoesStep S.Source self.now.database.now self.now.manner.shape (session_state statements.old (sink_state W.Sink rows.old) (sink_state L.Sink lines.old)) (session_state statements.new (sink_state W.Sink rows.new) (sink_state L.Sink lines.new)) result }
+    {
+        let statement = match statements.next() {
+            Ok(Some(statement)) => statement,
+            Ok(None) => return Step::End,
+            Err(_) => return Step::Unread,
+        };
+        laps.reached(Lap::Begun);
+        let Err(fault) = self.show(statement, statements.text(), laps, rows) else {
+            return Step::Answered(Ok(()));
+        };
+        if is_unwritten(&fault) {
+            drop(fault);
+            return Step::Answered(Err(SinkFault));
+        }
+        let (fault, told) = tell(self.context.alloc, fault, lines);
+        Step::Told(fault, told)
+    }
+
+    /// Answers the statements of an input, one [`step`](Self::step) after the other: each is answered before
+    /// the next is read. Where the session stops, the first fault ends it; a write that fails ends it always.
+    pub fn answer_each<S: Source, W: Sink, L: Sink, T: Laps>(
+        &self,
+        statements: &mut Statements<S>,
+        rows: &mut W,
+        lines: &mut L,
+        laps: &mut T,
+    ) -> SessionOutcome
+        ensures { IsSession S.Source self.now.database.now self.now.manner result (session_state statements.old (sink_state W.Sink rows.old) (sink_state L.Sink lines.old)) (session_state statements.new (sink_state W.Sink rows.new) (sink_state L.Sink lines.new)) }
+    {
+        let mut first = None;
+        // No input has as many statements.
+        for _step in 0..u64::MAX {
+            let step = self.step(statements, rows, lines, laps);
+            let end = step.end(self.manner.stops);
+            first = first_of(first, step.into_fault());
+            if let Some(end) = end {
+                return SessionOutcome { first, end };
+            }
+        }
+        SessionOutcome {
+            first,
+            end: SessionEnd::Read,
+        }
     }
 }

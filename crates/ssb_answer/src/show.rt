@@ -3,17 +3,18 @@
 ghost use Rattle.std.specs.Prelude.{◌≡◌, map, string_bytes};
 ghost use Rattle.std.specs.Arc.{arc_value};
 ghost use Rattle.ssb_answer.specs.Asking.{Asked};
-ghost use Rattle.ssb_answer.specs.Showing.{PlainShowsReplies, ShowsOver};
+ghost use Rattle.ssb_answer.specs.Showing.{PlainShowsReplies, ShowsOfFiles, ShowsOver};
 ghost use Rattle.ssb_answer.specs.ShownStep.{AnswersTitled, ShowsTitled, TitlesJob};
 ghost use Rattle.ssb_reply.specs.Running.{LeavesSink};
 ghost use Rattle.ssb_rows.specs.Taking.{GrewAlike};
 
+use crate::context::Context;
 use crate::database::Database;
 use crate::whole::answer_shared;
 use ssb_catalog::Catalog;
 use ssb_job::Job;
 use ssb_pipeline::Gate;
-use ssb_reply::{RunFault, Settings};
+use ssb_reply::RunFault;
 use ssb_rows::{Answer, Sink};
 use ssb_show::{Shape, titles, write_shown};
 use std::alloc::Global;
@@ -22,7 +23,9 @@ use std::thread::Threads;
 
 /// How far a text has come.
 #[derive(Clone, Copy, PartialEq, Eq, Debug)]
-pub enum Step {
+pub enum Lap {
+    /// It is at hand, and has not been read.
+    Begun,
     /// Its query was read and bound.
     Read,
     /// Its rows were worked out.
@@ -31,10 +34,11 @@ pub enum Step {
     Written,
 }
 
-/// What is told of each step that was reached, so that a program can time it. The call returns.
+/// What is told of each lap that a text has reached, so that a program can time it. The call returns, and
+/// what it does changes no answer.
 pub trait Laps {
-    /// A step was reached.
-    fn reached(&mut self, step: Step);
+    /// A lap was reached.
+    fn reached(&mut self, lap: Lap);
 }
 
 /// Laps that nobody counts.
@@ -42,12 +46,12 @@ pub trait Laps {
 pub struct NoLaps;
 
 impl Laps for NoLaps {
-    fn reached(&mut self, _step: Step) {}
+    fn reached(&mut self, _lap: Lap) {}
 }
 
-fn tell_if<T: Laps>(laps: &mut T, is_done: bool, step: Step) {
+fn tell_if<T: Laps>(laps: &mut T, is_done: bool, lap: Lap) {
     if is_done {
-        laps.reached(step);
+        laps.reached(lap);
     }
 }
 
@@ -60,19 +64,16 @@ pub struct Titled {
 
 // What a job's query answers, worked out by workers, with its titles.
 fn answer_titled<R: Threads + Wait + Sync, G: Gate + Sync>(
-    rt: &R,
-    alloc: Global,
+    context: &Context<'_, R, G>,
     catalog: &Catalog,
     job: &Arc<Job, Global>,
-    settings: Settings,
-    gate: &G,
 ) -> Result<Titled, RunFault>
     ensures { TitlesJob catalog.now (arc_value job.now) result }
 {
-    let Ok(titles) = titles(alloc, catalog, job.query()) else {
+    let Ok(titles) = titles(context.alloc, catalog, job.query()) else {
         return Err(RunFault::Memory);
     };
-    let answer = answer_shared(rt, alloc, job, settings, gate)?;
+    let answer = answer_shared(context, job)?;
     Ok(Titled { titles, answer })
 }
 
@@ -95,25 +96,22 @@ impl Database<'_> {
     // What a text asks of the tables, worked out by workers, with the titles of its query.
     fn titled_answer<R: Threads + Wait + Sync, G: Gate + Sync, T: Laps>(
         &self,
-        rt: &R,
-        alloc: Global,
+        context: &Context<'_, R, G>,
         text: &str,
-        settings: Settings,
-        gate: &G,
         laps: &mut T,
     ) -> Result<Titled, RunFault>
         ensures { AnswersTitled self.now.catalog self.now.tables text.now result }
     {
-        let job = self.job(alloc, text)?;
-        laps.reached(Step::Read);
-        let answered = answer_titled(rt, alloc, self.catalog(), &job, settings, gate);
+        let job = self.job(context.alloc, text)?;
+        laps.reached(Lap::Read);
+        let answered = answer_titled(context, self.catalog(), &job);
         drop(job);
-        tell_if(laps, answered.is_ok(), Step::Answered);
+        tell_if(laps, answered.is_ok(), Lap::Answered);
         answered
     }
 
     /// [`answer`](Self::answer), with the rows in a shape and under the titles of the query's select columns.
-    /// It tells of each step that it reached: once the query was read, once its rows were worked out, and
+    /// It tells of each lap that it reached: once the query was read, once its rows were worked out, and
     /// once they were written.
     ///
     /// # Errors
@@ -122,11 +120,8 @@ impl Database<'_> {
     /// a beginning of what is shown.
     pub fn show<R: Threads + Wait + Sync, G: Gate + Sync, T: Laps, W: Sink>(
         &self,
-        rt: &R,
-        alloc: Global,
+        context: &Context<'_, R, G>,
         text: &str,
-        settings: Settings,
-        gate: &G,
         shape: Shape,
         laps: &mut T,
         out: &mut W,
@@ -134,9 +129,9 @@ impl Database<'_> {
         ensures shows { ShowsOver self.now.catalog self.now.tables shape text.now result (W.taken out.old) (W.taken out.new) (W.failures out.old) (W.failures out.new) }
         ensures sink { LeavesSink result (W.taken out.old) (W.taken out.new) (W.failures out.old) (W.failures out.new) (W.contents out.old) (W.contents out.new) }
     {
-        let titled = self.titled_answer(rt, alloc, text, settings, gate, laps);
-        let written = write_titled(alloc, shape, titled, out);
-        tell_if(laps, written.is_ok(), Step::Written);
+        let titled = self.titled_answer(context, text, laps);
+        let written = write_titled(context.alloc, shape, titled, out);
+        tell_if(laps, written.is_ok(), Lap::Written);
         written
     }
 }
@@ -144,4 +139,9 @@ impl Database<'_> {
 /// A law: the plain shape shows just what is replied.
 pub fn plain_shows_replies()
     ensures { PlainShowsReplies }
+{}
+
+/// A law: what is shown over the tables that were loaded of files is what is shown of those files.
+pub fn shows_of_files()
+    ensures { ShowsOfFiles }
 {}

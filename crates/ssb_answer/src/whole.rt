@@ -11,6 +11,7 @@ ghost use Rattle.ssb_reply.specs.Running.{LeavesSink, RunsFrom};
 ghost use Rattle.ssb_rows.specs.Result.{Answers};
 ghost use Rattle.ssb_rows.specs.Taking.{GrewAlike};
 
+use crate::context::Context;
 use crate::database::Database;
 use crate::grouping::group_shared;
 use ssb_bind::bind;
@@ -21,7 +22,7 @@ use ssb_lanes::Joined;
 use ssb_pipeline::Gate;
 use ssb_query::Query;
 use ssb_records::Source;
-use ssb_reply::{RunFault, Settings};
+use ssb_reply::RunFault;
 use ssb_rows::{Answer, AnswerFault, Sink, rows, write_answer};
 use ssb_sql::read;
 use std::alloc::Global;
@@ -62,16 +63,13 @@ pub fn answer_of_groups(alloc: Global, job: &Job, groups: Groups) -> Result<Answ
 ///
 /// As of [`rows`]; `Memory` also where a growth was refused on the way to the groups.
 pub fn answer_shared<R: Threads + Wait + Sync, G: Gate + Sync>(
-    rt: &R,
-    alloc: Global,
+    context: &Context<'_, R, G>,
     job: &Arc<Job, Global>,
-    settings: Settings,
-    gate: &G,
 ) -> Result<Answer, AnswerFault>
     ensures { Answers (arc_value job.now).query (seen_rows (arc_value job.now)) result }
 {
-    match group_shared(rt, alloc, job, settings, gate) {
-        Ok(groups) => answer_of_groups(alloc, job, groups),
+    match group_shared(context, job) {
+        Ok(groups) => answer_of_groups(context.alloc, job, groups),
         Err(_) => Err(AnswerFault::Memory),
     }
 }
@@ -110,19 +108,17 @@ pub fn write_answered<W: Sink>(
 /// the sink failed, and then what it took is a beginning of the answer; `Memory` where a growth was
 /// refused.
 pub fn run_from<R: Threads + Wait + Sync, S: Source + Send + Drop, G: Gate + Sync, W: Sink>(
-    rt: &R,
-    alloc: Global,
+    context: &Context<'_, R, G>,
     catalog: &Catalog,
     sources: &mut [Joined<S>],
     text: &str,
-    settings: Settings,
-    gate: &G,
     out: &mut W,
 ) -> Result<(), RunFault>
     requires sources { length sources.old ≡ length catalog.now }
     ensures runs { let source = ⟦<Joined<S> as Source>⟧ in RunsFrom source.given source.failures source.ends source.whole catalog.now text.now sources.old sources.new result (W.taken out.old) (W.taken out.new) }
     ensures sink { LeavesSink result (W.taken out.old) (W.taken out.new) (W.failures out.old) (W.failures out.new) (W.contents out.old) (W.contents out.new) }
 {
+    let (rt, alloc, settings) = (context.rt, context.alloc, context.settings);
     let database = Database::load(rt, alloc, catalog, sources, settings)?;
-    database.answer(rt, alloc, text, settings, gate, out)
+    database.answer(context, text, out)
 }

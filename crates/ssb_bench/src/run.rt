@@ -1,7 +1,7 @@
 // A query's own time: the answer of its job, whose tables are loaded and whose indexes are built once.
 
 use crate::job::{job_in, micros_since};
-use ssb_answer::{Answer, AnswerFault, NoGate, Settings, answer_job, answer_shared};
+use ssb_answer::{Answer, AnswerFault, Context, NoGate, Settings, answer_job, answer_shared};
 use ssb_job::Job;
 use std::alloc::Global;
 use std::rt::{Clock, Files};
@@ -25,7 +25,15 @@ fn answer_by<R: Threads + Wait + Sync + AllocGlobal>(
 ) -> Result<Answer, AnswerFault> {
     match by {
         By::Alone(settings) => answer_job(rt.alloc(), job, settings.morsel_size),
-        By::Workers(settings) => answer_shared(rt, rt.alloc(), job, settings, &NoGate),
+        By::Workers(settings) => {
+            let context = Context {
+                rt,
+                alloc: rt.alloc(),
+                settings,
+                gate: &NoGate,
+            };
+            answer_shared(&context, job)
+        }
     }
 }
 

@@ -160,7 +160,7 @@ fn reload<R: Files<File = File> + Eprint + AllocGlobal + Threads + Wait + Clock 
     rt: &R,
     desk: &mut Desk<'_>,
 ) -> bool {
-    match load(rt, desk.folder, desk.catalog, desk.manner.is_watched) {
+    match load(rt, desk.folder, desk.catalog, desk.options.is_watched) {
         Ok(database) => {
             desk.database = database;
             true

@@ -3,9 +3,9 @@
 ghost use Rattle.ssb_files.specs.Faults.{IsStatus};
 
 use crate::folder::Folder;
-use crate::shell::Manner;
+use crate::shell::ShellOptions;
 use crate::tell::tell;
-use ssb_answer::{Database, Shape};
+use ssb_answer::{Database, Shape, StatementBuffer};
 use ssb_files::{ProgramFault, program_status_of};
 use ssb_load::Catalog;
 use std::fs::File;
@@ -19,7 +19,9 @@ pub(crate) struct Desk<'a> {
     pub(crate) is_timed: bool,
     // The file that rows go to, none for the standard output.
     pub(crate) output: Option<File>,
-    pub(crate) manner: Manner,
+    // The room for reading statements, from the first stretch on; none while a stretch is answered.
+    pub(crate) buffer: Option<StatementBuffer>,
+    pub(crate) options: ShellOptions,
     // The first fault.
     first: Option<ProgramFault>,
 }
@@ -33,11 +35,13 @@ impl<'a> Drop for Desk<'a> {
             shape: _,
             is_timed: _,
             output,
-            manner: _,
+            buffer,
+            options: _,
             first,
         } = self;
         drop(database);
         drop(output);
+        drop(buffer);
         drop(first);
     }
 }
@@ -48,7 +52,7 @@ impl<'a> Desk<'a> {
         folder: Folder<'a>,
         catalog: &'a Catalog,
         database: Database<'a>,
-        manner: Manner,
+        options: ShellOptions,
     ) -> Desk<'a> {
         Desk {
             folder,
@@ -57,7 +61,8 @@ impl<'a> Desk<'a> {
             shape: Shape::plain(),
             is_timed: false,
             output: None,
-            manner,
+            buffer: None,
+            options,
             first: None,
         }
     }
@@ -90,7 +95,7 @@ impl<'a> Desk<'a> {
             drop(fault);
             self.note(ProgramFault::Memory);
         }
-        !self.manner.stops
+        !self.options.stops
     }
 
     /// Tells that a line is no command, by its first word, and says whether the shell goes on.

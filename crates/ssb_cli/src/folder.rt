@@ -2,7 +2,7 @@
 
 ghost use Rattle.std.specs.Prelude.{◌≡◌, IfOk, length, vec_len};
 
-use ssb_answer::{Joined, RunFault, Settings};
+use ssb_answer::{Context, Joined, NoGate, RunFault, Settings};
 use ssb_files::{Counted, ProgramFault, Section, counted_all, names_of, open_all};
 use ssb_load::Catalog;
 use std::alloc::Global;
@@ -18,6 +18,18 @@ pub(crate) struct Folder<'a> {
     // The catalog's file, none for the built-in catalog.
     pub(crate) catalog: Option<&'a str>,
     pub(crate) settings: Settings,
+}
+
+impl Folder<'_> {
+    // What answers over its tables are worked out with.
+    pub(crate) fn context<'r, R: AllocGlobal>(&self, rt: &'r R) -> Context<'r, R, NoGate> {
+        Context {
+            rt,
+            alloc: rt.alloc(),
+            settings: self.settings,
+            gate: &NoGate,
+        }
+    }
 }
 
 // The files of a folder's tables as sources, in the catalog's order, with the count of the bytes that they

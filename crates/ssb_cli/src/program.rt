@@ -7,7 +7,7 @@ ghost use Rattle.ssb_files.specs.Faults.{IsStatus};
 
 use crate::folder::Folder;
 use crate::run::{Showing, run};
-use crate::shell::{Manner, shell};
+use crate::shell::{ShellOptions, shell};
 use crate::tell::{tell, write_fault};
 use ssb_answer::{Settings, query_of};
 use ssb_files::{ProgramFault, catalog_of, read_query};
@@ -139,12 +139,12 @@ fn act_on_task<
             done(run(rt, folder_of(tables)?, query, showing))
         }
         Task::Shell { tables, stop } => {
-            let manner = Manner {
+            let options = ShellOptions {
                 stops: stop,
                 is_typed: terminals.input && terminals.errors,
                 is_watched: terminals.errors,
             };
-            shell(rt, errors, folder_of(tables)?, manner)
+            shell(rt, errors, folder_of(tables)?, options)
         }
         Task::Check { query, catalog } => done(check(rt, query, catalog)),
     }

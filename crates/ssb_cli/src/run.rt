@@ -1,14 +1,17 @@
 // `ssb run`: one answer over the tables of a folder.
 
-ghost use Rattle.std.specs.Prelude.{◌≡◌, length};
+ghost use Rattle.std.specs.Prelude.{◌≡◌, [], IfOk, List, Ok, length, map, ℕ};
+ghost use Rattle.std.specs.Io.Buffered.{writer_buffer, writer_contents, writer_inner};
+ghost use Rattle.std.specs.Io.KnownBytes.{Appends, Keeps};
+ghost use Rattle.ssb_answer.specs.Files.{given_each};
+ghost use Rattle.ssb_answer.specs.Reply.{Replies};
 
 use crate::folder::{Folder, fault_over, sources_of};
 use crate::loading::load;
 use crate::tell::tell_time;
 use crate::timing::Stopwatch;
 use ssb_answer::{
-    AnswerFault, Database, Joined, Laps, Mode, NoGate, Out, RunFault, Settings, Shape, Step,
-    run_from,
+    AnswerFault, Context, Database, Joined, Lap, Laps, Mode, NoGate, Out, RunFault, Shape, run_from,
 };
 use ssb_files::{Counted, ProgramFault, Section, catalog_of, read_query};
 use ssb_load::{Catalog, Source};
@@ -47,30 +50,36 @@ fn text_of<R: Files + AllocGlobal>(rt: &R, query: QuerySource<'_>) -> Result<Str
     }
 }
 
-fn flush<W: Write + Drop>(writer: W) -> Result<(), RunFault> {
+// Flushes a buffer: the writer below then holds what both held.
+fn flush<W: Write + Drop>(writer: BufWriter<W>) -> Result<BufWriter<W>, RunFault>
+    ensures empty { IfOk result (λ w. writer_buffer w ≡ []) }
+    ensures bytes { IfOk result (λ w. Keeps (writer_contents W.contents writer) (W.contents (writer_inner w))) }
+{
     let mut writer = writer;
     match writer.flush() {
-        Ok(()) => Ok(()),
-        Err(_) => Err(RunFault::Answer(AnswerFault::Write)),
+        Ok(()) => Ok(writer),
+        Err(_) => {
+            drop(writer);
+            Err(RunFault::Answer(AnswerFault::Write))
+        }
     }
 }
 
-// Writes the answer to a buffer, and flushes it after it is complete.
+// Writes the answer to a buffer, and flushes it after it is complete: then the writer below it has the rows that
+// are the reply, behind what it and its buffer held, where it tells what it holds.
 fn write_answer<R: AllocGlobal + Threads + Wait + Sync, S: Source + Send + Drop, W: Write + Drop>(
-    rt: &R,
+    context: &Context<'_, R, NoGate>,
     catalog: &Catalog,
     sources: &mut [Joined<S>],
     text: &str,
-    settings: Settings,
-    writer: W,
-) -> Result<(), RunFault>
-    requires { length sources.old ≡ length catalog.now }
+    writer: BufWriter<W>,
+) -> Result<BufWriter<W>, RunFault>
+    requires sources { length sources.old ≡ length catalog.now }
+    ensures empty { IfOk result (λ w. writer_buffer w ≡ []) }
+    ensures holds { IfOk result (λ w. let given = ⟦<Joined<S> as Source>⟧.given in (rows : List ℕ) × Replies catalog.now (given_each (map given sources.old) (map given sources.new)) text.now (Ok tt) [] rows × Appends (writer_contents W.contents writer) (W.contents (writer_inner w)) rows) }
 {
-    let alloc = rt.alloc();
     let mut out = Out::new(writer);
-    let answered = run_from(
-        rt, alloc, catalog, sources, text, settings, &NoGate, &mut out,
-    );
+    let answered = run_from(context, catalog, sources, text, &mut out);
     let writer = out.into_writer();
     match answered {
         Ok(()) => flush(writer),
@@ -84,17 +93,19 @@ fn write_answer<R: AllocGlobal + Threads + Wait + Sync, S: Source + Send + Drop,
 // Prints the answer through one buffer.
 fn print_answer<R: Files<File = File> + Print + AllocGlobal + Threads + Wait + Sync>(
     rt: &R,
+    folder: Folder<'_>,
     catalog: &Catalog,
     sources: &mut [Joined<Counted<'_, Section<File>>>],
     text: &str,
-    settings: Settings,
 ) -> Result<(), RunFault>
     requires { length sources.old ≡ length catalog.now }
 {
-    match BufWriter::new(rt.alloc(), io::writer(rt)) {
-        Ok(writer) => write_answer(rt, catalog, sources, text, settings, writer),
-        Err(_) => Err(RunFault::Memory),
-    }
+    let Ok(writer) = BufWriter::new(rt.alloc(), io::writer(rt)) else {
+        return Err(RunFault::Memory);
+    };
+    let writer = write_answer(&folder.context(rt), catalog, sources, text, writer)?;
+    drop(writer);
+    Ok(())
 }
 
 // Answers a text over the tables of a folder.
@@ -106,7 +117,7 @@ fn answer<R: Files<File = File> + Print + AllocGlobal + Threads + Wait + Sync>(
 ) -> Result<(), ProgramFault> {
     let count = AtomicU64::new(0);
     let mut sources = sources_of(rt, folder, catalog, &count)?;
-    let printed = print_answer(rt, catalog, &mut sources, text, folder.settings);
+    let printed = print_answer(rt, folder, catalog, &mut sources, text);
     drop(sources);
     match printed {
         Ok(()) => Ok(()),
@@ -116,42 +127,36 @@ fn answer<R: Files<File = File> + Print + AllocGlobal + Threads + Wait + Sync>(
 
 // Writes the answer over loaded tables to a buffer in a shape, and flushes it after it is complete.
 fn write_shown<R: AllocGlobal + Threads + Wait + Clock + Sync, W: Write + Drop>(
-    rt: &R,
+    context: &Context<'_, R, NoGate>,
     database: &Database<'_>,
     text: &str,
-    settings: Settings,
     shape: Shape,
     watch: &mut Stopwatch<'_, R>,
-    writer: W,
+    writer: BufWriter<W>,
 ) -> Result<(), RunFault> {
-    let alloc = rt.alloc();
     let mut out = Out::new(writer);
-    let shown = database.show(rt, alloc, text, settings, &NoGate, shape, watch, &mut out);
+    let shown = database.show(context, text, shape, watch, &mut out);
     let writer = out.into_writer();
-    match shown {
-        Ok(()) => {
-            let flushed = flush(writer);
-            watch.reached(Step::Written);
-            flushed
-        }
-        Err(fault) => {
-            drop(writer);
-            Err(fault)
-        }
+    if let Err(fault) = shown {
+        drop(writer);
+        return Err(fault);
     }
+    let writer = flush(writer)?;
+    drop(writer);
+    watch.reached(Lap::Written);
+    Ok(())
 }
 
 // Prints the answer over loaded tables through one buffer, in a shape.
 fn print_shown<R: Print + AllocGlobal + Threads + Wait + Clock + Sync>(
-    rt: &R,
+    context: &Context<'_, R, NoGate>,
     database: &Database<'_>,
     text: &str,
-    settings: Settings,
     shape: Shape,
     watch: &mut Stopwatch<'_, R>,
 ) -> Result<(), RunFault> {
-    match BufWriter::new(rt.alloc(), io::writer(rt)) {
-        Ok(writer) => write_shown(rt, database, text, settings, shape, watch, writer),
+    match BufWriter::new(context.alloc, io::writer(context.rt)) {
+        Ok(writer) => write_shown(context, database, text, shape, watch, writer),
         Err(_) => Err(RunFault::Memory),
     }
 }
@@ -172,7 +177,8 @@ fn answer_shown<
         mode: Mode::Bars,
         headers: showing.headers,
     };
-    let printed = print_shown(rt, &database, text, folder.settings, shape, &mut watch);
+    let context = folder.context(rt);
+    let printed = print_shown(&context, &database, text, shape, &mut watch);
     drop(database);
     match printed {
         Ok(()) => {

@@ -25,7 +25,7 @@ const INPUT_NAME: &str = "-";
 
 // How a shell is with its outputs.
 #[derive(Clone, Copy)]
-pub(crate) struct Manner {
+pub(crate) struct ShellOptions {
     // Whether the first fault ends it.
     pub(crate) stops: bool,
     // Whether people type its input and read its error output.
@@ -181,17 +181,17 @@ fn shell_over<
     errors: E,
     folder: Folder<'_>,
     catalog: &Catalog,
-    manner: Manner,
+    options: ShellOptions,
 ) -> Result<u8, ProgramFault>
     ensures { IfOk result IsStatus }
 {
     let begun = Instant::now(rt).ok();
-    let database = load(rt, folder, catalog, manner.is_watched)?;
-    let mut desk = Desk::new(folder, catalog, database, manner);
-    if manner.is_typed {
+    let database = load(rt, folder, catalog, options.is_watched)?;
+    let mut desk = Desk::new(folder, catalog, database, options);
+    if options.is_typed {
         greet(rt, &desk, begun);
     }
-    let conversed = converse(rt, errors, &mut desk, manner.is_typed);
+    let conversed = converse(rt, errors, &mut desk, options.is_typed);
     let status = desk.status();
     drop(desk);
     match conversed {
@@ -205,11 +205,11 @@ fn shell_over<
 pub(crate) fn shell<
     R: Files<File = File> + Input + Print + Eprint + AllocGlobal + Threads + Wait + Clock + Sync,
     E: Write + Drop,
->(rt: &R, errors: E, folder: Folder<'_>, manner: Manner) -> Result<u8, ProgramFault>
+>(rt: &R, errors: E, folder: Folder<'_>, options: ShellOptions) -> Result<u8, ProgramFault>
     ensures { IfOk result IsStatus }
 {
     let catalog = catalog_of(rt, folder.catalog)?;
-    let status = shell_over(rt, errors, folder, &catalog, manner);
+    let status = shell_over(rt, errors, folder, &catalog, options);
     drop(catalog);
     status
 }

@@ -1,11 +1,11 @@
 // The statements of a stretch of a shell's input.
 
 use crate::desk::Desk;
-use crate::tell::{tell_time, write_fault};
-use crate::timing::Stopwatch;
+use crate::tell::write_fault;
+use crate::timing::Timer;
 use ssb_answer::{
-    AnswerFault, NoGate, Out, Prompts, RunFault, Script, Session, SessionEnd, Source, SqlFault,
-    Statement, Statements, answer_each,
+    AnswerFault, Lap, Laps, Manner, Out, Prompts, RunFault, Script, Session, SessionEnd,
+    SessionOutcome, Source, StatementBuffer, Statements,
 };
 use ssb_files::ProgramFault;
 use std::alloc::Global;
@@ -16,7 +16,7 @@ use std::rt::Clock;
 use std::sync::Wait;
 use std::thread::Threads;
 
-// A statement's fault as one of the program.
+// A text's fault as one of the program.
 fn program_fault(alloc: Global, fault: RunFault) -> ProgramFault {
     ProgramFault::Run {
         names: Vec::new(alloc),
@@ -25,13 +25,13 @@ fn program_fault(alloc: Global, fault: RunFault) -> ProgramFault {
 }
 
 // Takes note of how a session ended, and says whether the shell goes on.
-fn take_session<R: Eprint + AllocGlobal>(
+fn take_outcome<R: Eprint + AllocGlobal>(
     rt: &R,
     desk: &mut Desk<'_>,
-    session: Session,
+    outcome: SessionOutcome,
     name: &str,
 ) -> bool {
-    let Session { first, end } = session;
+    let SessionOutcome { first, end } = outcome;
     if let Some(fault) = first {
         desk.note(program_fault(rt.alloc(), fault));
     }
@@ -49,33 +49,22 @@ fn take_session<R: Eprint + AllocGlobal>(
     }
 }
 
-/// Shows what a text asks, in the shape that is set, with the time that it took where that is asked. It says
-/// whether the shell goes on.
+/// Shows what a query of the benchmark asks, in the shape that is set, with the time that it took where that is
+/// asked. It says whether the shell goes on.
 pub(crate) fn show_text<R: Eprint + AllocGlobal + Threads + Wait + Clock + Sync, W: Write + Drop>(
     rt: &R,
     desk: &mut Desk<'_>,
     text: &str,
     rows: &mut Out<W>,
 ) -> bool {
-    let mut watch = Stopwatch::start(rt);
-    let settings = desk.folder.settings;
-    let shown = desk.database.show(
-        rt,
-        rt.alloc(),
-        text,
-        settings,
-        &NoGate,
-        desk.shape,
-        &mut watch,
-        rows,
-    );
-    match shown {
-        Ok(()) => {
-            if desk.is_timed {
-                tell_time(rt, &watch);
-            }
-            true
-        }
+    let context = desk.folder.context(rt);
+    let mut timer = Timer::new(rt, desk.is_timed);
+    timer.reached(Lap::Begun);
+    match desk
+        .database
+        .show(&context, text, desk.shape, &mut timer, rows)
+    {
+        Ok(()) => true,
         Err(RunFault::Answer(AnswerFault::Write)) => {
             let _ = desk.tell(rt, write_fault(rt.alloc()));
             false
@@ -84,54 +73,7 @@ pub(crate) fn show_text<R: Eprint + AllocGlobal + Threads + Wait + Clock + Sync,
     }
 }
 
-// Shows what a statement asks, and says whether the shell goes on.
-fn show_statement<R: Eprint + AllocGlobal + Threads + Wait + Clock + Sync, W: Write + Drop>(
-    rt: &R,
-    desk: &mut Desk<'_>,
-    statement: Statement,
-    text: &[u8],
-    rows: &mut Out<W>,
-) -> bool {
-    let fault = match statement {
-        Statement::TooLong => SqlFault::TooLong,
-        Statement::Text => match str::from_utf8(text) {
-            Ok(text) => return show_text(rt, desk, text, rows),
-            Err(_) => SqlFault::Syntax,
-        },
-    };
-    desk.tell(rt, program_fault(rt.alloc(), RunFault::Sql(fault)))
-}
-
-// Shows what each statement asks, and says whether the shell goes on.
-fn show_each<
-    R: Eprint + AllocGlobal + Threads + Wait + Clock + Sync,
-    S: Source + Drop,
-    W: Write + Drop,
->(
-    rt: &R,
-    desk: &mut Desk<'_>,
-    statements: &mut Statements<S>,
-    name: &str,
-    rows: &mut Out<W>,
-) -> bool {
-    for _ in 0..u64::MAX {
-        match statements.next() {
-            Ok(Some(statement)) => {
-                if !show_statement(rt, desk, statement, statements.text(), rows) {
-                    return false;
-                }
-            }
-            Ok(None) => return true,
-            Err(_) => {
-                desk.tell_unread(rt, name);
-                return false;
-            }
-        }
-    }
-    true
-}
-
-// Answers the statements to these rows, and says whether the shell goes on. Plain rows are a session's.
+// Answers the statements to these rows, and says whether the shell goes on.
 fn answer_to<
     R: Eprint + AllocGlobal + Threads + Wait + Clock + Sync,
     S: Source + Drop,
@@ -145,21 +87,15 @@ fn answer_to<
     rows: &mut Out<W>,
     lines: &mut Out<E>,
 ) -> bool {
-    if desk.is_timed || !desk.shape.is_plain() {
-        return show_each(rt, desk, statements, name, rows);
-    }
-    let session = answer_each(
-        rt,
-        rt.alloc(),
-        &desk.database,
-        statements,
-        desk.folder.settings,
-        &NoGate,
-        desk.manner.stops,
-        rows,
-        lines,
-    );
-    take_session(rt, desk, session, name)
+    let manner = Manner {
+        shape: desk.shape,
+        stops: desk.options.stops,
+    };
+    let mut timer = Timer::new(rt, desk.is_timed);
+    let context = desk.folder.context(rt);
+    let session = Session::new(context, &desk.database, manner);
+    let outcome = session.answer_each(statements, rows, lines, &mut timer);
+    take_outcome(rt, desk, outcome, name)
 }
 
 /// Answers the statements of a script up to its next command, gives the script back, and says whether the
@@ -177,7 +113,11 @@ pub(crate) fn answer_stretch<
     name: &str,
     lines: &mut Out<E>,
 ) -> Result<(Script<S, P>, bool), ProgramFault> {
-    let mut statements = Statements::new(rt.alloc(), script)?;
+    let buffer = match desk.buffer.take() {
+        Some(buffer) => buffer,
+        None => StatementBuffer::new(rt.alloc())?,
+    };
+    let mut statements = Statements::with_buffer(buffer, script);
     let goes_on = match desk.output.take() {
         Some(file) => {
             let mut rows: Out<File> = Out::new(file);
@@ -192,5 +132,7 @@ pub(crate) fn answer_stretch<
             goes_on
         }
     };
-    Ok((statements.into_source(), goes_on))
+    let (script, buffer) = statements.into_parts();
+    desk.buffer = Some(buffer);
+    Ok((script, goes_on))
 }

@@ -1,11 +1,12 @@
-// How long the steps of an answer take.
+// How long an answer takes.
 
-use ssb_answer::{Laps, Step};
+use crate::tell::tell_time;
+use ssb_answer::{Lap, Laps};
 use std::alloc::{AllocError, Global};
 use std::rt::Clock;
 use std::time::Instant;
 
-/// Counts the microseconds between the steps of an answer. Time that a clock does not tell counts as none.
+/// Counts the microseconds between the laps of an answer. Time that a clock does not tell counts as none.
 #[derive(Drop)]
 pub(crate) struct Stopwatch<'a, R> {
     rt: &'a R,
@@ -50,12 +51,50 @@ impl<'a, R: Clock> Stopwatch<'a, R> {
 }
 
 impl<R: Clock> Laps for Stopwatch<'_, R> {
-    fn reached(&mut self, step: Step) {
+    fn reached(&mut self, lap: Lap) {
         let spent = self.lap();
-        match step {
-            Step::Read => self.read = self.read.saturating_add(spent),
-            Step::Answered => self.answer = self.answer.saturating_add(spent),
-            Step::Written => self.write = self.write.saturating_add(spent),
+        match lap {
+            Lap::Begun => {
+                self.read = 0;
+                self.answer = 0;
+                self.write = 0;
+            }
+            Lap::Read => self.read = self.read.saturating_add(spent),
+            Lap::Answered => self.answer = self.answer.saturating_add(spent),
+            Lap::Written => self.write = self.write.saturating_add(spent),
+        }
+    }
+}
+
+/// Tells how long each answer of a shell took, once it is written, where that is asked.
+#[derive(Drop)]
+pub(crate) struct Timer<'a, R> {
+    rt: &'a R,
+    watch: Option<Stopwatch<'a, R>>,
+}
+
+impl<'a, R: Clock> Timer<'a, R> {
+    /// One that tells times, or none.
+    pub(crate) fn new(rt: &'a R, is_timed: bool) -> Timer<'a, R> {
+        Timer {
+            rt,
+            watch: if is_timed {
+                Some(Stopwatch::start(rt))
+            } else {
+                None
+            },
+        }
+    }
+}
+
+impl<R: Eprint + AllocGlobal + Clock> Laps for Timer<'_, R> {
+    fn reached(&mut self, lap: Lap) {
+        let Some(watch) = &mut self.watch else {
+            return;
+        };
+        watch.reached(lap);
+        if let Lap::Written = lap {
+            tell_time(self.rt, watch);
         }
     }
 }

@@ -3,8 +3,8 @@
 use crate::ends::{Done, Stop};
 use crate::files::{CATALOG, DATES, FACTS, REVENUE, SUPPLIERS, readers, sources};
 use ssb_answer::{
-    Database, Joined, Out, SessionEnd, Settings, Statements, answer_each, run, run_alone,
-    run_alone_from, run_from,
+    Context, Database, Joined, Manner, NoLaps, Out, Session, SessionEnd, Settings, Shape, Sizes,
+    Statements, run, run_alone, run_alone_from, run_from,
 };
 use ssb_load::{Catalog, In, PIECE_SIZE};
 use ssb_pipeline::NoGate;
@@ -43,15 +43,11 @@ pub(crate) fn run_in_pieces<W: Write + Drop>(alloc: Global, writer: W) -> Result
         return Err(Stop::Wrong);
     }
     let mut out = Out::new(writer);
-    run_alone_from(
-        alloc,
-        &catalog,
-        &mut sources,
-        REVENUE,
-        MORSEL_SIZE,
-        SMALL_PIECE,
-        &mut out,
-    )?;
+    let sizes = Sizes {
+        morsel_size: MORSEL_SIZE,
+        piece_size: SMALL_PIECE,
+    };
+    run_alone_from(alloc, &catalog, &mut sources, REVENUE, sizes, &mut out)?;
     Ok(Done::Written)
 }
 
@@ -59,6 +55,16 @@ pub(crate) fn run_in_pieces<W: Write + Drop>(alloc: Global, writer: W) -> Result
 fn settings() -> Result<Settings, Stop> {
     let settings = Settings::new(2, MORSEL_SIZE, 2).ok_or(Stop::Wrong)?;
     settings.with_batch(2).ok_or(Stop::Wrong)
+}
+
+// What they work with.
+fn context<R>(rt: &R, alloc: Global) -> Result<Context<'_, R, NoGate>, Stop> {
+    Ok(Context {
+        rt,
+        alloc,
+        settings: settings()?,
+        gate: &NoGate,
+    })
 }
 
 /// A run by workers in threads.
@@ -96,22 +102,13 @@ fn run_joined<R: Threads + Wait + Sync, F: Read + Drop + Send, W: Write + Drop>(
     writer: W,
 ) -> Result<Done, Stop> {
     let mut sources = sources;
-    let settings = settings()?;
+    let context = context(rt, alloc)?;
     let catalog = Catalog::read(alloc, CATALOG)?;
     if sources.len() != catalog.tables().len() {
         return Err(Stop::Wrong);
     }
     let mut out = Out::new(writer);
-    run_from(
-        rt,
-        alloc,
-        &catalog,
-        &mut sources,
-        REVENUE,
-        settings,
-        &NoGate,
-        &mut out,
-    )?;
+    run_from(&context, &catalog, &mut sources, REVENUE, &mut out)?;
     Ok(Done::Written)
 }
 
@@ -134,7 +131,7 @@ pub(crate) fn run_session<R: Print + Threads + Wait + Sync>(
     rt: &R,
     alloc: Global,
 ) -> Result<Done, Stop> {
-    let settings = settings()?;
+    let context = context(rt, alloc)?;
     let catalog = Catalog::read(alloc, CATALOG)?;
     let mut sources = sources(alloc)?;
     if sources.len() != catalog.tables().len() {
@@ -144,18 +141,13 @@ pub(crate) fn run_session<R: Print + Threads + Wait + Sync>(
     let mut statements = Statements::new(alloc, In::new(SESSION))?;
     let mut rows = Out::new(io::writer(rt));
     let mut lines = Out::new(io::writer(rt));
-    let session = answer_each(
-        rt,
-        alloc,
-        &database,
-        &mut statements,
-        settings,
-        &NoGate,
-        false,
-        &mut rows,
-        &mut lines,
-    );
-    match session.end {
+    let manner = Manner {
+        shape: Shape::plain(),
+        stops: false,
+    };
+    let session = Session::new(context, &database, manner);
+    let outcome = session.answer_each(&mut statements, &mut rows, &mut lines, &mut NoLaps);
+    match outcome.end {
         SessionEnd::Input => Ok(Done::Written),
         _ => Err(Stop::Wrong),
     }

@@ -3,4 +3,3 @@ pub mod Giving
 pub mod Looking
 pub mod Standing
 pub mod Steps
-pub mod Told

@@ -18,9 +18,6 @@ pub none-begun : (b : Bool) (xs : List ℕ) → b ≡ has_any xs → b ≡ false
 none-begun b [] e z = refl
 none-begun b (x ∷ xs) e z = cc
 
-pub none-within : (b : Bool) (byte : ℕ) (xs : List ℕ) → b ≡ has_any xs → b ≡ false → xs ≡ within xs byte
-none-within b byte xs e z = let none : xs ≡ [] = none-begun b xs e z in rw none refl
-
 pub some-within : (b : Bool) (byte : ℕ) (xs : List ℕ) → b ≡ has_any xs → b ≡ true → within xs byte ≡ xs ++ byte ∷ []
 some-within b byte [] e z = cc
 some-within b byte (x ∷ xs) e z = refl
@@ -50,9 +47,6 @@ kept-more limit n b text xs len count kept = elim (cases_lt (length xs) limit) [
     set-past [] i a le = refl
     set-past (x ∷ l) zero a le = absurd (omega arith)
     set-past (x ∷ l) (suc i) a le = ap (λ t. x ∷ t) (set-past l i a (omega arith))
-
-pub kept-whole : (limit n : ℕ) (text xs : List ℕ) → n ≡ min (length xs) (limit + 1) → n ≤ limit → take n text ≡ take limit xs → take n text ≡ xs
-kept-whole limit n text xs e le kept = kept ∙ take_all limit xs (omega arith)
 
 -- ---- one byte more
 

@@ -1,4 +1,5 @@
 -- Some bytes, or none.
+-- For the contracts inside this crate.
 use Rattle.std.specs.Prelude.{ℕ, Bool, true, false, List, [], ◌∷◌}
 
 -- whether there are any bytes

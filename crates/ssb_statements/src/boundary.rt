@@ -30,7 +30,8 @@ pub(crate) struct Taken {
     pub(crate) ends: bool,
 }
 
-/// What is known of the statement at hand, of which bytes come one by one. It keeps none of them.
+/// What is known of the statement at hand, of which bytes come one by one. It keeps none of them. What takes a
+/// byte is inlined, since it is called for each.
 #[derive(Drop)]
 pub(crate) struct Boundary {
     place: Place,
@@ -41,6 +42,7 @@ pub(crate) struct Boundary {
     ghost begun: { has_begun ≡ has_any so_far.items },
 }
 
+#[inline(always)]
 fn is_blank(byte: u8) -> bool
     ensures { result ≡ is_blank byte }
 {
@@ -48,6 +50,7 @@ fn is_blank(byte: u8) -> bool
 }
 
 // A byte with which no statement ends: whether it belongs to the one at hand.
+#[inline(always)]
 fn going_on(byte: bool) -> Taken
     ensures { result ≡ record { dash = false; byte = byte; ends = false } }
 {
@@ -100,6 +103,7 @@ impl Boundary {
     }
 
     // One byte more of the statement.
+    #[inline(always)]
     fn put(&mut self, byte: u8)
         ensures so_far { self.new.so_far.items ≡ self.old.so_far.items ++ byte ∷ [] }
         ensures place { self.new.place ≡ self.old.place }
@@ -109,6 +113,7 @@ impl Boundary {
     }
 
     // One byte more, which belongs to the statement where that has begun: whether it does.
+    #[inline(always)]
     fn put_within(&mut self, byte: u8) -> bool
         ensures so_far { self.new.so_far.items ≡ within self.old.so_far.items byte }
         ensures bytes { self.new.so_far.items ≡ self.old.so_far.items ++ if_so result byte }
@@ -140,6 +145,7 @@ impl Boundary {
     }
 
     // One byte more outside text literals and comments.
+    #[inline(always)]
     fn take_plain(&mut self, byte: u8) -> Taken
         requires { self.old.place ≡ Place.Plain }
         ensures dash { result.dash ≡ false }
@@ -196,6 +202,7 @@ impl Boundary {
     }
 
     // One byte more in a text literal.
+    #[inline(always)]
     fn take_in_literal(&mut self, byte: u8) -> Taken
         requires { self.old.place ≡ Place.Literal }
         ensures bytes { self.new.so_far.items ≡ self.old.so_far.items ++ taken_bytes result byte }
@@ -209,6 +216,7 @@ impl Boundary {
     }
 
     // One byte more in a comment.
+    #[inline(always)]
     fn take_in_comment(&mut self, byte: u8) -> Taken
         requires { self.old.place ≡ Place.Comment }
         ensures bytes { self.new.so_far.items ≡ self.old.so_far.items ++ taken_bytes result byte }
@@ -222,6 +230,7 @@ impl Boundary {
     }
 
     /// Takes one byte, and says what is to be done with it.
+    #[inline(always)]
     pub(crate) fn take(&mut self, byte: u8) -> Taken
         ensures bytes { self.new.so_far.items ≡ self.old.so_far.items ++ taken_bytes result byte }
         ensures cut { IsTaken result.ends self.old byte self.new }

@@ -2,9 +2,8 @@
 //! which lines that are commands stand between statements.
 //!
 //! - Offers: [`Statements`], which reads nothing where it has the next statement to its end; [`Statement`],
-//!   what it tells of one; [`STATEMENT_SIZE`], how long one may be; [`StatementBuffer`], the room that this
-//!   takes, which serves one reader after another; [`Script`], a source that ends before each command, with
-//!   [`Next`] and [`Prompts`].
+//!   what it tells of one, [`STATEMENT_SIZE`] bytes at most; [`StatementBuffer`], which serves one reader after
+//!   another; [`Script`], a source that ends before each command, with [`Next`] and [`Prompts`].
 //! - Callers: `ssb_answer`, which answers the statements of a source; the program, which obeys commands.
 //! - Apart: bytes are cut here before any of them is read as a token.
 //! - Files: `statements`, `input`, `buffer`; `cutter`, which takes bytes one by one, over `boundary` and `prefix`;

@@ -153,6 +153,7 @@ impl<S: Source, P: Prompts> Script<S, P> {
     pub fn stretches_are_whole(&self)
         ensures { 0 < ⟦<Script<S, P> as Source>⟧.ends self.now → EndsBefore (stretch self.now) (waiting self.now) (has_met_end self.now) }
     {
+        // Where a part is named, the proof has what holds of all parts.
         let _ended = &self.ended;
     }
 

@@ -1,5 +1,5 @@
-use Rattle.ssb_answer.proofs.SessionFacts.{outcome-replied}
+use Rattle.ssb_answer.proofs.StatementFacts.{outcome-replied}
 use Rattle.ssb_answer.proofs.law.outcomes_are_replies.Goals as goal
 
 pub returns : goal.returns
-returns start c files tables s r old loads text answers = outcome-replied c files tables s r old loads text answers
+returns start d files s r old loads text answers = outcome-replied d files s r old loads text answers

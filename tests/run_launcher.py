@@ -1,5 +1,6 @@
 #!/usr/bin/env python3
-"""Tries `ssb` and `build` in a small repository, where a stand-in for `rt` makes the program and proves nothing.
+"""Tries `ssb`, `build` and `unproved` in a small repository, where a stand-in for `rt` makes the program and proves
+nothing, or runs it before its proofs.
 
 Usage: run_launcher.py
 
@@ -44,6 +45,10 @@ printf '%s\\n' {name} "$PWD" "$@"
 STAND_IN = """\
 #!/bin/bash
 signs=$(dirname "$0")/../signs
+if [ "$1" = try ]; then
+    . "$signs/try"
+    exit
+fi
 echo "$*" >>"$signs/runs"
 { cat crates.txt; find crates -type f | sort; } >"$signs/copied"
 stat -c %a .. . "$TMPDIR" >"$signs/modes"
@@ -63,6 +68,24 @@ echo "rt: ssb_cli proved"
 cat "$signs/program" >crates/ssb_cli/out/ssb_cli
 echo "3 passed, 0 failed"
 """
+
+
+# What the stand-in does for `rt try`: it prints its words, where it runs, the input and a line of error, and behind
+# these what `rt` tells.
+TRY = """\
+shift 2
+echo $$ >"$signs/pid.new" && mv "$signs/pid.new" "$signs/pid"
+while [ -e "$signs/hold" ]; do sleep 0.02; done
+printf '%s\\n' "$@"
+echo "${{PWD##*/}} $RT_SECONDS"
+cat
+echo "ssb: a line" >&2
+printf '%s\\n' "checked: ended status={status}" "races: not looked for" "run={end}" >&2
+exit {status}
+"""
+
+# The line before an answer that comes from the program before its proofs.
+UNPROVED = "ssb: this answer comes from the program before its proofs\n"
 
 
 class Wrong(Exception):
@@ -151,7 +174,7 @@ class Place:
                 file = self.crates / name / part
                 file.parent.mkdir(parents=True, exist_ok=True)
                 file.write_text(f"{name} {part}\n", encoding="utf-8")
-        for name in ("ssb", "build"):
+        for name in ("ssb", "build", "unproved"):
             shutil.copy(ROOT / name, self.repository)
         (self.repository / "crates.txt").write_text(CRATES, encoding="utf-8")
         (self.repository / "HANDLES").write_text("Handles allowed: none.\n", encoding="utf-8")
@@ -173,14 +196,23 @@ class Place:
         """Makes a file or folder of the repository newer than the program."""
         os.utime(self.repository / name, (3000, 3000))
 
-    def start(self, *words, command=None):
+    def put_try(self, status, end):
+        """Says with which status the program before its proofs ends, and what `rt` tells of it."""
+        (self.signs / "try").write_text(TRY.format(status=status, end=end), encoding="utf-8")
+
+    def state(self):
+        """Each file of the repository, its time and its bytes."""
+        files = (path for path in self.repository.rglob("*") if path.is_file())
+        return {path: (path.stat().st_mtime_ns, path.read_bytes()) for path in files}
+
+    def start(self, *words, command=None, given=subprocess.DEVNULL):
         """Starts `ssb`, or another command, in the caller's folder, as a shell starts one at a terminal."""
         words = [command or self.repository / "ssb", *words]
         output, error = (self.signs / f"{kind}_{len(self.started)}" for kind in ("output", "error"))
         environment = {**os.environ, "PATH": f"{self.stand_in.parent}:{os.environ['PATH']}", "TMPDIR": str(self.rooms)}
         with open(output, "wb") as to, open(error, "wb") as told:
             process = subprocess.Popen(
-                words, cwd=self.caller, env=environment, stdin=subprocess.DEVNULL, stdout=to, stderr=told,
+                words, cwd=self.caller, env=environment, stdin=given, stdout=to, stderr=told,
                 start_new_session=True,
             )
         self.started.append(process)
@@ -266,6 +298,8 @@ def newer_source_builds(place):
     want((ended.status, ended.output), (0, f"new\n{place.caller}\nword\n"), "the start")
     counts = [line for line in ended.error.splitlines() if " of 3" in line]
     counted = [f"build: {name} proved, {count} of 3" for count, name in enumerate(NAMES[:3], 1)]
+    # Of the first, which is kept, no time is known, and behind the last none is left.
+    counted[1] += "; about 1 min left"
     want(counts, counted, "progress")
     want("a first build proves 3 crates" in ended.error, True, "how long it takes is told")
     lines = ["ssb_low:", "ssb_middle: ssb_low thiserror", "ssb_cli may_wait=1: ssb_middle csv "]
@@ -409,6 +443,77 @@ def write_beyond_the_limit_is_an_error(place):
     want((ended.status, ended.error), (4, "refused\n"), "the start")
 
 
+def program_before_its_proofs_answers(place):
+    """With whole paths, its status and its outputs, where no program is and the tree can't be written to."""
+    place.program.unlink()
+    place.put_try(3, "ended status=3 runners=1")
+    folder = place.caller.parent
+    words = ["--data", "../tables", "--query=a b.sql", "--catalog", "/c", "--name", "../x", ""]
+    before = place.state()
+    modes = {path: path.stat().st_mode for path in [place.repository, *place.repository.rglob("*")]}
+    for path, mode in modes.items():
+        path.chmod(mode & ~0o222)
+    ended = place.start("--unproved", "run", *words).end()
+    for path, mode in modes.items():
+        path.chmod(mode)
+    wanted = ["run", "--data", f"{folder}/tables", f"--query={place.caller}/a b.sql", "--catalog", "/c", "--name", "../x", ""]
+    want(ended.output, "".join(f"{line}\n" for line in (*wanted, "ssb_cli 3600")), "its output")
+    want((ended.status, ended.error), (3, UNPROVED + "ssb: a line\n"), "its status, and its error output")
+    want(place.state() == before, True, "the tree is as it was")
+    want(list(place.rooms.iterdir()), [], "temporary folders")
+    want(place.is_needed(), True, "a build is still needed")
+
+
+def session_before_its_proofs_reads_its_input(place):
+    """Of a file; another task reads nothing."""
+    place.put_try(0, "ended status=0")
+    text = place.caller / "text"
+    text.write_text("select 1;\n", encoding="utf-8")
+    for task, wanted in (("shell", "select 1;\n"), ("check", "")):
+        with open(text, "rb") as given:
+            ended = place.start("--unproved", task, given=given).end()
+        want(ended, Ended(0, f"{task}\nssb_cli 3600\n{wanted}", UNPROVED + "ssb: a line\n"), task)
+
+
+def session_on_a_terminal_needs_a_build(place):
+    """It is told, with the status 70, and nothing runs."""
+    place.put_try(0, "ended status=0")
+    owner, terminal = os.openpty()
+    ended = place.start("--unproved", "shell", given=terminal).end()
+    os.close(terminal)
+    os.close(owner)
+    line = "ssb: a session on a terminal needs a build: ./ssb without --unproved begins one\n"
+    want(ended, Ended(70, "", line), "the start")
+
+
+def program_that_does_not_run_is_told(place):
+    """With the status 70, behind what `rt` tells."""
+    place.put_try(1, "none proved=no")
+    ended = place.start("--unproved", "check").end()
+    want(ended.status, 70, "the status")
+    want(ended.error, UNPROVED + "ssb: a line\nssb: the program before its proofs can't be run\n", "the error output")
+
+
+def interrupt_of_an_answer_before_the_proofs_ends_all(place):
+    """And a signal that reaches the start alone does."""
+    place.put_try(0, "ended status=0")
+    place.start_and_hold("--unproved", "check").interrupt()
+    place.want_ended()
+    (place.signs / "pid").unlink()
+    started = place.start_and_hold("--unproved", "check")
+    os.kill(started.process.pid, signal.SIGTERM)
+    want(started.end().status, -signal.SIGTERM, "the start")
+    place.want_ended()
+    place.want_old()
+
+
+def missing_program_tells_of_the_way_without(place):
+    """Beside how long a build takes."""
+    place.program.unlink()
+    ended = place.start().end()
+    want("./ssb --unproved WORDS.. answers within two minutes" in ended.error, True, "the way without a build")
+
+
 TESTS = [
     fresh_program_is_started,
     program_is_called_ssb_and_ends_the_start,
@@ -425,6 +530,12 @@ TESTS = [
     end_of_the_start_ends_all,
     interrupt_of_a_waiting_build_leaves_the_other,
     write_beyond_the_limit_is_an_error,
+    program_before_its_proofs_answers,
+    session_before_its_proofs_reads_its_input,
+    session_on_a_terminal_needs_a_build,
+    program_that_does_not_run_is_told,
+    interrupt_of_an_answer_before_the_proofs_ends_all,
+    missing_program_tells_of_the_way_without,
 ]
 
 

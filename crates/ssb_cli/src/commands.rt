@@ -1,6 +1,7 @@
 // The commands of a shell.
 
 use crate::desk::Desk;
+use crate::host::Host;
 use crate::loading::load;
 use crate::statements::show_text;
 use crate::tell::write_fault;
@@ -12,9 +13,7 @@ use std::alloc::{AllocError, Global};
 use std::fs::File;
 use std::io;
 use std::io::Write;
-use std::rt::{Clock, Files};
-use std::sync::Wait;
-use std::thread::Threads;
+use std::rt::Files;
 
 // What each command does.
 const HELP: &str = "\
@@ -115,11 +114,7 @@ fn show_schema<R: Print + Eprint + AllocGlobal>(rt: &R, desk: &mut Desk<'_>, nam
 }
 
 // Answers a query of the benchmark.
-fn run_named<R: Print + Eprint + AllocGlobal + Threads + Wait + Clock + Sync>(
-    rt: &R,
-    desk: &mut Desk<'_>,
-    text: &str,
-) -> bool {
+fn run_named<R: Host>(rt: &R, desk: &mut Desk<'_>, text: &str) -> bool {
     match desk.output.take() {
         Some(file) => {
             let mut rows: Out<File> = Out::new(file);
@@ -156,10 +151,7 @@ fn turn_output<R: Files<File = File> + Eprint + AllocGlobal>(
 }
 
 // Loads the tables anew; those at hand stay where that fails.
-fn reload<R: Files<File = File> + Eprint + AllocGlobal + Threads + Wait + Clock + Sync>(
-    rt: &R,
-    desk: &mut Desk<'_>,
-) -> bool {
+fn reload<R: Host>(rt: &R, desk: &mut Desk<'_>) -> bool {
     match load(rt, desk.folder, desk.catalog, desk.options.is_watched) {
         Ok(database) => {
             desk.database = database;
@@ -175,11 +167,7 @@ fn unless(goes_on: bool) -> Option<Stop> {
 }
 
 // Does what a command asks.
-fn act<R: Files<File = File> + Print + Eprint + AllocGlobal + Threads + Wait + Clock + Sync>(
-    rt: &R,
-    desk: &mut Desk<'_>,
-    command: Command<'_>,
-) -> Option<Stop> {
+fn act<R: Host>(rt: &R, desk: &mut Desk<'_>, command: Command<'_>) -> Option<Stop> {
     match command {
         Command::Tables => {
             let text = tables_text(rt.alloc(), desk.catalog, &desk.database);
@@ -212,9 +200,7 @@ fn act<R: Files<File = File> + Print + Eprint + AllocGlobal + Threads + Wait + C
 
 /// Does what a line that is a command asks, or tells that it is none. It gives why the script is left, if it
 /// is.
-pub(crate) fn obey<
-    R: Files<File = File> + Print + Eprint + AllocGlobal + Threads + Wait + Clock + Sync,
->(rt: &R, desk: &mut Desk<'_>, line: &[u8]) -> Option<Stop> {
+pub(crate) fn obey<R: Host>(rt: &R, desk: &mut Desk<'_>, line: &[u8]) -> Option<Stop> {
     let Ok(line) = str::from_utf8(line) else {
         return unless(desk.tell_bad(rt, ""));
     };

@@ -4,11 +4,12 @@ ghost use Rattle.std.specs.Prelude.{◌≡◌, length};
 ghost use Rattle.std.specs.Thread.{IsSync};
 
 use crate::folder::{Folder, fault_over, sources_of};
+use crate::host::Host;
 use ssb_answer::{Database, Joined, RunFault, Settings};
 use ssb_files::{Counted, ProgramFault, Section, size_of_files};
 use ssb_load::{Catalog, FileFault};
 use std::fs::File;
-use std::rt::{Clock, Files};
+use std::rt::Clock;
 use std::sync::Wait;
 use std::sync::atomic::{AtomicBool, AtomicU64, Ordering};
 use std::thread;
@@ -103,7 +104,7 @@ impl Loads for Joined<Counted<'_, Section<File>>> {
 
 // Loads tables in a thread beside this one, which shows how far it is. Where no thread can be made, the load
 // comes first, and there is nothing to show.
-fn load_shown<'a, J: Loads + Send, R: Eprint + AllocGlobal + Threads + Wait + Clock + Sync>(
+fn load_shown<'a, J: Loads + Send, R: Host>(
     rt: &R,
     loading: &Loading<'a, '_>,
     sources: &mut [J],
@@ -118,7 +119,7 @@ fn load_shown<'a, J: Loads + Send, R: Eprint + AllocGlobal + Threads + Wait + Cl
 }
 
 // Loads tables, and shows how far it is where people watch.
-fn load_counted<'a, R: Files<File = File> + Eprint + AllocGlobal + Threads + Wait + Clock + Sync>(
+fn load_counted<'a, R: Host>(
     rt: &R,
     folder: Folder<'_>,
     catalog: &'a Catalog,
@@ -146,10 +147,7 @@ fn load_counted<'a, R: Files<File = File> + Eprint + AllocGlobal + Threads + Wai
 }
 
 /// The tables of a folder. Where people watch, a load of more than half a second shows how far it is.
-pub(crate) fn load<
-    'a,
-    R: Files<File = File> + Eprint + AllocGlobal + Threads + Wait + Clock + Sync,
->(
+pub(crate) fn load<'a, R: Host>(
     rt: &R,
     folder: Folder<'_>,
     catalog: &'a Catalog,

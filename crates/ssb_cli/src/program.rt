@@ -6,6 +6,7 @@ ghost use Rattle.std.specs.Prelude.{IfOk};
 ghost use Rattle.ssb_files.specs.Faults.{IsStatus};
 
 use crate::folder::Folder;
+use crate::host::Host;
 use crate::run::{Showing, run};
 use crate::shell::{ShellOptions, shell};
 use crate::tell::{tell, write_fault};
@@ -16,9 +17,7 @@ use ssb_words::{Tables, Task, WordsFault, task_of};
 use std::alloc::AllocError;
 use std::fs::File;
 use std::io::Write;
-use std::rt::{Clock, Env, Files};
-use std::sync::Wait;
-use std::thread::Threads;
+use std::rt::{Env, Files};
 use std::{env, io};
 
 /// Which of the program's streams are terminals.
@@ -118,10 +117,12 @@ fn folder_of<'a>(tables: Tables<'a>) -> Result<Folder<'a>, ProgramFault> {
     }
 }
 
-fn act_on_task<
-    R: Files<File = File> + Input + Print + Eprint + AllocGlobal + Threads + Wait + Clock + Sync,
-    E: Write + Drop,
->(rt: &R, errors: E, terminals: Terminals, task: Task<'_>) -> Result<u8, ProgramFault>
+fn act_on_task<R: Host, E: Write + Drop>(
+    rt: &R,
+    errors: E,
+    terminals: Terminals,
+    task: Task<'_>,
+) -> Result<u8, ProgramFault>
     ensures { IfOk result IsStatus }
 {
     match task {
@@ -160,10 +161,12 @@ fn act_on_fault<R: Print + AllocGlobal>(rt: &R, fault: WordsFault) -> Result<(),
 }
 
 // Does what these words ask.
-fn act_on<
-    R: Files<File = File> + Input + Print + Eprint + AllocGlobal + Threads + Wait + Clock + Sync,
-    E: Write + Drop,
->(rt: &R, errors: E, terminals: Terminals, given: &[String]) -> Result<u8, ProgramFault>
+fn act_on<R: Host, E: Write + Drop>(
+    rt: &R,
+    errors: E,
+    terminals: Terminals,
+    given: &[String],
+) -> Result<u8, ProgramFault>
     ensures { IfOk result IsStatus }
 {
     match task_of(rt.alloc(), given) {
@@ -172,19 +175,11 @@ fn act_on<
     }
 }
 
-fn act<
-    R: Files<File = File>
-        + Input
-        + Print
-        + Eprint
-        + Env
-        + AllocGlobal
-        + Threads
-        + Wait
-        + Clock
-        + Sync,
-    E: Write + Drop,
->(rt: &R, errors: E, terminals: Terminals) -> Result<u8, ProgramFault>
+fn act<R: Host, E: Write + Drop>(
+    rt: &R,
+    errors: E,
+    terminals: Terminals,
+) -> Result<u8, ProgramFault>
     ensures { IfOk result IsStatus }
 {
     let given = words(rt)?;
@@ -195,19 +190,11 @@ fn act<
 
 /// Does what the words of the command line ask, and gives the exit status. The writer is the error output,
 /// for what a session tells.
-pub(crate) fn status_of_program<
-    R: Files<File = File>
-        + Input
-        + Print
-        + Eprint
-        + Env
-        + AllocGlobal
-        + Threads
-        + Wait
-        + Clock
-        + Sync,
-    E: Write + Drop,
->(rt: &R, errors: E, terminals: Terminals) -> u8
+pub(crate) fn status_of_program<R: Host, E: Write + Drop>(
+    rt: &R,
+    errors: E,
+    terminals: Terminals,
+) -> u8
     ensures { IsStatus result }
 {
     match act(rt, errors, terminals) {

@@ -7,6 +7,7 @@ ghost use Rattle.ssb_answer.specs.Files.{given_each};
 ghost use Rattle.ssb_answer.specs.Reply.{Replies};
 
 use crate::folder::{Folder, fault_over, sources_of};
+use crate::host::Host;
 use crate::loading::load;
 use crate::tell::tell_time;
 use crate::timing::Stopwatch;
@@ -19,7 +20,7 @@ use ssb_words::QuerySource;
 use std::fs::File;
 use std::io;
 use std::io::{BufWriter, Write};
-use std::rt::{Clock, Files};
+use std::rt::Files;
 use std::sync::Wait;
 use std::sync::atomic::AtomicU64;
 use std::thread::Threads;
@@ -91,7 +92,7 @@ fn write_answer<R: AllocGlobal + Threads + Wait + Sync, S: Source + Send + Drop,
 }
 
 // Prints the answer through one buffer.
-fn print_answer<R: Files<File = File> + Print + AllocGlobal + Threads + Wait + Sync>(
+fn print_answer<R: Host>(
     rt: &R,
     folder: Folder<'_>,
     catalog: &Catalog,
@@ -109,7 +110,7 @@ fn print_answer<R: Files<File = File> + Print + AllocGlobal + Threads + Wait + S
 }
 
 // Answers a text over the tables of a folder.
-fn answer<R: Files<File = File> + Print + AllocGlobal + Threads + Wait + Sync>(
+fn answer<R: Host>(
     rt: &R,
     folder: Folder<'_>,
     catalog: &Catalog,
@@ -126,7 +127,7 @@ fn answer<R: Files<File = File> + Print + AllocGlobal + Threads + Wait + Sync>(
 }
 
 // Writes the answer over loaded tables to a buffer in a shape, and flushes it after it is complete.
-fn write_shown<R: AllocGlobal + Threads + Wait + Clock + Sync, W: Write + Drop>(
+fn write_shown<R: Host, W: Write + Drop>(
     context: &Context<'_, R, NoGate>,
     database: &Database<'_>,
     text: &str,
@@ -148,7 +149,7 @@ fn write_shown<R: AllocGlobal + Threads + Wait + Clock + Sync, W: Write + Drop>(
 }
 
 // Prints the answer over loaded tables through one buffer, in a shape.
-fn print_shown<R: Print + AllocGlobal + Threads + Wait + Clock + Sync>(
+fn print_shown<R: Host>(
     context: &Context<'_, R, NoGate>,
     database: &Database<'_>,
     text: &str,
@@ -162,9 +163,7 @@ fn print_shown<R: Print + AllocGlobal + Threads + Wait + Clock + Sync>(
 }
 
 // Answers a text over the tables of a folder, with what people see beside the rows.
-fn answer_shown<
-    R: Files<File = File> + Print + Eprint + AllocGlobal + Threads + Wait + Clock + Sync,
->(
+fn answer_shown<R: Host>(
     rt: &R,
     folder: Folder<'_>,
     catalog: &Catalog,
@@ -192,7 +191,7 @@ fn answer_shown<
 }
 
 // Answers a query over the tables of a folder.
-fn run_over<R: Files<File = File> + Print + Eprint + AllocGlobal + Threads + Wait + Clock + Sync>(
+fn run_over<R: Host>(
     rt: &R,
     folder: Folder<'_>,
     catalog: &Catalog,
@@ -210,9 +209,7 @@ fn run_over<R: Files<File = File> + Print + Eprint + AllocGlobal + Threads + Wai
 }
 
 /// Answers a query over the tables of a folder, and prints its rows.
-pub(crate) fn run<
-    R: Files<File = File> + Print + Eprint + AllocGlobal + Threads + Wait + Clock + Sync,
->(
+pub(crate) fn run<R: Host>(
     rt: &R,
     folder: Folder<'_>,
     query: QuerySource<'_>,

@@ -7,6 +7,7 @@ ghost use Rattle.ssb_files.specs.Faults.{IsStatus};
 use crate::commands::{Stop, obey};
 use crate::desk::Desk;
 use crate::folder::Folder;
+use crate::host::Host;
 use crate::loading::load;
 use crate::statements::answer_stretch;
 use crate::timing::micros_since;
@@ -15,9 +16,7 @@ use ssb_files::{ProgramFault, catalog_of, open};
 use ssb_load::Catalog;
 use std::fs::File;
 use std::io::Write;
-use std::rt::{Clock, Files};
-use std::sync::Wait;
-use std::thread::Threads;
+use std::rt::Clock;
 use std::time::Instant;
 
 // The name of the standard input where it can't be read.
@@ -51,12 +50,7 @@ impl<R: Eprint> Prompts for Asking<'_, R> {
 
 // Goes through a script up to its end, or up to a command that another part of the shell has to see to. It
 // gives the script back.
-fn go_on<
-    R: Files<File = File> + Print + Eprint + AllocGlobal + Threads + Wait + Clock + Sync,
-    S: Source + Drop,
-    P: Prompts + Drop,
-    E: Write + Drop,
->(
+fn go_on<R: Host, S: Source + Drop, P: Prompts + Drop, E: Write + Drop>(
     rt: &R,
     desk: &mut Desk<'_>,
     script: Script<S, P>,
@@ -90,10 +84,12 @@ fn go_on<
 }
 
 // Goes through the file of a path, and says whether the shell goes on.
-fn read_file<
-    R: Files<File = File> + Print + Eprint + AllocGlobal + Threads + Wait + Clock + Sync,
-    E: Write + Drop,
->(rt: &R, desk: &mut Desk<'_>, path: &str, lines: &mut Out<E>) -> Result<bool, ProgramFault> {
+fn read_file<R: Host, E: Write + Drop>(
+    rt: &R,
+    desk: &mut Desk<'_>,
+    path: &str,
+    lines: &mut Out<E>,
+) -> Result<bool, ProgramFault> {
     let file = match open(rt, path) {
         Ok(file) => file,
         Err(fault) => return Ok(desk.tell(rt, fault)),
@@ -122,10 +118,12 @@ fn read_file<
 }
 
 // Goes through the standard input.
-fn converse<
-    R: Files<File = File> + Input + Print + Eprint + AllocGlobal + Threads + Wait + Clock + Sync,
-    E: Write + Drop,
->(rt: &R, errors: E, desk: &mut Desk<'_>, is_typed: bool) -> Result<(), ProgramFault> {
+fn converse<R: Host, E: Write + Drop>(
+    rt: &R,
+    errors: E,
+    desk: &mut Desk<'_>,
+    is_typed: bool,
+) -> Result<(), ProgramFault> {
     let mut lines = Out::new(errors);
     let asking = Asking { rt, is_typed };
     let mut script = Script::new(rt.alloc(), In::new(rt.reader()), asking)?;
@@ -173,10 +171,7 @@ fn greet<R: Eprint + AllocGlobal + Clock>(rt: &R, desk: &Desk<'_>, begun: Option
 }
 
 // Loads the tables of a folder, and goes through the standard input over them.
-fn shell_over<
-    R: Files<File = File> + Input + Print + Eprint + AllocGlobal + Threads + Wait + Clock + Sync,
-    E: Write + Drop,
->(
+fn shell_over<R: Host, E: Write + Drop>(
     rt: &R,
     errors: E,
     folder: Folder<'_>,
@@ -202,10 +197,12 @@ fn shell_over<
 
 /// Loads the tables of a folder once, answers each statement of the standard input over them, and obeys the
 /// commands between these. The status is that of the first fault, 0 where there is none.
-pub(crate) fn shell<
-    R: Files<File = File> + Input + Print + Eprint + AllocGlobal + Threads + Wait + Clock + Sync,
-    E: Write + Drop,
->(rt: &R, errors: E, folder: Folder<'_>, options: ShellOptions) -> Result<u8, ProgramFault>
+pub(crate) fn shell<R: Host, E: Write + Drop>(
+    rt: &R,
+    errors: E,
+    folder: Folder<'_>,
+    options: ShellOptions,
+) -> Result<u8, ProgramFault>
     ensures { IfOk result IsStatus }
 {
     let catalog = catalog_of(rt, folder.catalog)?;

@@ -1,6 +1,7 @@
 // The statements of a stretch of a shell's input.
 
 use crate::desk::Desk;
+use crate::host::Host;
 use crate::tell::write_fault;
 use crate::timing::Timer;
 use ssb_answer::{
@@ -12,9 +13,6 @@ use std::alloc::Global;
 use std::fs::File;
 use std::io;
 use std::io::Write;
-use std::rt::Clock;
-use std::sync::Wait;
-use std::thread::Threads;
 
 // A text's fault as one of the program.
 fn program_fault(alloc: Global, fault: RunFault) -> ProgramFault {
@@ -51,7 +49,7 @@ fn take_outcome<R: Eprint + AllocGlobal>(
 
 /// Shows what a query of the benchmark asks, in the shape that is set, with the time that it took where that is
 /// asked. It says whether the shell goes on.
-pub(crate) fn show_text<R: Eprint + AllocGlobal + Threads + Wait + Clock + Sync, W: Write + Drop>(
+pub(crate) fn show_text<R: Host, W: Write + Drop>(
     rt: &R,
     desk: &mut Desk<'_>,
     text: &str,
@@ -74,12 +72,7 @@ pub(crate) fn show_text<R: Eprint + AllocGlobal + Threads + Wait + Clock + Sync,
 }
 
 // Answers the statements to these rows, and says whether the shell goes on.
-fn answer_to<
-    R: Eprint + AllocGlobal + Threads + Wait + Clock + Sync,
-    S: Source + Drop,
-    W: Write + Drop,
-    E: Write + Drop,
->(
+fn answer_to<R: Host, S: Source + Drop, W: Write + Drop, E: Write + Drop>(
     rt: &R,
     desk: &mut Desk<'_>,
     statements: &mut Statements<S>,
@@ -101,12 +94,7 @@ fn answer_to<
 /// Answers the statements of a script up to its next command, gives the script back, and says whether the
 /// shell goes on. Rows and lines go to the outputs without a buffer of their own, so that each is there before
 /// the next statement is read.
-pub(crate) fn answer_stretch<
-    R: Print + Eprint + AllocGlobal + Threads + Wait + Clock + Sync,
-    S: Source + Drop,
-    P: Prompts + Drop,
-    E: Write + Drop,
->(
+pub(crate) fn answer_stretch<R: Host, S: Source + Drop, P: Prompts + Drop, E: Write + Drop>(
     rt: &R,
     desk: &mut Desk<'_>,
     script: Script<S, P>,

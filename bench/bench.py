@@ -3,6 +3,7 @@
 
 Usage: bench.py load FOLDER [--old PROGRAM]
        bench.py query FOLDER [--old PROGRAM] [--queries NAME..] [--morsels N..] [--times N]
+       bench.py answer FOLDER [--old PROGRAM] [--queries NAME..] [--morsels N..] [--times N]
        bench.py threads FOLDER [--queries NAME..] [--workers N..] [--parts N..] [--morsels N..]
                                 [--batches N..] [--times N]
        bench.py session FOLDER [--old PROGRAM] [--tiny N]
@@ -50,6 +51,30 @@ TEXTS = {
     "max-text": "select max(lo_shipmode) from lineorder\n",
     "sum-joined": f"select sum(c_custkey) {CUSTOMERS}\n",
     "max-joined-text": f"select max(c_name) {CUSTOMERS}\n",
+}
+
+# What `answer` answers beside the benchmark's queries: long lists over one column.
+def listed(column, numbers, between, test):
+    """A query whose condition is the tests of a column by each of some numbers, with a word between them."""
+    tests = f" {between} ".join(f"{column} {test} {number}" for number in numbers)
+    return f"select count(*) from lineorder where {tests}\n"
+
+
+def among(column, literals, negated=""):
+    """A query whose condition is a list of literals."""
+    return f"select count(*) from lineorder where {column} {negated}in ({','.join(map(str, literals))})\n"
+
+
+LISTS = {
+    "1,000-by-or": listed("lo_partkey", range(1, 5001, 5), "or", "="),
+    "1,000-by-in": among("lo_partkey", range(1, 5001, 5)),
+    "7,000-by-in": among("lo_partkey", range(1, 21001, 3)),
+    "2,500-unequal": listed("lo_custkey", range(1, 5001, 2), "and", "<>"),
+    "500-sparse": among("lo_revenue", range(90000, 10090000, 20000)),
+    "4,000-sparse": among("lo_revenue", range(90000, 10090000, 2500)),
+    "4,000-not-in": among("lo_revenue", range(90000, 10090000, 2500), "not "),
+    "4,000-odd": among("lo_orderkey", [*range(1, 7999, 2), 2000000, 4000000]),
+    "1,000-texts": among("lo_shipmode", ["'AIR'", "'RAIL'", *(f"'NO {at}'" for at in range(998))]),
 }
 
 # Beside which sum the time of a least or a greatest value stands.
@@ -172,9 +197,9 @@ def load(given, texts):
         print_old(runs)
 
 
-def paths_of(given, texts):
-    """The files of the queries that are to be answered, by their names."""
-    known = {**thirteen(), **TEXTS}
+def paths_of(given, texts, others):
+    """The files of the queries that are to be answered, by their names: of the benchmark's, and others."""
+    known = {**thirteen(), **others}
     names = given.queries or list(known)
     for name in names:
         if name not in known:
@@ -195,7 +220,7 @@ def least_of_all(given, commands):
 
 def query(given, texts):
     """Answers over loaded tables by one worker: for sizes of a morsel, and by an old ssb_bench."""
-    paths = paths_of(given, texts)
+    paths = paths_of(given, texts, TEXTS)
     first, *others = given.morsels
     commands = {}
     for name, path in paths.items():
@@ -214,9 +239,37 @@ def query(given, texts):
     measure.print_table([*head, *(["new / old"] if given.old else []), "Against its sum"], rows)
 
 
+def answer(given, texts):
+    """Answers from the text on, whose job is made each time, by one worker: also of long lists, and by an old ssb_bench."""
+    paths = paths_of(given, texts, LISTS)
+    rows = line_count(given.folder / "lineorder.tbl")
+    morsel = given.morsels[0]
+    programs = {NEW: given.ssb_bench} | ({OLD: given.old} if given.old else {})
+    commands = {
+        (name, program): [path, "answer", given.folder, paths[name], morsel, given.times]
+        for name in paths
+        for program, path in programs.items()
+    }
+    measure.print_setting(given, f"{rows:,} fact rows, {given.times} answers a run, morsels of {morsel:,}")
+    runs = measure.run_all(commands, given.runs)
+    took = {key: measure.least_told(some) for key, some in runs.items()}
+    table = []
+    for name in paths:
+        row = [name, f"{took[name, NEW]:.2f}", f"{1e6 * took[name, NEW] / rows:.2f}"]
+        if given.old:
+            peaks = [measure.least_peak(runs[name, program]) for program in (NEW, OLD)]
+            row += [f"{took[name, NEW] / took[name, OLD]:.2f}", f"{peaks[0] / peaks[1]:.2f}"]
+        table.append(row)
+    head = ["Query", "Milliseconds", "Nanoseconds a fact row"]
+    measure.print_table([*head, *(["new / old", "Peak memory, new / old"] if given.old else [])], table)
+    ratios = [took[name, NEW] / took[name, OLD] for name in paths if given.old and name in thirteen()]
+    if ratios:
+        print(f"\nnew / old, geometric mean of {len(ratios)} of the thirteen: {statistics.geometric_mean(ratios):.2f}")
+
+
 def threads(given, texts):
     """Answers over loaded tables by workers in threads, against one thread alone."""
-    paths = paths_of(given, texts)
+    paths = paths_of(given, texts, TEXTS)
     choices = list(itertools.product(given.workers, given.parts, given.morsels, given.batches))
     commands = {}
     for name, path in paths.items():
@@ -333,6 +386,7 @@ def check(given, texts):
 COMMANDS = {
     load: (["ssb", "ssb_bench"], ["folder", "--old"]),
     query: (["ssb_bench"], ["folder", "--old", "--queries", "--morsels", "--times"]),
+    answer: (["ssb_bench"], ["folder", "--old", "--queries", "--morsels", "--times"]),
     threads: (["ssb_bench"], ["folder", "--queries", "--workers", "--parts", "--morsels", "--batches", "--times"]),
     session: (["ssb"], ["folder", "--old", "--tiny"]),
     check: (["ssb"], []),

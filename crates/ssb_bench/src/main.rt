@@ -8,6 +8,8 @@
 //!   caller's thread, in morsels of so many rows; tables are loaded and indexes built once
 //! - `run FOLDER FILE MORSEL TIMES WORKERS PARTS BATCH`: the same by so many workers, in threads of their
 //!   own, who take up to so many morsels at a time from so many parts
+//! - `answer ..`, with the words of `run`: the same from the query's text to the rows, so that the text is read
+//!   and indexes are built each time
 //!
 //! The catalog of a folder lies in it as `catalog`. The status is 1 where a file or a growth failed, or
 //! a file is not what it should be, and 2 where the words are others.
@@ -24,7 +26,7 @@ mod run;
 
 use load::loading_time;
 use read::count_records;
-use run::{By, own_time};
+use run::{By, own_time, whole_time};
 use ssb_answer::Settings;
 use std::alloc::AllocError;
 use std::fs::File;
@@ -103,32 +105,51 @@ fn workers(workers: &str, morsel_size: &str, parts: &str, batch: &str) -> Option
     Some(By::Workers(settings))
 }
 
+// From where on an answer is timed.
+#[derive(Clone, Copy)]
+enum Since {
+    Job,
+    Text,
+}
+
 // Prints the least milliseconds of so many answers, given by such workers.
 fn print_least<R: Files + Clock + Print + Threads + Wait + Sync + AllocGlobal>(
     rt: &R,
-    folder: &str,
-    path: &str,
+    files: [&str; 2],
+    since: Since,
     by: Option<By>,
     times: &str,
 ) -> u8 {
     let (Some(by), Ok(times)) = (by, times.parse()) else {
         return BAD_WORDS;
     };
-    let Some(micros) = own_time(rt, folder, path, by, times) else {
+    let [folder, path] = files;
+    let least = match since {
+        Since::Job => own_time(rt, folder, path, by, times),
+        Since::Text => whole_time(rt, folder, path, by, times),
+    };
+    let Some(micros) = least else {
         return FAILED;
     };
     status_of(print_micros(rt, "answering", micros))
 }
 
 // Prints how long an answer over loaded tables took.
-fn print_own_time<R: Files + Clock + Print + Threads + Wait + Sync + AllocGlobal>(
+fn print_answer_time<R: Files + Clock + Print + Threads + Wait + Sync + AllocGlobal>(
     rt: &R,
+    since: Since,
     given: &[String],
 ) -> u8 {
     match given {
         [folder, path, morsel_size, times] => {
             let by = alone(morsel_size.as_str());
-            print_least(rt, folder.as_str(), path.as_str(), by, times.as_str())
+            print_least(
+                rt,
+                [folder.as_str(), path.as_str()],
+                since,
+                by,
+                times.as_str(),
+            )
         }
         [folder, path, morsel_size, times, count, parts, batch] => {
             let by = workers(
@@ -137,7 +158,13 @@ fn print_own_time<R: Files + Clock + Print + Threads + Wait + Sync + AllocGlobal
                 parts.as_str(),
                 batch.as_str(),
             );
-            print_least(rt, folder.as_str(), path.as_str(), by, times.as_str())
+            print_least(
+                rt,
+                [folder.as_str(), path.as_str()],
+                since,
+                by,
+                times.as_str(),
+            )
         }
         _ => BAD_WORDS,
     }
@@ -157,7 +184,9 @@ fn act<R: Files<File = File> + Clock + Print + Threads + Wait + Sync + AllocGlob
     } else if command == "load" {
         print_loading_time(rt, given)
     } else if command == "run" {
-        print_own_time(rt, given)
+        print_answer_time(rt, Since::Job, given)
+    } else if command == "answer" {
+        print_answer_time(rt, Since::Text, given)
     } else {
         BAD_WORDS
     }

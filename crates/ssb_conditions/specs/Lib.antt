@@ -4,6 +4,7 @@ pub mod Local
 pub mod Only
 pub mod Ranged
 pub mod Rows
+pub mod Sets
 pub use Rattle.ssb_cells.specs.Cell
 pub use Rattle.ssb_cells.specs.Tables
 pub use Rattle.ssb_cells.specs.Truth

@@ -143,7 +143,13 @@ module _ (O : RattleType) (o : Crosses O) where
             (several, tt),
             (
               (inner, tt),
-              (((search (as_row_send, crosses, sendable) depth 20, search (as_row_sync, crosses, sendable) depth 20), (x, (x, tt))), ((x, (x, (x, tt))), ((x, (x, (x, tt))), ((x, (literals, tt)), ((x, (literals, tt)), ((x, tt), ((x, tt), tt))))))),
+              (
+                ((search (as_row_send, crosses, sendable) depth 20, search (as_row_sync, crosses, sendable) depth 20), (x, (x, tt))),
+                (
+                  (x, (x, (x, ((search (as_row_send, crosses, sendable) depth 20, search (as_row_sync, crosses, sendable) depth 20), tt)))),
+                  ((x, (literals, ((search (as_row_send, crosses, sendable) depth 20, search (as_row_sync, crosses, sendable) depth 20), tt))), ((x, ((search (as_row_send, crosses, sendable) depth 20, search (as_row_sync, crosses, sendable) depth 20), tt)), tt)),
+                ),
+              ),
             ),
           ),
         )

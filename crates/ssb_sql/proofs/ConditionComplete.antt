@@ -15,8 +15,8 @@ use Rattle.ssb_trees.specs.declared.condition.Condition.TheVariants as c
 use Rattle.ssb_sql.specs.Forms.{Spelling, IsList, IsLiteral, IsOperand}
 use Rattle.ssb_sql.specs.Forms.IsLiteral.{number, positive, negative, text}
 use Rattle.ssb_sql.specs.Forms.IsOperand.{column, literal}
-use Rattle.ssb_sql.specs.Conditions.{mark_of, IsBare, IsCond, IsOrs, IsConj, IsAnds, IsNeg, IsTest, or_chain, and_chain}
-use Rattle.ssb_sql.specs.Conditions.IsBare.{compare, between, not_between, among, not_among, null, not_null}
+use Rattle.ssb_sql.specs.Conditions.{mark_of, not_if, IsBare, IsCond, IsOrs, IsConj, IsAnds, IsNeg, IsTest, or_chain, and_chain}
+use Rattle.ssb_sql.specs.Conditions.IsBare.{compare, between, among, null}
 use Rattle.ssb_sql.specs.Conditions.IsCond.{cond}
 use Rattle.ssb_sql.specs.Conditions.IsOrs.{no_or, or}
 use Rattle.ssb_sql.specs.Conditions.IsConj.{conj}
@@ -26,12 +26,12 @@ use Rattle.ssb_sql.specs.Conditions.IsTest.{parens, bare}
 use Rattle.ssb_sql.specs.Room.{HasRoom}
 use Rattle.ssb_sql.specs.Steps.{Parser, after, is_fixed, is_sign, chain_at, more_at, list_at, parens_at, chained_at}
 use Rattle.ssb_sql.specs.ReadParts.{literal_at, operand_at}
-use Rattle.ssb_sql.specs.ReadConditions.{op_at, limits_at, members_at, among_at, between_of, in_of, range_at, nulled_at, null_at, compared_at, tail_at, bare_at, test_at, neg_at, conj_at, cond_at}
+use Rattle.ssb_sql.specs.ReadConditions.{op_at, limits_at, members_at, among_at, range_at, nulled_at, null_at, compared_at, tail_at, bare_at, test_at, neg_at, conj_at, cond_at}
 use Rattle.ssb_sql.proofs.StepFacts.{Stops, stops, differs, sees}
 use Rattle.ssb_sql.proofs.Shapes.{Tame, Complete, GoesOn, turn_done, sign_goes, more_goes, closed_read, parens_read, open_read, list_read}
 use Rattle.ssb_sql.proofs.PartFacts.{Begins, tame_literal, tame_operand, literal_read, operand_read}
 use Rattle.ssb_sql.proofs.Depth.{all_within}
-use Rattle.ssb_sql.proofs.TestSound.{mark_within}
+use Rattle.ssb_sql.proofs.TestSound.{mark_within, not_within}
 use Rattle.ssb_sql.proofs.ConditionSound.{tame_conj, tame_neg}
 use Rattle.ssb_trees.specs.Conditions.{Filter}
 use Rattle.ssb_trees.specs.declared.operand.Operand.{Operand}
@@ -64,12 +64,9 @@ module _ {C : Type 0} (R : Spelling C) (sign : Sign) (starts : (from to : List T
 
   bare_begins : {from to : List Token} {x : Filter C} → IsBare R from to x → Stops sign from
   bare_begins (compare a b) = operand_begins a
-  bare_begins (between a b g) = operand_begins a
-  bare_begins (not_between a b g) = operand_begins a
-  bare_begins (among a b) = operand_begins a
-  bare_begins (not_among a b) = operand_begins a
-  bare_begins (null a) = starts _ _ _ a
-  bare_begins (not_null a) = starts _ _ _ a
+  bare_begins (between negated a b g) = operand_begins a
+  bare_begins (among negated a b) = operand_begins a
+  bare_begins (null negated a) = starts _ _ _ a
 
 bare_no_not : {C : Type 0} (R : Spelling C) → Begins R → {from to : List Token} {x : Filter C} → IsBare R from to x → Stops (s.Word words.Not) from
 bare_no_not R z a = bare_begins R (s.Word words.Not) (λ from to x h. z.no_not h) (differs (s.Mark marks.Plus) (s.Word words.Not) refl) (differs (s.Mark marks.Minus) (s.Word words.Not) refl) a
@@ -131,24 +128,20 @@ module _ {C : Type 0} (p : Parser C) where
   unfolding bare_at
   bare_goes ts mid y r e f = rw e f
 
-  between_goes : (negated : Bool) (x : Operand C) (low to : List Token) (l : Operand C × Operand C) → limits_at p low ≡ Some (l, to) → range_at p negated x (Fixed (s.Word words.Between) ∷ low) ≡ Some (between_of negated x l, to)
+  between_goes : (negated : Bool) (x : Operand C) (low to : List Token) (l : Operand C × Operand C) → limits_at p low ≡ Some (l, to) → range_at p negated x (Fixed (s.Word words.Between) ∷ low) ≡ Some (c.Between x l.0 l.1 negated, to)
   unfolding range_at
   between_goes negated x low to l e = rw (sees (s.Word words.Between) low, e) refl
 
-  in_goes : (negated : Bool) (x : Operand C) (rest to : List Token) (ys : List Literal) → members_at rest ≡ Some (ys, to) → range_at p negated x (Fixed (s.Word words.In) ∷ rest) ≡ Some (in_of negated x ys, to)
+  in_goes : (negated : Bool) (x : Operand C) (rest to : List Token) (ys : List Literal) → members_at rest ≡ Some (ys, to) → range_at p negated x (Fixed (s.Word words.In) ∷ rest) ≡ Some (c.In x ys negated, to)
   unfolding range_at among_at
   in_goes negated x rest to ys e = rw (stops (s.Word words.In) (s.Word words.Between) rest (differs (s.Word words.In) (s.Word words.Between) refl), sees (s.Word words.In) rest, e) refl
 
-  -- NOT before BETWEEN or IN
-  negated_goes : (x : Operand C) (rest : List Token) (r : Option (Filter C × List Token)) → range_at p true x rest ≡ r → tail_at p x (Fixed (s.Word words.Not) ∷ rest) ≡ r
-  unfolding tail_at
-  negated_goes x rest r e = rw (sees (s.Word words.Not) rest) e
-
-  -- BETWEEN or IN with no NOT
-  range_goes : (found : Sign) (x : Operand C) (ts : List Token) (r : Option (Filter C × List Token)) → is_sign found (s.Word words.Not) ≡ false → is_sign found (s.Word words.Is) ≡ false → op_at (Fixed found ∷ ts) ≡ None
-      → range_at p false x (Fixed found ∷ ts) ≡ r → tail_at p x (Fixed found ∷ ts) ≡ r
+  -- BETWEEN or IN, behind a NOT if there is one
+  range_goes : (negated : Bool) (found : Sign) (x : Operand C) (ts : List Token) (r : Option (Filter C × List Token)) → is_sign found (s.Word words.Not) ≡ false → is_sign found (s.Word words.Is) ≡ false → op_at (Fixed found ∷ ts) ≡ None
+      → range_at p negated x (Fixed found ∷ ts) ≡ r → tail_at p x (not_if negated (Fixed found ∷ ts)) ≡ r
   unfolding tail_at compared_at
-  range_goes found x ts r n i h e = rw (stops found (s.Word words.Not) ts n, stops found (s.Word words.Is) ts i, h) e
+  range_goes true found x ts r n i h e = rw (sees (s.Word words.Not) (Fixed found ∷ ts)) e
+  range_goes false found x ts r n i h e = rw (stops found (s.Word words.Not) ts n, stops found (s.Word words.Is) ts i, h) e
 
   compared_goes : (y : Op) (x z : Operand C) (ts to : List Token) → operand_at p ts ≡ Some (z, to) → tail_at p x (Fixed (s.Mark (mark_of y)) ∷ ts) ≡ Some (c.Compare y x z, to)
   unfolding tail_at compared_at
@@ -156,15 +149,12 @@ module _ {C : Type 0} (p : Parser C) where
       let no = mark_is_no y in
       rw (stops (s.Mark (mark_of y)) (s.Word words.Not) ts no.1, stops (s.Mark (mark_of y)) (s.Word words.Is) ts no.2, op_read y ts, e) refl
 
-  null_goes : (x : C) (to : List Token) → tail_at p (o.Column x) (Fixed (s.Word words.Is) ∷ Fixed (s.Word words.Null) ∷ to) ≡ Some (c.IsNull (o.Column x), to)
+  null_goes : (negated : Bool) (x : C) (to : List Token) → tail_at p (o.Column x) (Fixed (s.Word words.Is) ∷ not_if negated (Fixed (s.Word words.Null) ∷ to)) ≡ Some (c.IsNull (o.Column x) negated, to)
   unfolding tail_at null_at nulled_at
-  null_goes x to =
-      rw (stops (s.Word words.Is) (s.Word words.Not) (Fixed (s.Word words.Null) ∷ to) (differs (s.Word words.Is) (s.Word words.Not) refl), sees (s.Word words.Is) (Fixed (s.Word words.Null) ∷ to), stops (s.Word words.Null) (s.Word words.Not) to (differs (s.Word words.Null) (s.Word words.Not) refl), sees (s.Word words.Null) to) refl
-
-  not_null_goes : (x : C) (to : List Token) → tail_at p (o.Column x) (Fixed (s.Word words.Is) ∷ Fixed (s.Word words.Not) ∷ Fixed (s.Word words.Null) ∷ to) ≡ Some (c.IsNotNull (o.Column x), to)
-  unfolding tail_at null_at nulled_at
-  not_null_goes x to =
+  null_goes true x to =
       rw (stops (s.Word words.Is) (s.Word words.Not) (Fixed (s.Word words.Not) ∷ Fixed (s.Word words.Null) ∷ to) (differs (s.Word words.Is) (s.Word words.Not) refl), sees (s.Word words.Is) (Fixed (s.Word words.Not) ∷ Fixed (s.Word words.Null) ∷ to), sees (s.Word words.Not) (Fixed (s.Word words.Null) ∷ to), sees (s.Word words.Null) to) refl
+  null_goes false x to =
+      rw (stops (s.Word words.Is) (s.Word words.Not) (Fixed (s.Word words.Null) ∷ to) (differs (s.Word words.Is) (s.Word words.Not) refl), sees (s.Word words.Is) (Fixed (s.Word words.Null) ∷ to), stops (s.Word words.Null) (s.Word words.Not) to (differs (s.Word words.Null) (s.Word words.Not) refl), sees (s.Word words.Null) to) refl
 
 -- p reads what R spells
 module _ {C : Type 0} (R : Spelling C) (t : Tame R) (z : Begins R) (p : Parser C) (d : ℕ) (complete : Complete p R d (Stops (s.Mark marks.Dot))) where
@@ -175,6 +165,11 @@ module _ {C : Type 0} (R : Spelling C) (t : Tame R) (z : Begins R) (p : Parser C
   one_read : {from mid : List Token} {x : Operand C} (sign : Sign) → is_sign sign (s.Mark marks.Dot) ≡ false → IsOperand R from (Fixed sign ∷ mid) x → HasRoom d from → operand_at p from ≡ Some (x, Fixed sign ∷ mid)
   one_read {mid = mid} sign undotted a w = operand_read R t z p d complete a w (no_dot sign mid undotted)
 
+  -- an operand, and the sign behind it and behind a NOT if there is one
+  range_read : {from : List Token} {x : Operand C} (negated : Bool) (found : Sign) (mid : List Token) → is_sign found (s.Mark marks.Dot) ≡ false → IsOperand R from (not_if negated (Fixed found ∷ mid)) x → HasRoom d from → operand_at p from ≡ Some (x, not_if negated (Fixed found ∷ mid))
+  range_read true found mid undotted a w = one_read (s.Word words.Not) (differs (s.Word words.Not) (s.Mark marks.Dot) refl) a w
+  range_read false found mid undotted a w = one_read found undotted a w
+
   limits_goes : {low high to : List Token} {x y : Operand C} → IsOperand R low (Fixed (s.Word words.And) ∷ high) x → IsOperand R high to y → HasRoom d low → Stops (s.Mark marks.Dot) to → limits_at p low ≡ Some ((x, y), to)
   unfolding limits_at
   limits_goes {high = high} a b w n = rw (one_read (s.Word words.And) (differs (s.Word words.And) (s.Mark marks.Dot) refl) a w, sees (s.Word words.And) high, operand_read R t z p d complete b (operands.within a d w) n) refl
@@ -183,22 +178,14 @@ module _ {C : Type 0} (R : Spelling C) (t : Tame R) (z : Begins R) (p : Parser C
   bare_read (compare {from = from} {mid = mid} {to = to} {op = o} {x = x} {y = y} a b) w n =
       let no = mark_is_no o in
       bare_goes p from (Fixed (s.Mark (mark_of o)) ∷ mid) x (Some (c.Compare o x y, to)) (one_read (s.Mark (mark_of o)) no.0 a w) (compared_goes p o x y mid to (operand_read R t z p d complete b (mark_within o mid d (operands.within a d w)) n))
-  bare_read (between {from = from} {low = low} {to = to} {x = x} {y = y} {z = k} a b g) w n =
-      bare_goes p from (Fixed (s.Word words.Between) ∷ low) x (Some (c.Between x y k, to)) (one_read (s.Word words.Between) (differs (s.Word words.Between) (s.Mark marks.Dot) refl) a w)
-      (range_goes p (s.Word words.Between) x low (Some (c.Between x y k, to)) (differs (s.Word words.Between) (s.Word words.Not) refl) (differs (s.Word words.Between) (s.Word words.Is) refl) (word_stops words.Between low) (between_goes p false x low to (y, k) (limits_goes b g (operands.within a d w) n)))
-  bare_read (not_between {from = from} {low = low} {to = to} {x = x} {y = y} {z = k} a b g) w n =
-      bare_goes p from (Fixed (s.Word words.Not) ∷ Fixed (s.Word words.Between) ∷ low) x (Some (c.NotBetween x y k, to)) (one_read (s.Word words.Not) (differs (s.Word words.Not) (s.Mark marks.Dot) refl) a w)
-      (negated_goes p x (Fixed (s.Word words.Between) ∷ low) (Some (c.NotBetween x y k, to)) (between_goes p true x low to (y, k) (limits_goes b g (operands.within a d w) n)))
-  bare_read (among {from = from} {mid = mid} {to = to} {x = x} {ys = ys} a b) w n =
-      bare_goes p from (Fixed (s.Word words.In) ∷ Fixed (s.Mark marks.Open) ∷ mid) x (Some (c.In x ys, to)) (one_read (s.Word words.In) (differs (s.Word words.In) (s.Mark marks.Dot) refl) a w)
-      (range_goes p (s.Word words.In) x (Fixed (s.Mark marks.Open) ∷ mid) (Some (c.In x ys, to)) (differs (s.Word words.In) (s.Word words.Not) refl) (differs (s.Word words.In) (s.Word words.Is) refl) (word_stops words.In (Fixed (s.Mark marks.Open) ∷ mid)) (in_goes p false x (Fixed (s.Mark marks.Open) ∷ mid) to ys (members_goes b)))
-  bare_read (not_among {from = from} {mid = mid} {to = to} {x = x} {ys = ys} a b) w n =
-      bare_goes p from (Fixed (s.Word words.Not) ∷ Fixed (s.Word words.In) ∷ Fixed (s.Mark marks.Open) ∷ mid) x (Some (c.NotIn x ys, to)) (one_read (s.Word words.Not) (differs (s.Word words.Not) (s.Mark marks.Dot) refl) a w)
-      (negated_goes p x (Fixed (s.Word words.In) ∷ Fixed (s.Mark marks.Open) ∷ mid) (Some (c.NotIn x ys, to)) (in_goes p true x (Fixed (s.Mark marks.Open) ∷ mid) to ys (members_goes b)))
-  bare_read (null {from = from} {to = to} {x = x} a) w n =
-      bare_goes p from (Fixed (s.Word words.Is) ∷ Fixed (s.Word words.Null) ∷ to) (o.Column x) (Some (c.IsNull (o.Column x), to)) (one_read (s.Word words.Is) (differs (s.Word words.Is) (s.Mark marks.Dot) refl) (column a) w) (null_goes p x to)
-  bare_read (not_null {from = from} {to = to} {x = x} a) w n =
-      bare_goes p from (Fixed (s.Word words.Is) ∷ Fixed (s.Word words.Not) ∷ Fixed (s.Word words.Null) ∷ to) (o.Column x) (Some (c.IsNotNull (o.Column x), to)) (one_read (s.Word words.Is) (differs (s.Word words.Is) (s.Mark marks.Dot) refl) (column a) w) (not_null_goes p x to)
+  bare_read (between negated {from = from} {low = low} {to = to} {x = x} {y = y} {z = k} a b g) w n =
+      bare_goes p from (not_if negated (Fixed (s.Word words.Between) ∷ low)) x (Some (c.Between x y k negated, to)) (range_read negated (s.Word words.Between) low (differs (s.Word words.Between) (s.Mark marks.Dot) refl) a w)
+      (range_goes p negated (s.Word words.Between) x low (Some (c.Between x y k negated, to)) (differs (s.Word words.Between) (s.Word words.Not) refl) (differs (s.Word words.Between) (s.Word words.Is) refl) (word_stops words.Between low) (between_goes p negated x low to (y, k) (limits_goes b g (not_within negated (Fixed (s.Word words.Between) ∷ low) d (operands.within a d w)) n)))
+  bare_read (among negated {from = from} {mid = mid} {to = to} {x = x} {ys = ys} a b) w n =
+      bare_goes p from (not_if negated (Fixed (s.Word words.In) ∷ Fixed (s.Mark marks.Open) ∷ mid)) x (Some (c.In x ys negated, to)) (range_read negated (s.Word words.In) (Fixed (s.Mark marks.Open) ∷ mid) (differs (s.Word words.In) (s.Mark marks.Dot) refl) a w)
+      (range_goes p negated (s.Word words.In) x (Fixed (s.Mark marks.Open) ∷ mid) (Some (c.In x ys negated, to)) (differs (s.Word words.In) (s.Word words.Not) refl) (differs (s.Word words.In) (s.Word words.Is) refl) (word_stops words.In (Fixed (s.Mark marks.Open) ∷ mid)) (in_goes p negated x (Fixed (s.Mark marks.Open) ∷ mid) to ys (members_goes b)))
+  bare_read (null negated {from = from} {to = to} {x = x} a) w n =
+      bare_goes p from (Fixed (s.Word words.Is) ∷ not_if negated (Fixed (s.Word words.Null) ∷ to)) (o.Column x) (Some (c.IsNull (o.Column x) negated, to)) (one_read (s.Word words.Is) (differs (s.Word words.Is) (s.Mark marks.Dot) refl) (column a) w) (null_goes p negated x to)
 
 -- one reader from another
 plain_goes : {C : Type 0} (p : Parser C) (inner : Parser (Filter C)) (ts to : List Token) (x : Filter C) → Stops (s.Word words.Not) ts → test_at p inner ts ≡ Some (x, to) → neg_at p inner ts ≡ Some (x, to)

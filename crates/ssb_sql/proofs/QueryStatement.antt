@@ -1,5 +1,5 @@
 -- The tokens of a query are one statement: no `;` is among them but the last.
-use Rattle.std.proofs.Common.{◌≡◌, ℕ, false, List, [], ◌∷◌, ◌++◌, Option, refl, sym, ap, subst, ◌∙◌, arith, append_assoc}
+use Rattle.std.proofs.Common.{◌≡◌, ℕ, Bool, true, false, List, [], ◌∷◌, ◌++◌, Option, refl, sym, ap, subst, ◌∙◌, arith, append_assoc}
 use Rattle.std.proofs.lemmas.Bool.{cond-false}
 use Rattle.std.proofs.lemmas.List.{append-nil}
 use Rattle.ssb_terms.specs.declared.keyword.Keyword.{Keyword}
@@ -23,8 +23,8 @@ use Rattle.ssb_sql.specs.declared.select.Key.{Key}
 use Rattle.ssb_sql.specs.declared.select.Order.{Order}
 use Rattle.ssb_sql.specs.declared.select.Output.{Output}
 use Rattle.ssb_sql.specs.declared.select.Select.{Select}
-use Rattle.ssb_sql.specs.Conditions.{IsBare, IsCond, IsOrs, IsConj, IsAnds, IsNeg, IsTest, mark_of}
-use Rattle.ssb_sql.specs.Conditions.IsBare.{compare, between, not_between, among, not_among, null, not_null}
+use Rattle.ssb_sql.specs.Conditions.{IsBare, IsCond, IsOrs, IsConj, IsAnds, IsNeg, IsTest, mark_of, not_if}
+use Rattle.ssb_sql.specs.Conditions.IsBare.{compare, between, among, null}
 use Rattle.ssb_sql.specs.Conditions.IsCond.{cond}
 use Rattle.ssb_sql.specs.Conditions.IsOrs.{no_or, or}
 use Rattle.ssb_sql.specs.Conditions.IsConj.{conj}
@@ -140,6 +140,10 @@ op_plain op.Le = refl
 op_plain op.Gt = refl
 op_plain op.Ge = refl
 
+not_passed : (negated : Bool) {from to : List Token} → Passed from to → Passed (not_if negated from) to
+not_passed true a = one refl a
+not_passed false a = a
+
 module _ {C : Type 0} (R : Spelling C) (p : Plain R) where
   operand_passed : {from to : List Token} {x : Operand C} → IsOperand R from to x → Passed from to
   operand_passed (column a) = p.by a
@@ -147,12 +151,9 @@ module _ {C : Type 0} (R : Spelling C) (p : Plain R) where
 
   bare_passed : {from to : List Token} {x : Filter C} → IsBare R from to x → Passed from to
   bare_passed (compare {op = y} a b) = joined (operand_passed a) (one (op_plain y) (operand_passed b))
-  bare_passed (between a b c) = joined (operand_passed a) (one refl (joined (operand_passed b) (one refl (operand_passed c))))
-  bare_passed (not_between a b c) = joined (operand_passed a) (one refl (one refl (joined (operand_passed b) (one refl (operand_passed c)))))
-  bare_passed (among a b) = joined (operand_passed a) (one refl (one refl (joined (list_passed IsLiteral plain_literal b) (one refl here))))
-  bare_passed (not_among a b) = joined (operand_passed a) (one refl (one refl (one refl (joined (list_passed IsLiteral plain_literal b) (one refl here)))))
-  bare_passed (null a) = joined (p.by a) (one refl (one refl here))
-  bare_passed (not_null a) = joined (p.by a) (one refl (one refl (one refl here)))
+  bare_passed (between negated a b c) = joined (operand_passed a) (not_passed negated (one refl (joined (operand_passed b) (one refl (operand_passed c)))))
+  bare_passed (among negated a b) = joined (operand_passed a) (not_passed negated (one refl (one refl (joined (list_passed IsLiteral plain_literal b) (one refl here)))))
+  bare_passed (null negated a) = joined (p.by a) (one refl (not_passed negated (one refl here)))
 
   mutual
     cond_passed : {from to : List Token} {x : Filter C} → IsCond R from to x → Passed from to

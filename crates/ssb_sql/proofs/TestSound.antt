@@ -1,5 +1,5 @@
 -- What is read as a test with no parentheses is one.
-use Rattle.std.proofs.Common.{◌≡◌, ℕ, zero, suc, ◌<◌, Bool, true, false, List, ◌∷◌, length, Some, None, refl, ap, subst, ◌∙◌, arith, inl, inr}
+use Rattle.std.proofs.Common.{◌≡◌, ℕ, zero, suc, ◌<◌, ◌≤◌, Bool, true, false, List, ◌∷◌, length, Some, None, refl, ap, subst, ◌∙◌, arith, inl, inr}
 use Rattle.ssb_terms.specs.declared.operator.Op.{Op}
 use Rattle.ssb_terms.specs.declared.operator.Op.TheVariants as op
 use Rattle.ssb_tokens.specs.declared.token.Token.{Token}
@@ -13,8 +13,8 @@ use Rattle.ssb_trees.specs.declared.operand.Operand.TheVariants as o
 use Rattle.ssb_trees.specs.declared.condition.Condition.TheVariants as c
 use Rattle.ssb_sql.specs.Forms.{Spelling, IsList, IsLiteral, IsOperand}
 use Rattle.ssb_sql.specs.Forms.IsOperand.{column, literal}
-use Rattle.ssb_sql.specs.Conditions.{mark_of, IsBare}
-use Rattle.ssb_sql.specs.Conditions.IsBare.{compare, between, not_between, among, not_among, null, not_null}
+use Rattle.ssb_sql.specs.Conditions.{mark_of, not_if, IsBare}
+use Rattle.ssb_sql.specs.Conditions.IsBare.{compare, between, among, null}
 use Rattle.ssb_sql.specs.Room.{HasRoom}
 use Rattle.ssb_sql.specs.Steps.{Parser, after, list_at, nonempty_at, parens_at}
 use Rattle.ssb_sql.specs.ReadParts.{literal_at, operand_at}
@@ -70,32 +70,19 @@ module _ {C : Type 0} (R : Spelling C) (p : Parser C) (reads : Sound (nonempty_a
   ends_at : (ts mid us : List Token) (x : Operand C) → mid ≡ us → IsOperand R ts mid x → IsOperand R ts us x
   ends_at ts mid us x e h = subst (λ z. IsOperand R ts z x) e h
 
-  range_sound : (ts mid : List Token) (y : Operand C) (x : Filter C × List Token) → IsOperand R ts mid y → range_at p false y mid ≡ Some x → IsBare R ts x.1 x.0
+  -- BETWEEN or IN, behind a NOT if there is one
+  range_sound : (negated : Bool) (ts mid rest : List Token) (y : Operand C) (x : Filter C × List Token) → mid ≡ not_if negated rest → IsOperand R ts mid y → range_at p negated y rest ≡ Some x → IsBare R ts x.1 x.0
   unfolding range_at
-  range_sound ts mid y x h e =
-      elim (choose_some (after (s.Word words.Between) mid) _ _ (Some x) e) as (λ _. IsBare R ts x.1 x.0) [
-        | inl g ↦
-            let f = bind_some (limits_at p g.0) _ x g.2 in
-            let q = limits_is g.0 f.0 f.1 in
-            spells (IsBare R) ts f.0.1 (c.Between y f.0.0.0 f.0.0.1) x (between (ends_at ts mid (Fixed (s.Word words.Between) ∷ g.0) y (after_is (s.Word words.Between) mid g.0 g.1) h) q.1 q.2) f.2
-        | inr b ↦
-            let f = bind_some (among_at mid) _ x b.1 in
-            let q = among_is mid f.0 f.1 in
-            spells (IsBare R) ts f.0.1 (c.In y f.0.0) x (among (ends_at ts mid (Fixed (s.Word words.In) ∷ Fixed (s.Mark marks.Open) ∷ q.0) y q.1 h) q.2) f.2
-      ]
-
-  not_range_sound : (ts mid rest : List Token) (y : Operand C) (x : Filter C × List Token) → mid ≡ Fixed (s.Word words.Not) ∷ rest → IsOperand R ts mid y → range_at p true y rest ≡ Some x → IsBare R ts x.1 x.0
-  unfolding range_at
-  not_range_sound ts mid rest y x n h e =
+  range_sound negated ts mid rest y x n h e =
       elim (choose_some (after (s.Word words.Between) rest) _ _ (Some x) e) as (λ _. IsBare R ts x.1 x.0) [
         | inl g ↦
             let f = bind_some (limits_at p g.0) _ x g.2 in
             let q = limits_is g.0 f.0 f.1 in
-            spells (IsBare R) ts f.0.1 (c.NotBetween y f.0.0.0 f.0.0.1) x (not_between (ends_at ts mid (Fixed (s.Word words.Not) ∷ Fixed (s.Word words.Between) ∷ g.0) y (n ∙ ap (λ z. Fixed (s.Word words.Not) ∷ z) (after_is (s.Word words.Between) rest g.0 g.1)) h) q.1 q.2) f.2
+            spells (IsBare R) ts f.0.1 (c.Between y f.0.0.0 f.0.0.1 negated) x (between negated (ends_at ts mid (not_if negated (Fixed (s.Word words.Between) ∷ g.0)) y (n ∙ ap (not_if negated) (after_is (s.Word words.Between) rest g.0 g.1)) h) q.1 q.2) f.2
         | inr b ↦
             let f = bind_some (among_at rest) _ x b.1 in
             let q = among_is rest f.0 f.1 in
-            spells (IsBare R) ts f.0.1 (c.NotIn y f.0.0) x (not_among (ends_at ts mid (Fixed (s.Word words.Not) ∷ Fixed (s.Word words.In) ∷ Fixed (s.Mark marks.Open) ∷ q.0) y (n ∙ ap (λ z. Fixed (s.Word words.Not) ∷ z) q.1) h) q.2) f.2
+            spells (IsBare R) ts f.0.1 (c.In y f.0.0 negated) x (among negated (ends_at ts mid (not_if negated (Fixed (s.Word words.In) ∷ Fixed (s.Mark marks.Open) ∷ q.0)) y (n ∙ ap (not_if negated) q.1) h) q.2) f.2
       ]
 
   -- a column as an operand is a column
@@ -103,30 +90,21 @@ module _ {C : Type 0} (R : Spelling C) (p : Parser C) (reads : Sound (nonempty_a
   column_back (column {from = from} {to = to} {x = x} a) z e = let same : x ≡ z = cc in subst (λ w. R from to w) same a
   column_back (literal a) z e = absurd cc
 
-  -- a literal is no column
-  no_null : (negated : Bool) (l : Literal) (ts : List Token) (x : Filter C × List Token) → nulled_at negated (o.Literal l) ts ≡ Some x → ⊥
+  -- NULL, behind a NOT if there is one; a literal is no column
+  nulled_sound : (negated : Bool) (ts mid rest : List Token) (y : Operand C) (x : Filter C × List Token) → mid ≡ Fixed (s.Word words.Is) ∷ not_if negated rest → IsOperand R ts mid y → nulled_at negated y rest ≡ Some x → IsBare R ts x.1 x.0
   unfolding nulled_at
-  no_null true l ts x e = let f = bind_some (after (s.Word words.Null) ts) (λ to. None) x e in absurd (none_some x f.2)
-  no_null false l ts x e = let f = bind_some (after (s.Word words.Null) ts) (λ to. None) x e in absurd (none_some x f.2)
+  nulled_sound negated ts mid rest (o.Literal l) x n h e = let f = bind_some (after (s.Word words.Null) rest) (λ to. None) x e in absurd (none_some x f.2)
+  nulled_sound negated ts mid rest (o.Column z) x n h e =
+      let f = bind_some (after (s.Word words.Null) rest) _ x e in
+      let m : mid ≡ Fixed (s.Word words.Is) ∷ not_if negated (Fixed (s.Word words.Null) ∷ f.0) = n ∙ ap (λ w. Fixed (s.Word words.Is) ∷ not_if negated w) (after_is (s.Word words.Null) rest f.0 f.1) in
+      spells (IsBare R) ts f.0 (c.IsNull (o.Column z) negated) x (null negated (subst (λ w. R ts w z) m (column_back h z refl))) f.2
 
   null_sound : (ts mid rest : List Token) (y : Operand C) (x : Filter C × List Token) → mid ≡ Fixed (s.Word words.Is) ∷ rest → IsOperand R ts mid y → null_at y rest ≡ Some x → IsBare R ts x.1 x.0
-  unfolding null_at nulled_at
-  null_sound ts mid rest (o.Literal l) x n h e =
+  unfolding null_at
+  null_sound ts mid rest y x n h e =
       elim (choose_some (after (s.Word words.Not) rest) _ _ (Some x) e) as (λ _. IsBare R ts x.1 x.0) [
-        | inl g ↦ absurd (no_null true l g.0 x g.2)
-        | inr b ↦ absurd (no_null false l rest x b.1)
-      ]
-  null_sound ts mid rest (o.Column z) x n h e =
-      let k : R ts mid z = column_back h z refl in
-      elim (choose_some (after (s.Word words.Not) rest) _ _ (Some x) e) as (λ _. IsBare R ts x.1 x.0) [
-        | inl g ↦
-            let f = bind_some (after (s.Word words.Null) g.0) _ x g.2 in
-            let m : mid ≡ Fixed (s.Word words.Is) ∷ Fixed (s.Word words.Not) ∷ Fixed (s.Word words.Null) ∷ f.0 = n ∙ ap (λ w. Fixed (s.Word words.Is) ∷ w) (two_are (s.Word words.Not) (s.Word words.Null) rest g.0 f.0 g.1 f.1) in
-            spells (IsBare R) ts f.0 (c.IsNotNull (o.Column z)) x (not_null (subst (λ w. R ts w z) m k)) f.2
-        | inr b ↦
-            let f = bind_some (after (s.Word words.Null) rest) _ x b.1 in
-            let m : mid ≡ Fixed (s.Word words.Is) ∷ Fixed (s.Word words.Null) ∷ f.0 = n ∙ ap (λ w. Fixed (s.Word words.Is) ∷ w) (after_is (s.Word words.Null) rest f.0 f.1) in
-            spells (IsBare R) ts f.0 (c.IsNull (o.Column z)) x (null (subst (λ w. R ts w z) m k)) f.2
+        | inl g ↦ nulled_sound true ts mid g.0 y x (n ∙ ap (λ w. Fixed (s.Word words.Is) ∷ w) (after_is (s.Word words.Not) rest g.0 g.1)) h g.2
+        | inr b ↦ nulled_sound false ts mid rest y x n h b.1
       ]
 
   compared_sound : (ts mid : List Token) (y : Operand C) (x : Filter C × List Token) → IsOperand R ts mid y → compared_at p y mid ≡ Some x → IsBare R ts x.1 x.0
@@ -136,14 +114,14 @@ module _ {C : Type 0} (R : Spelling C) (p : Parser C) (reads : Sound (nonempty_a
         | inl g ↦
             let f = bind_some (operand_at p g.0.1) _ x g.2 in
             spells (IsBare R) ts f.0.1 (c.Compare g.0.0 y f.0.0) x (compare {op = g.0.0} (ends_at ts mid (Fixed (s.Mark (mark_of g.0.0)) ∷ g.0.1) y (op_is mid g.0 g.1) h) (operands.by g.0.1 f.0 f.1)) f.2
-        | inr b ↦ range_sound ts mid y x h b.1
+        | inr b ↦ range_sound false ts mid mid y x refl h b.1
       ]
 
   tail_sound : (ts mid : List Token) (y : Operand C) (x : Filter C × List Token) → IsOperand R ts mid y → tail_at p y mid ≡ Some x → IsBare R ts x.1 x.0
   unfolding tail_at
   tail_sound ts mid y x h e =
       elim (choose_some (after (s.Word words.Not) mid) _ _ (Some x) e) as (λ _. IsBare R ts x.1 x.0) [
-        | inl g ↦ not_range_sound ts mid g.0 y x (after_is (s.Word words.Not) mid g.0 g.1) h g.2
+        | inl g ↦ range_sound true ts mid g.0 y x (after_is (s.Word words.Not) mid g.0 g.1) h g.2
         | inr b ↦
             elim (choose_some (after (s.Word words.Is) mid) _ _ (Some x) b.1) as (λ _. IsBare R ts x.1 x.0) [
               | inl g ↦ null_sound ts mid g.0 y x (after_is (s.Word words.Is) mid g.0 g.1) h g.2
@@ -163,21 +141,28 @@ module _ {C : Type 0} (R : Spelling C) (p : Parser C) (reads : Sound (nonempty_a
 tame_literals : Tame (IsList IsLiteral)
 tame_literals = tame_list IsLiteral tame_literal
 
+-- with a NOT in front there are no fewer tokens
+not_longer : (negated : Bool) (ts : List Token) → length ts ≤ length (not_if negated ts)
+not_longer true ts = omega arith
+not_longer false ts = omega arith
+
 module _ {C : Type 0} (R : Spelling C) (r : Shorter R) where
   operand_less : Shorter (IsOperand R)
   operand_less = operand_shorter R r
 
   less : {from to : List Token} {x : Filter C} → IsBare R from to x → length to < length from
   less (compare a b) = let p = operand_less.by a in let q = operand_less.by b in omega arith
-  less (between a b d) = let p = operand_less.by a in let q = operand_less.by b in let k = operand_less.by d in omega arith
-  less (not_between a b d) = let p = operand_less.by a in let q = operand_less.by b in let k = operand_less.by d in omega arith
-  less (among a b) = let p = operand_less.by a in let q = tame_literals.shorter b in omega arith
-  less (not_among a b) = let p = operand_less.by a in let q = tame_literals.shorter b in omega arith
-  less (null a) = let p = r.by a in omega arith
-  less (not_null a) = let p = r.by a in omega arith
+  less (between negated {low = low} a b d) = let p = operand_less.by a in let q = operand_less.by b in let k = operand_less.by d in let n = not_longer negated (Fixed (s.Word words.Between) ∷ low) in omega arith
+  less (among negated {mid = mid} a b) = let p = operand_less.by a in let q = tame_literals.shorter b in let n = not_longer negated (Fixed (s.Word words.In) ∷ Fixed (s.Mark marks.Open) ∷ mid) in omega arith
+  less (null negated {to = to} a) = let p = r.by a in let n = not_longer negated (Fixed (s.Word words.Null) ∷ to) in omega arith
 
   pub bare_shorter : Shorter (IsBare R)
   bare_shorter = record { by = λ h. less h }
+
+-- a NOT is no parenthesis
+pub not_within : (negated : Bool) (ts : List Token) (d : ℕ) → HasRoom d (not_if negated ts) → HasRoom d ts
+not_within true ts d h = h
+not_within false ts d h = h
 
 -- an operator is no parenthesis
 pub mark_within : (y : Op) (ts : List Token) (d : ℕ) → HasRoom d (Fixed (s.Mark (mark_of y)) ∷ ts) → HasRoom d ts
@@ -199,12 +184,9 @@ module _ {C : Type 0} (R : Spelling C) (t : Tame R) where
 
   bare_within : {from to : List Token} {x : Filter C} → IsBare R from to x → (d : ℕ) → HasRoom d from → HasRoom d to
   bare_within (compare {mid = mid} {op = y} a b) d h = operand_tame.within b d (mark_within y mid d (operand_tame.within a d h))
-  bare_within (between a b g) d h = operand_tame.within g d (operand_tame.within b d (operand_tame.within a d h))
-  bare_within (not_between a b g) d h = operand_tame.within g d (operand_tame.within b d (operand_tame.within a d h))
-  bare_within (among {mid = mid} {to = to} {ys = ys} a b) d h = members_within mid to ys b d (operand_tame.within a d h)
-  bare_within (not_among {mid = mid} {to = to} {ys = ys} a b) d h = members_within mid to ys b d (operand_tame.within a d h)
-  bare_within (null a) d h = t.within a d h
-  bare_within (not_null a) d h = t.within a d h
+  bare_within (between negated {low = low} a b g) d h = operand_tame.within g d (operand_tame.within b d (not_within negated (Fixed (s.Word words.Between) ∷ low) d (operand_tame.within a d h)))
+  bare_within (among negated {mid = mid} {to = to} {ys = ys} a b) d h = members_within mid to ys b d (not_within negated (Fixed (s.Word words.In) ∷ Fixed (s.Mark marks.Open) ∷ mid) d (operand_tame.within a d h))
+  bare_within (null negated {to = to} a) d h = not_within negated (Fixed (s.Word words.Null) ∷ to) d (t.within a d h)
 
   pub tame_bare : Tame (IsBare R)
   tame_bare = record { shorter = λ h. (bare_shorter R (tame_shorter R t)).by h; within = λ h d w. bare_within h d w }

@@ -2,7 +2,7 @@
 -- Source: SQL-92, 8.2 <comparison predicate>, 8.3 <between predicate>, 8.4 <in predicate>, 8.6 <null predicate>
 -- and 8.12 <search condition>, cut down.
 -- The families take as a parameter what may stand in a test beside literals: R spells it.
-use Rattle.std.specs.Prelude.{List, [], ◌∷◌}
+use Rattle.std.specs.Prelude.{Bool, true, false, List, [], ◌∷◌}
 use Rattle.ssb_terms.specs.declared.operator.Op.{Op}
 use Rattle.ssb_terms.specs.declared.operator.Op.TheVariants as op
 use Rattle.ssb_tokens.specs.declared.token.Token.{Token}
@@ -25,19 +25,21 @@ mark_of op.Le = marks.LessEqual
 mark_of op.Gt = marks.Greater
 mark_of op.Ge = marks.GreaterEqual
 
+-- [NOT]
+abbrev pub not_if : Bool → List Token → List Token
+not_if true ts = word words.Not ∷ ts
+not_if false ts = ts
+
 -- a test with no parentheses round it
 pub data IsBare {C : Type 0} (R : Spelling C) : List Token → List Token → Filter C → Type 0 where
   -- operand op operand
   compare : {from mid to : List Token} {op : Op} {x y : Operand C} → IsOperand R from (mark (mark_of op) ∷ mid) x → IsOperand R mid to y → IsBare R from to (c.Compare op x y)
   -- operand [NOT] BETWEEN operand AND operand
-  between : {from low high to : List Token} {x y z : Operand C} → IsOperand R from (word words.Between ∷ low) x → IsOperand R low (word words.And ∷ high) y → IsOperand R high to z → IsBare R from to (c.Between x y z)
-  not_between : {from low high to : List Token} {x y z : Operand C} → IsOperand R from (word words.Not ∷ word words.Between ∷ low) x → IsOperand R low (word words.And ∷ high) y → IsOperand R high to z → IsBare R from to (c.NotBetween x y z)
+  between : (negated : Bool) {from low high to : List Token} {x y z : Operand C} → IsOperand R from (not_if negated (word words.Between ∷ low)) x → IsOperand R low (word words.And ∷ high) y → IsOperand R high to z → IsBare R from to (c.Between x y z negated)
   -- operand [NOT] IN "(" literal {"," literal} ")"
-  among : {from mid to : List Token} {x : Operand C} {ys : List Literal} → IsOperand R from (word words.In ∷ mark marks.Open ∷ mid) x → IsList IsLiteral mid (mark marks.Close ∷ to) ys → IsBare R from to (c.In x ys)
-  not_among : {from mid to : List Token} {x : Operand C} {ys : List Literal} → IsOperand R from (word words.Not ∷ word words.In ∷ mark marks.Open ∷ mid) x → IsList IsLiteral mid (mark marks.Close ∷ to) ys → IsBare R from to (c.NotIn x ys)
+  among : (negated : Bool) {from mid to : List Token} {x : Operand C} {ys : List Literal} → IsOperand R from (not_if negated (word words.In ∷ mark marks.Open ∷ mid)) x → IsList IsLiteral mid (mark marks.Close ∷ to) ys → IsBare R from to (c.In x ys negated)
   -- R IS [NOT] NULL
-  null : {from to : List Token} {x : C} → R from (word words.Is ∷ word words.Null ∷ to) x → IsBare R from to (c.IsNull (operand.Column x))
-  not_null : {from to : List Token} {x : C} → R from (word words.Is ∷ word words.Not ∷ word words.Null ∷ to) x → IsBare R from to (c.IsNotNull (operand.Column x))
+  null : (negated : Bool) {from to : List Token} {x : C} → R from (word words.Is ∷ not_if negated (word words.Null ∷ to)) x → IsBare R from to (c.IsNull (operand.Column x) negated)
 
 abbrev pub or_chain : {C : Type 0} → List (Filter C) → Filter C
 or_chain = chain_of c.Any

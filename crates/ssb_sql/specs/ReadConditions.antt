@@ -40,14 +40,6 @@ limits_at p ts = operand_at p ts >>= λ x. after (s.Word words.And) x.1 >>= λ r
 abbrev pub members_at : Parser (List Literal)
 members_at = parens_at (list_at literal_at)
 
-abbrev pub between_of : {C : Type 0} → Bool → Operand C → Operand C × Operand C → Filter C
-between_of true x l = c.NotBetween x l.0 l.1
-between_of false x l = c.Between x l.0 l.1
-
-abbrev pub in_of : {C : Type 0} → Bool → Operand C → List Literal → Filter C
-in_of true x ys = c.NotIn x ys
-in_of false x ys = c.In x ys
-
 -- IN "(" literal {"," literal} ")"
 unfoldable pub among_at : Parser (List Literal)
 among_at ts = after (s.Word words.In) ts >>= λ rest. members_at rest
@@ -55,13 +47,12 @@ among_at ts = after (s.Word words.In) ts >>= λ rest. members_at rest
 -- BETWEEN or IN, after the operand and a NOT if there is one
 unfoldable pub range_at : {C : Type 0} → Parser C → Bool → Operand C → Parser (Filter C)
 range_at p negated x ts =
-    choose (after (s.Word words.Between) ts) (λ rest. limits_at p rest >>= λ l. Some (between_of negated x l.0, l.1))
-    (among_at ts >>= λ ys. Some (in_of negated x ys.0, ys.1))
+    choose (after (s.Word words.Between) ts) (λ rest. limits_at p rest >>= λ l. Some (c.Between x l.0.0 l.0.1 negated, l.1))
+    (among_at ts >>= λ ys. Some (c.In x ys.0 negated, ys.1))
 
 -- whether a column has no value, or whether it has one
 abbrev pub null_of : {C : Type 0} → Bool → Operand C → Option (Filter C)
-null_of true (o.Column x) = Some (c.IsNotNull (o.Column x))
-null_of false (o.Column x) = Some (c.IsNull (o.Column x))
+null_of negated (o.Column x) = Some (c.IsNull (o.Column x) negated)
 null_of negated (o.Literal l) = None
 
 -- NULL, after the operand, IS and a NOT if there is one

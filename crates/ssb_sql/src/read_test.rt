@@ -4,7 +4,7 @@ ghost use Rattle.std.specs.Prelude.{◌≡◌, [], ◌∷◌};
 ghost use Rattle.ssb_tokens.specs.Reading.{Gives, seen, seen_if};
 ghost use Rattle.ssb_sql.specs.Steps.{after, more_at, list_at};
 ghost use Rattle.ssb_sql.specs.ReadParts.{literal_at, operand_at};
-ghost use Rattle.ssb_sql.specs.ReadConditions.{op_of, op_at, limits_at, among_at, between_of, in_of, range_at, null_of, nulled_at, null_at, compared_at, tail_at, bare_at};
+ghost use Rattle.ssb_sql.specs.ReadConditions.{op_of, op_at, limits_at, among_at, range_at, null_of, nulled_at, null_at, compared_at, tail_at, bare_at};
 ghost use Rattle.ssb_tokens.specs.declared.token.Sign.TheVariants as s;
 
 use crate::chain::{COMMA, chain};
@@ -71,31 +71,6 @@ fn among(alloc: Global, tokens: &[Token]) -> Parsed<'_, Items<Literal>>
     closing(found, rest)
 }
 
-fn between_of<C: Drop>(
-    negated: bool,
-    operand: Operand<C>,
-    limits: (Operand<C>, Operand<C>),
-) -> Filter<C>
-    ensures { result ≡ between_of negated operand limits }
-{
-    let (low, high) = limits;
-    if negated {
-        Condition::NotBetween(operand, low, high)
-    } else {
-        Condition::Between(operand, low, high)
-    }
-}
-
-fn in_of<C: Drop>(negated: bool, operand: Operand<C>, members: Items<Literal>) -> Filter<C>
-    ensures { result ≡ in_of negated operand members }
-{
-    if negated {
-        Condition::NotIn(operand, members)
-    } else {
-        Condition::In(operand, members)
-    }
-}
-
 // BETWEEN or IN, after the operand and a NOT if there is one.
 #[tactic(auto, unfolding(crate::specs::ReadConditions::range_at))]
 fn range<C: Subject>(
@@ -109,12 +84,23 @@ fn range<C: Subject>(
 {
     match after(tokens, Sign::Word(Keyword::Between)) {
         Some(rest) => {
-            let (limits, rest) = limits(alloc, depth, rest)?;
-            Ok((between_of(negated, operand, limits), rest))
+            let ((low, high), rest) = limits(alloc, depth, rest)?;
+            let found = Condition::Between {
+                operand,
+                low,
+                high,
+                negated,
+            };
+            Ok((found, rest))
         }
         None => {
-            let (members, rest) = among(alloc, tokens)?;
-            Ok((in_of(negated, operand, members), rest))
+            let (literals, rest) = among(alloc, tokens)?;
+            let found = Condition::In {
+                operand,
+                literals,
+                negated,
+            };
+            Ok((found, rest))
         }
     }
 }
@@ -123,8 +109,7 @@ fn null_of<C: Drop>(negated: bool, operand: Operand<C>) -> Option<Filter<C>>
     ensures { result ≡ null_of negated operand }
 {
     match &operand {
-        Operand::Column(_) if negated => Some(Condition::IsNotNull(operand)),
-        Operand::Column(_) => Some(Condition::IsNull(operand)),
+        Operand::Column(_) => Some(Condition::IsNull { operand, negated }),
         Operand::Literal(_) => None,
     }
 }

@@ -14,12 +14,9 @@ of_form O (Condition-F.Any parts) = roll-Condition O (Condition-F.Any parts)
 of_form O (Condition-F.All parts) = roll-Condition O (Condition-F.All parts)
 of_form O (Condition-F.Not part) = condition.Not part
 of_form O (Condition-F.Compare op a b) = condition.Compare op a b
-of_form O (Condition-F.Between x a b) = condition.Between x a b
-of_form O (Condition-F.NotBetween x a b) = condition.NotBetween x a b
-of_form O (Condition-F.In x literals) = condition.In x literals
-of_form O (Condition-F.NotIn x literals) = condition.NotIn x literals
-of_form O (Condition-F.IsNull x) = condition.IsNull x
-of_form O (Condition-F.IsNotNull x) = condition.IsNotNull x
+of_form O (Condition-F.Between x a b negated) = condition.Between x a b negated
+of_form O (Condition-F.In x literals negated) = condition.In x literals negated
+of_form O (Condition-F.IsNull x negated) = condition.IsNull x negated
 
 pub rolls : (O : Type 0) (x : Condition-F O (Condition O)) → of_form O x ≡ roll-Condition O x
 unfolding roll-Condition denote.Hole.Carrier.roll
@@ -27,12 +24,9 @@ rolls O (Condition-F.Any parts) = refl
 rolls O (Condition-F.All parts) = refl
 rolls O (Condition-F.Not part) = refl
 rolls O (Condition-F.Compare op a b) = refl
-rolls O (Condition-F.Between x a b) = refl
-rolls O (Condition-F.NotBetween x a b) = refl
-rolls O (Condition-F.In x literals) = refl
-rolls O (Condition-F.NotIn x literals) = refl
-rolls O (Condition-F.IsNull x) = refl
-rolls O (Condition-F.IsNotNull x) = refl
+rolls O (Condition-F.Between x a b negated) = refl
+rolls O (Condition-F.In x literals negated) = refl
+rolls O (Condition-F.IsNull x negated) = refl
 
 pub operands_of : (O : Type 0) (c : Condition O) (x : Condition-F O (Condition O)) → c ≡ of_form O x → operands O c ≡ operands_layer O (map-Condition O (Condition O) (List O) (operands O) x)
 operands_of O c x is = ap (operands O) (is ∙ rolls O x) ∙ fold-roll-Condition O (List O) (operands_layer O) x

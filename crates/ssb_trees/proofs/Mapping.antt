@@ -68,12 +68,9 @@ module _ (O : Type 0) where
   cases (Condition-F.All es) = by_layer (Condition-F.All (map (λ e. e.0) es)) (ap (λ cs. roll-Condition O (Condition-F.All cs)) (all_stay es))
   cases (Condition-F.Not e) = by_layer (Condition-F.Not e.0) (ap (λ c. roll-Condition O (Condition-F.Not c)) e.1)
   cases (Condition-F.Compare op a b) = by_layer (Condition-F.Compare op a b) refl
-  cases (Condition-F.Between x a b) = by_layer (Condition-F.Between x a b) refl
-  cases (Condition-F.NotBetween x a b) = by_layer (Condition-F.NotBetween x a b) refl
-  cases (Condition-F.In x ls) = by_layer (Condition-F.In x ls) refl
-  cases (Condition-F.NotIn x ls) = by_layer (Condition-F.NotIn x ls) refl
-  cases (Condition-F.IsNull x) = by_layer (Condition-F.IsNull x) refl
-  cases (Condition-F.IsNotNull x) = by_layer (Condition-F.IsNotNull x) refl
+  cases (Condition-F.Between x a b negated) = by_layer (Condition-F.Between x a b negated) refl
+  cases (Condition-F.In x ls negated) = by_layer (Condition-F.In x ls negated) refl
+  cases (Condition-F.IsNull x negated) = by_layer (Condition-F.IsNull x negated) refl
 
   pub mapped_same : (c : Condition O) → mapped O O same c ≡ c
   mapped_same = ind-Condition O Stays (λ x y is. subst (λ z. Stays (roll-Condition O z)) is (cases y))

@@ -68,16 +68,11 @@ module _ (A O P S : Type 0) (g : A → O) (f : A → P) (given : S → O → P) 
   cases (Condition-F.Not e) = λ rest. by_layer (Condition-F.Not e.0) (Condition-F.Not (mapped A O g e.0)) rest refl (ap (λ (r : Condition P × S). (condition.Not r.0, r.1)) (e.1 rest))
   cases (Condition-F.Compare op a b) = λ rest.
       by_layer (Condition-F.Compare op a b) (Condition-F.Compare op (g a) (g b)) rest refl (λ j. (condition.Compare op (gives a (b ∷ rest) j) (second a b rest j), two_on a b rest j))
-  cases (Condition-F.Between x a b) = λ rest.
-      by_layer (Condition-F.Between x a b) (Condition-F.Between (g x) (g a) (g b)) rest refl
-      (λ j. (condition.Between (gives x (a ∷ b ∷ rest) j) (second x a (b ∷ rest) j) (third x a b rest j), three_on x a b rest j))
-  cases (Condition-F.NotBetween x a b) = λ rest.
-      by_layer (Condition-F.NotBetween x a b) (Condition-F.NotBetween (g x) (g a) (g b)) rest refl
-      (λ j. (condition.NotBetween (gives x (a ∷ b ∷ rest) j) (second x a (b ∷ rest) j) (third x a b rest j), three_on x a b rest j))
-  cases (Condition-F.In x ls) = λ rest. by_layer (Condition-F.In x ls) (Condition-F.In (g x) ls) rest refl (λ j. (condition.In (gives x rest j) ls, moves x rest j))
-  cases (Condition-F.NotIn x ls) = λ rest. by_layer (Condition-F.NotIn x ls) (Condition-F.NotIn (g x) ls) rest refl (λ j. (condition.NotIn (gives x rest j) ls, moves x rest j))
-  cases (Condition-F.IsNull x) = λ rest. by_layer (Condition-F.IsNull x) (Condition-F.IsNull (g x)) rest refl (λ j. (condition.IsNull (gives x rest j), moves x rest j))
-  cases (Condition-F.IsNotNull x) = λ rest. by_layer (Condition-F.IsNotNull x) (Condition-F.IsNotNull (g x)) rest refl (λ j. (condition.IsNotNull (gives x rest j), moves x rest j))
+  cases (Condition-F.Between x a b negated) = λ rest.
+      by_layer (Condition-F.Between x a b negated) (Condition-F.Between (g x) (g a) (g b) negated) rest refl
+      (λ j. (condition.Between (gives x (a ∷ b ∷ rest) j) (second x a (b ∷ rest) j) (third x a b rest j) negated, three_on x a b rest j))
+  cases (Condition-F.In x ls negated) = λ rest. by_layer (Condition-F.In x ls negated) (Condition-F.In (g x) ls negated) rest refl (λ j. (condition.In (gives x rest j) ls negated, moves x rest j))
+  cases (Condition-F.IsNull x negated) = λ rest. by_layer (Condition-F.IsNull x negated) (Condition-F.IsNull (g x) negated) rest refl (λ j. (condition.IsNull (gives x rest j) negated, moves x rest j))
 
   pub turns : (c : Condition A) → Turns c
   turns = ind-Condition A Turns (λ x y is. subst (λ z. Turns (roll-Condition A z)) is (cases y))
@@ -185,18 +180,12 @@ module _ (O P S Q : Type 0) (given : S → O → P) (next : S → O → S) (h : 
   steps (Condition-F.Compare op a b) s =
       let t = next s a in
       goes_by (Condition-F.Compare op a b) s (Condition-F.Compare op (given s a) (given t b)) refl (ap₂ (condition.Compare op) (alike s a) (alike t b)) refl refl
-  steps (Condition-F.Between x a b) s =
+  steps (Condition-F.Between x a b negated) s =
       let t = next s x in
       let u = next t a in
-      goes_by (Condition-F.Between x a b) s (Condition-F.Between (given s x) (given t a) (given u b)) refl (λ j. condition.Between (alike s x j) (alike t a j) (alike u b j)) refl refl
-  steps (Condition-F.NotBetween x a b) s =
-      let t = next s x in
-      let u = next t a in
-      goes_by (Condition-F.NotBetween x a b) s (Condition-F.NotBetween (given s x) (given t a) (given u b)) refl (λ j. condition.NotBetween (alike s x j) (alike t a j) (alike u b j)) refl refl
-  steps (Condition-F.In x ls) s = goes_by (Condition-F.In x ls) s (Condition-F.In (given s x) ls) refl (ap (λ q. condition.In q ls) (alike s x)) refl refl
-  steps (Condition-F.NotIn x ls) s = goes_by (Condition-F.NotIn x ls) s (Condition-F.NotIn (given s x) ls) refl (ap (λ q. condition.NotIn q ls) (alike s x)) refl refl
-  steps (Condition-F.IsNull x) s = goes_by (Condition-F.IsNull x) s (Condition-F.IsNull (given s x)) refl (ap condition.IsNull (alike s x)) refl refl
-  steps (Condition-F.IsNotNull x) s = goes_by (Condition-F.IsNotNull x) s (Condition-F.IsNotNull (given s x)) refl (ap condition.IsNotNull (alike s x)) refl refl
+      goes_by (Condition-F.Between x a b negated) s (Condition-F.Between (given s x) (given t a) (given u b) negated) refl (λ j. condition.Between (alike s x j) (alike t a j) (alike u b j) negated) refl refl
+  steps (Condition-F.In x ls negated) s = goes_by (Condition-F.In x ls negated) s (Condition-F.In (given s x) ls negated) refl (ap (λ q. condition.In q ls negated) (alike s x)) refl refl
+  steps (Condition-F.IsNull x negated) s = goes_by (Condition-F.IsNull x negated) s (Condition-F.IsNull (given s x) negated) refl (ap (λ q. condition.IsNull q negated) (alike s x)) refl refl
 
   pub goes : (c : Condition O) (s : S) → Goes c s
   goes = ind-Condition O (λ c. (s : S) → Goes c s) (λ x y is. subst (λ z. (s : S) → Goes (roll-Condition O z) s) is (steps y))

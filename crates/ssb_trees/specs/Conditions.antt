@@ -24,12 +24,9 @@ mapped_layer O P f (Condition-F.Any parts) = condition.Any parts
 mapped_layer O P f (Condition-F.All parts) = condition.All parts
 mapped_layer O P f (Condition-F.Not part) = condition.Not part
 mapped_layer O P f (Condition-F.Compare op a b) = condition.Compare op (f a) (f b)
-mapped_layer O P f (Condition-F.Between x a b) = condition.Between (f x) (f a) (f b)
-mapped_layer O P f (Condition-F.NotBetween x a b) = condition.NotBetween (f x) (f a) (f b)
-mapped_layer O P f (Condition-F.In x literals) = condition.In (f x) literals
-mapped_layer O P f (Condition-F.NotIn x literals) = condition.NotIn (f x) literals
-mapped_layer O P f (Condition-F.IsNull x) = condition.IsNull (f x)
-mapped_layer O P f (Condition-F.IsNotNull x) = condition.IsNotNull (f x)
+mapped_layer O P f (Condition-F.Between x a b negated) = condition.Between (f x) (f a) (f b) negated
+mapped_layer O P f (Condition-F.In x literals negated) = condition.In (f x) literals negated
+mapped_layer O P f (Condition-F.IsNull x negated) = condition.IsNull (f x) negated
 
 -- the same condition with f of each operand
 abbrev pub mapped : (O P : Type 0) → (O → P) → Condition O → Condition P
@@ -48,12 +45,9 @@ in_order_layer O P S given next (Condition-F.Any parts) s = let r = each_in_orde
 in_order_layer O P S given next (Condition-F.All parts) s = let r = each_in_order parts s in (condition.All r.0, r.1)
 in_order_layer O P S given next (Condition-F.Not part) s = let r = part s in (condition.Not r.0, r.1)
 in_order_layer O P S given next (Condition-F.Compare op a b) s = let t = next s a in (condition.Compare op (given s a) (given t b), next t b)
-in_order_layer O P S given next (Condition-F.Between x a b) s = let t = next s x in let u = next t a in (condition.Between (given s x) (given t a) (given u b), next u b)
-in_order_layer O P S given next (Condition-F.NotBetween x a b) s = let t = next s x in let u = next t a in (condition.NotBetween (given s x) (given t a) (given u b), next u b)
-in_order_layer O P S given next (Condition-F.In x literals) s = (condition.In (given s x) literals, next s x)
-in_order_layer O P S given next (Condition-F.NotIn x literals) s = (condition.NotIn (given s x) literals, next s x)
-in_order_layer O P S given next (Condition-F.IsNull x) s = (condition.IsNull (given s x), next s x)
-in_order_layer O P S given next (Condition-F.IsNotNull x) s = (condition.IsNotNull (given s x), next s x)
+in_order_layer O P S given next (Condition-F.Between x a b negated) s = let t = next s x in let u = next t a in (condition.Between (given s x) (given t a) (given u b) negated, next u b)
+in_order_layer O P S given next (Condition-F.In x literals negated) s = (condition.In (given s x) literals negated, next s x)
+in_order_layer O P S given next (Condition-F.IsNull x negated) s = (condition.IsNull (given s x) negated, next s x)
 
 -- the same condition with what each operand becomes in its turn, and the state after the last
 abbrev pub in_order : (O P S : Type 0) → (S → O → P) → (S → O → S) → Condition O → S → Condition P × S
@@ -65,12 +59,9 @@ operands_layer O (Condition-F.Any parts) = concat parts
 operands_layer O (Condition-F.All parts) = concat parts
 operands_layer O (Condition-F.Not part) = part
 operands_layer O (Condition-F.Compare op a b) = a ∷ b ∷ []
-operands_layer O (Condition-F.Between x a b) = x ∷ a ∷ b ∷ []
-operands_layer O (Condition-F.NotBetween x a b) = x ∷ a ∷ b ∷ []
-operands_layer O (Condition-F.In x literals) = x ∷ []
-operands_layer O (Condition-F.NotIn x literals) = x ∷ []
-operands_layer O (Condition-F.IsNull x) = x ∷ []
-operands_layer O (Condition-F.IsNotNull x) = x ∷ []
+operands_layer O (Condition-F.Between x a b negated) = x ∷ a ∷ b ∷ []
+operands_layer O (Condition-F.In x literals negated) = x ∷ []
+operands_layer O (Condition-F.IsNull x negated) = x ∷ []
 
 -- the operands of a condition, in the order of its text, without the literals of IN
 abbrev pub operands : (O : Type 0) → Condition O → List O

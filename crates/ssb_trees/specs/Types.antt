@@ -112,12 +112,9 @@ mixed_layer kind (Condition-F.Any parts) = list_any (λ part. part) parts
 mixed_layer kind (Condition-F.All parts) = list_any (λ part. part) parts
 mixed_layer kind (Condition-F.Not part) = part
 mixed_layer kind (Condition-F.Compare op a b) = are_mixed kind a b
-mixed_layer kind (Condition-F.Between x a b) = are_mixed kind x a || are_mixed kind x b
-mixed_layer kind (Condition-F.NotBetween x a b) = are_mixed kind x a || are_mixed kind x b
-mixed_layer kind (Condition-F.In x literals) = is_mixed_list kind x literals
-mixed_layer kind (Condition-F.NotIn x literals) = is_mixed_list kind x literals
-mixed_layer kind (Condition-F.IsNull x) = false
-mixed_layer kind (Condition-F.IsNotNull x) = false
+mixed_layer kind (Condition-F.Between x a b negated) = are_mixed kind x a || are_mixed kind x b
+mixed_layer kind (Condition-F.In x literals negated) = is_mixed_list kind x literals
+mixed_layer kind (Condition-F.IsNull x negated) = false
 
 -- some comparison, BETWEEN or IN has a number beside a text
 abbrev pub is_mixed : {C : Type 0} → Kinds C → Filter C → Bool

@@ -13,18 +13,27 @@ pub enum Condition<O> {
     Not(Boxed<Condition<O>>),
     /// A comparison of the left operand to the right one.
     Compare(Op, O, O),
-    /// Whether the first operand lies between the second and the third.
-    Between(O, O, O),
-    /// Whether it does not.
-    NotBetween(O, O, O),
+    /// Whether the operand lies between two others.
+    Between {
+        operand: O,
+        low: O,
+        high: O,
+        /// Whether it is NOT BETWEEN.
+        negated: bool,
+    },
     /// Whether the operand is one of the literals.
-    In(O, Items<Literal>),
-    /// Whether it is none of them.
-    NotIn(O, Items<Literal>),
+    In {
+        operand: O,
+        literals: Items<Literal>,
+        /// Whether it is NOT IN.
+        negated: bool,
+    },
     /// Whether the operand has no value.
-    IsNull(O),
-    /// Whether the operand has a value.
-    IsNotNull(O),
+    IsNull {
+        operand: O,
+        /// Whether it is IS NOT NULL.
+        negated: bool,
+    },
 }
 
 // Written out, so that the crates above need no proof of how the parts of a condition are let go.
@@ -37,16 +46,28 @@ impl<O: Drop> Drop for Condition<O> {
                 drop(a);
                 drop(b);
             }
-            Condition::Between(x, a, b) | Condition::NotBetween(x, a, b) => {
-                drop(x);
-                drop(a);
-                drop(b);
+            Condition::Between {
+                operand,
+                low,
+                high,
+                negated: _,
+            } => {
+                drop(operand);
+                drop(low);
+                drop(high);
             }
-            Condition::In(x, literals) | Condition::NotIn(x, literals) => {
-                drop(x);
+            Condition::In {
+                operand,
+                literals,
+                negated: _,
+            } => {
+                drop(operand);
                 drop(literals);
             }
-            Condition::IsNull(x) | Condition::IsNotNull(x) => drop(x),
+            Condition::IsNull {
+                operand,
+                negated: _,
+            } => drop(operand),
         }
     }
 }

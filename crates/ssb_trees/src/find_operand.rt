@@ -47,12 +47,14 @@ fn in_condition<'a, O, T: Test<O>>(test: &T, condition: &'a Condition<O>) -> Opt
         Condition::All(parts) => in_parts(test, parts.as_slice()),
         Condition::Not(part) => in_condition(test, part.get()),
         Condition::Compare(_, a, b) => in_two(test, a, b),
-        Condition::Between(x, a, b) => in_three(test, x, a, b),
-        Condition::NotBetween(x, a, b) => in_three(test, x, a, b),
-        Condition::In(x, _) => in_leaf(test, x),
-        Condition::NotIn(x, _) => in_leaf(test, x),
-        Condition::IsNull(x) => in_leaf(test, x),
-        Condition::IsNotNull(x) => in_leaf(test, x),
+        Condition::Between {
+            operand,
+            low,
+            high,
+            ..
+        } => in_three(test, operand, low, high),
+        Condition::In { operand, .. } => in_leaf(test, operand),
+        Condition::IsNull { operand, .. } => in_leaf(test, operand),
     }
 }
 

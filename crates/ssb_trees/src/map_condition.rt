@@ -1,6 +1,6 @@
 // The same condition over other operands.
 
-ghost use Rattle.std.specs.Prelude.{◌≡◌, IfOk, cond, map};
+ghost use Rattle.std.specs.Prelude.{◌≡◌, IfOk, map};
 ghost use Rattle.ssb_trees.specs.Conditions.{each_in_order, in_order, mapped};
 ghost use Rattle.ssb_trees.specs.declared.condition.Condition.TheVariants as condition;
 
@@ -24,44 +24,55 @@ fn mapped_compare<O, P: Drop, M: LeavesInOrder<O, P>>(
     Ok(Condition::Compare(op, left, right))
 }
 
-// BETWEEN where the operand is to lie inside, NOT BETWEEN elsewhere.
-fn mapped_range<O, P: Drop, M: LeavesInOrder<O, P>>(
+fn mapped_between<O, P: Drop, M: LeavesInOrder<O, P>>(
     alloc: Global,
     operands: &mut M,
-    inside: bool,
-    x: &O,
-    a: &O,
-    b: &O,
+    operand: &O,
+    low: &O,
+    high: &O,
+    negated: bool,
 ) -> Made<Condition<P>>
-    ensures { let t = M.next operands.old x.now in let u = M.next t a.now in IfOk result (λ c. (c ≡ cond inside condition.Between condition.NotBetween (M.given operands.old x.now) (M.given t a.now) (M.given u b.now)) × (operands.new ≡ M.next u b.now)) }
+    ensures { let t = M.next operands.old operand.now in let u = M.next t low.now in IfOk result (λ c. (c ≡ condition.Between (M.given operands.old operand.now) (M.given t low.now) (M.given u high.now) negated) × (operands.new ≡ M.next u high.now)) }
 {
-    let x = operands.leaf(alloc, x)?;
-    let a = operands.leaf(alloc, a)?;
-    let b = operands.leaf(alloc, b)?;
-    Ok(if inside {
-        Condition::Between(x, a, b)
-    } else {
-        Condition::NotBetween(x, a, b)
+    let operand = operands.leaf(alloc, operand)?;
+    let low = operands.leaf(alloc, low)?;
+    let high = operands.leaf(alloc, high)?;
+    Ok(Condition::Between {
+        operand,
+        low,
+        high,
+        negated,
     })
 }
 
-// IN where the operand is to be one of the literals, NOT IN elsewhere.
-fn mapped_set<O, P: Drop, M: LeavesInOrder<O, P>>(
+fn mapped_in<O, P: Drop, M: LeavesInOrder<O, P>>(
     alloc: Global,
     operands: &mut M,
-    inside: bool,
-    x: &O,
+    operand: &O,
     literals: &[Literal],
+    negated: bool,
 ) -> Made<Condition<P>>
-    ensures { IfOk result (λ c. (c ≡ cond inside condition.In condition.NotIn (M.given operands.old x.now) literals.now) × (operands.new ≡ M.next operands.old x.now)) }
+    ensures { IfOk result (λ c. (c ≡ condition.In (M.given operands.old operand.now) literals.now negated) × (operands.new ≡ M.next operands.old operand.now)) }
 {
     let literals = copy_literals(alloc, literals)?;
-    let x = operands.leaf(alloc, x)?;
-    Ok(if inside {
-        Condition::In(x, literals)
-    } else {
-        Condition::NotIn(x, literals)
+    let operand = operands.leaf(alloc, operand)?;
+    Ok(Condition::In {
+        operand,
+        literals,
+        negated,
     })
+}
+
+fn mapped_null<O, P: Drop, M: LeavesInOrder<O, P>>(
+    alloc: Global,
+    operands: &mut M,
+    operand: &O,
+    negated: bool,
+) -> Made<Condition<P>>
+    ensures { IfOk result (λ c. (c ≡ condition.IsNull (M.given operands.old operand.now) negated) × (operands.new ≡ M.next operands.old operand.now)) }
+{
+    let operand = operands.leaf(alloc, operand)?;
+    Ok(Condition::IsNull { operand, negated })
 }
 
 #[cycle(condition)]
@@ -99,12 +110,18 @@ fn mapped_condition<O, P: Drop, M: LeavesInOrder<O, P>>(
             Boxed::new(alloc, part).map(Condition::Not)
         }
         Condition::Compare(op, a, b) => mapped_compare(alloc, operands, *op, a, b),
-        Condition::Between(x, a, b) => mapped_range(alloc, operands, true, x, a, b),
-        Condition::NotBetween(x, a, b) => mapped_range(alloc, operands, false, x, a, b),
-        Condition::In(x, literals) => mapped_set(alloc, operands, true, x, literals.as_slice()),
-        Condition::NotIn(x, literals) => mapped_set(alloc, operands, false, x, literals.as_slice()),
-        Condition::IsNull(x) => operands.leaf(alloc, x).map(Condition::IsNull),
-        Condition::IsNotNull(x) => operands.leaf(alloc, x).map(Condition::IsNotNull),
+        Condition::Between {
+            operand,
+            low,
+            high,
+            negated,
+        } => mapped_between(alloc, operands, operand, low, high, *negated),
+        Condition::In {
+            operand,
+            literals,
+            negated,
+        } => mapped_in(alloc, operands, operand, literals.as_slice(), *negated),
+        Condition::IsNull { operand, negated } => mapped_null(alloc, operands, operand, *negated),
     }
 }
 

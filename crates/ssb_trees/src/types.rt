@@ -161,12 +161,18 @@ fn is_mixed<C, K: Kinds<C>>(kinds: &K, condition: &Filter<C>) -> bool
         Condition::All(parts) => has_mixed_part(kinds, parts.as_slice()),
         Condition::Not(part) => is_mixed(kinds, part.get()),
         Condition::Compare(_, a, b) => are_mixed(kinds, a, b),
-        Condition::Between(x, a, b) => is_mixed_range(kinds, x, a, b),
-        Condition::NotBetween(x, a, b) => is_mixed_range(kinds, x, a, b),
-        Condition::In(x, literals) => is_mixed_list(kinds, x, literals.as_slice()),
-        Condition::NotIn(x, literals) => is_mixed_list(kinds, x, literals.as_slice()),
-        Condition::IsNull(_) => false,
-        Condition::IsNotNull(_) => false,
+        Condition::Between {
+            operand,
+            low,
+            high,
+            ..
+        } => is_mixed_range(kinds, operand, low, high),
+        Condition::In {
+            operand,
+            literals,
+            ..
+        } => is_mixed_list(kinds, operand, literals.as_slice()),
+        Condition::IsNull { .. } => false,
     }
 }
 

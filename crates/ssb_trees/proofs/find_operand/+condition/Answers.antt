@@ -39,22 +39,13 @@ pub in_condition-returns-in-Compare : goal.in_condition-returns-in-Compare
 in_condition-returns-in-Compare g t c = c.in_two.ensures ∙ ap (find (g.T.Test.passed c.args.test.now)) (sym (operands_of _ c.args.condition.now (Condition-F.Compare c.in-Compare.field-0 c.in-Compare.a c.in-Compare.b) c.in-Compare.is))
 
 pub in_condition-returns-in-Between : goal.in_condition-returns-in-Between
-in_condition-returns-in-Between g t c = c.in_three.ensures ∙ ap (find (g.T.Test.passed c.args.test.now)) (sym (operands_of _ c.args.condition.now (Condition-F.Between c.in-Between.x c.in-Between.a c.in-Between.b) c.in-Between.is))
-
-pub in_condition-returns-in-NotBetween : goal.in_condition-returns-in-NotBetween
-in_condition-returns-in-NotBetween g t c = c.in_three-in-NotBetween.ensures ∙ ap (find (g.T.Test.passed c.args.test.now)) (sym (operands_of _ c.args.condition.now (Condition-F.NotBetween c.in-NotBetween.x c.in-NotBetween.a c.in-NotBetween.b) c.in-NotBetween.is))
+in_condition-returns-in-Between g t c = c.in_three.ensures ∙ ap (find (g.T.Test.passed c.args.test.now)) (sym (operands_of _ c.args.condition.now (Condition-F.Between c.in-Between.operand c.in-Between.low c.in-Between.high c.in-Between.negated) c.in-Between.is))
 
 pub in_condition-returns-in-In : goal.in_condition-returns-in-In
-in_condition-returns-in-In g t c = c.in_leaf.ensures ∙ ap (find (g.T.Test.passed c.args.test.now)) (sym (operands_of _ c.args.condition.now (Condition-F.In c.in-In.x c.in-In.field-1) c.in-In.is))
-
-pub in_condition-returns-in-NotIn : goal.in_condition-returns-in-NotIn
-in_condition-returns-in-NotIn g t c = c.in_leaf-in-NotIn.ensures ∙ ap (find (g.T.Test.passed c.args.test.now)) (sym (operands_of _ c.args.condition.now (Condition-F.NotIn c.in-NotIn.x c.in-NotIn.field-1) c.in-NotIn.is))
+in_condition-returns-in-In g t c = c.in_leaf.ensures ∙ ap (find (g.T.Test.passed c.args.test.now)) (sym (operands_of _ c.args.condition.now (Condition-F.In c.in-In.operand c.in-In.literals c.in-In.negated) c.in-In.is))
 
 pub in_condition-returns-in-IsNull : goal.in_condition-returns-in-IsNull
-in_condition-returns-in-IsNull g t c = c.in_leaf-in-IsNull.ensures ∙ ap (find (g.T.Test.passed c.args.test.now)) (sym (operands_of _ c.args.condition.now (Condition-F.IsNull c.in-IsNull.x) c.in-IsNull.is))
-
-pub in_condition-returns-in-IsNotNull : goal.in_condition-returns-in-IsNotNull
-in_condition-returns-in-IsNotNull g t c = c.in_leaf-in-IsNotNull.ensures ∙ ap (find (g.T.Test.passed c.args.test.now)) (sym (operands_of _ c.args.condition.now (Condition-F.IsNotNull c.in-IsNotNull.x) c.in-IsNotNull.is))
+in_condition-returns-in-IsNull g t c = c.in_leaf-in-IsNull.ensures ∙ ap (find (g.T.Test.passed c.args.test.now)) (sym (operands_of _ c.args.condition.now (Condition-F.IsNull c.in-IsNull.operand c.in-IsNull.negated) c.in-IsNull.is))
 
 pub in_condition-in_parts-requires : goal.in_condition-in_parts-requires
 in_condition-in_parts-requires g t c = let e = any_size _ c.args.condition.now c.as_slice.result.now (c.in-Any.is ∙ ap condition.Any (sym c.as_slice.ensures)) in λ κs h. (omega arith, h)

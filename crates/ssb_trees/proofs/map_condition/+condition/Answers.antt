@@ -20,16 +20,10 @@ pub mapped_condition-returns-in-Compare : goal.mapped_condition-returns-in-Compa
 mapped_condition-returns-in-Compare g t c = is_due _ _ _ g.M.LeavesInOrder.given g.M.LeavesInOrder.next c.args.condition.now (Condition-F.Compare c.in-Compare.op c.in-Compare.a c.in-Compare.b) c.args.operands.now c.mapped_compare.result _ c.in-Compare.is c.mapped_compare.ensures
 
 pub mapped_condition-returns-in-Between : goal.mapped_condition-returns-in-Between
-mapped_condition-returns-in-Between g t c = is_due _ _ _ g.M.LeavesInOrder.given g.M.LeavesInOrder.next c.args.condition.now (Condition-F.Between c.in-Between.x c.in-Between.a c.in-Between.b) c.args.operands.now c.mapped_range.result _ c.in-Between.is c.mapped_range.ensures
-
-pub mapped_condition-returns-in-NotBetween : goal.mapped_condition-returns-in-NotBetween
-mapped_condition-returns-in-NotBetween g t c = is_due _ _ _ g.M.LeavesInOrder.given g.M.LeavesInOrder.next c.args.condition.now (Condition-F.NotBetween c.in-NotBetween.x c.in-NotBetween.a c.in-NotBetween.b) c.args.operands.now c.mapped_range-in-NotBetween.result _ c.in-NotBetween.is c.mapped_range-in-NotBetween.ensures
+mapped_condition-returns-in-Between g t c = is_due _ _ _ g.M.LeavesInOrder.given g.M.LeavesInOrder.next c.args.condition.now (Condition-F.Between c.in-Between.operand c.in-Between.low c.in-Between.high c.in-Between.negated) c.args.operands.now c.mapped_between.result _ c.in-Between.is c.mapped_between.ensures
 
 pub mapped_condition-returns-in-In : goal.mapped_condition-returns-in-In
-mapped_condition-returns-in-In g t c = is_due _ _ _ g.M.LeavesInOrder.given g.M.LeavesInOrder.next c.args.condition.now (Condition-F.In c.in-In.x c.in-In.literals) c.args.operands.now c.mapped_set.result _ c.in-In.is (rw c.as_slice-in-In.ensures at c.mapped_set.ensures)
-
-pub mapped_condition-returns-in-NotIn : goal.mapped_condition-returns-in-NotIn
-mapped_condition-returns-in-NotIn g t c = is_due _ _ _ g.M.LeavesInOrder.given g.M.LeavesInOrder.next c.args.condition.now (Condition-F.NotIn c.in-NotIn.x c.in-NotIn.literals) c.args.operands.now c.mapped_set-in-NotIn.result _ c.in-NotIn.is (rw c.as_slice-in-NotIn.ensures at c.mapped_set-in-NotIn.ensures)
+mapped_condition-returns-in-In g t c = is_due _ _ _ g.M.LeavesInOrder.given g.M.LeavesInOrder.next c.args.condition.now (Condition-F.In c.in-In.operand c.in-In.literals c.in-In.negated) c.args.operands.now c.mapped_in.result _ c.in-In.is (rw c.as_slice-in-In.ensures at c.mapped_in.ensures)
 
 pub mapped_condition-returns-in-Any : goal.mapped_condition-returns-in-Any
 mapped_condition-returns-in-Any g t c =
@@ -54,14 +48,7 @@ mapped_condition-returns-in_ok-part-in-Not g t c =
     (made_of c.new.result c.map-in-Not.result condition.Not _ _ c.map-in-Not.ensures.cases c.new.ensures (λ part h. (ap condition.Not (h ∙ made.0), made.1)))
 
 pub mapped_condition-returns-in-IsNull : goal.mapped_condition-returns-in-IsNull
-mapped_condition-returns-in-IsNull g t c =
-    is_due _ _ _ g.M.LeavesInOrder.given g.M.LeavesInOrder.next c.args.condition.now (Condition-F.IsNull c.in-IsNull.x) c.args.operands.now c.map-in-IsNull.result _ c.in-IsNull.is
-    (made_of c.leaf.result c.map-in-IsNull.result condition.IsNull _ _ c.map-in-IsNull.ensures.cases c.leaf.ensures (λ x h. (ap condition.IsNull h.0, h.1)))
-
-pub mapped_condition-returns-in-IsNotNull : goal.mapped_condition-returns-in-IsNotNull
-mapped_condition-returns-in-IsNotNull g t c =
-    is_due _ _ _ g.M.LeavesInOrder.given g.M.LeavesInOrder.next c.args.condition.now (Condition-F.IsNotNull c.in-IsNotNull.x) c.args.operands.now c.map-in-IsNotNull.result _ c.in-IsNotNull.is
-    (made_of c.leaf-in-IsNotNull.result c.map-in-IsNotNull.result condition.IsNotNull _ _ c.map-in-IsNotNull.ensures.cases c.leaf-in-IsNotNull.ensures (λ x h. (ap condition.IsNotNull h.0, h.1)))
+mapped_condition-returns-in-IsNull g t c = is_due _ _ _ g.M.LeavesInOrder.given g.M.LeavesInOrder.next c.args.condition.now (Condition-F.IsNull c.in-IsNull.operand c.in-IsNull.negated) c.args.operands.now c.mapped_null.result _ c.in-IsNull.is c.mapped_null.ensures
 
 pub mapped_condition-mapped_parts-requires-in-All : goal.mapped_condition-mapped_parts-requires-in-All
 mapped_condition-mapped_parts-requires-in-All g t c = let e = all_size _ c.args.condition.now c.as_slice-in-All.result.now (c.in-All.is ∙ ap condition.All (sym c.as_slice-in-All.ensures)) in λ κs h. (omega arith, h)

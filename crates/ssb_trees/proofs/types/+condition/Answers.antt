@@ -39,22 +39,13 @@ pub is_mixed-returns-in-Compare : goal.is_mixed-returns-in-Compare
 is_mixed-returns-in-Compare g t c = c.are_mixed.ensures ∙ sym (mixed_of _ (g.K.Kinds.kind c.args.kinds.now) c.args.condition.now (Condition-F.Compare c.in-Compare.field-0 c.in-Compare.a c.in-Compare.b) c.in-Compare.is)
 
 pub is_mixed-returns-in-Between : goal.is_mixed-returns-in-Between
-is_mixed-returns-in-Between g t c = c.is_mixed_range.ensures ∙ sym (mixed_of _ (g.K.Kinds.kind c.args.kinds.now) c.args.condition.now (Condition-F.Between c.in-Between.x c.in-Between.a c.in-Between.b) c.in-Between.is)
-
-pub is_mixed-returns-in-NotBetween : goal.is_mixed-returns-in-NotBetween
-is_mixed-returns-in-NotBetween g t c = c.is_mixed_range-in-NotBetween.ensures ∙ sym (mixed_of _ (g.K.Kinds.kind c.args.kinds.now) c.args.condition.now (Condition-F.NotBetween c.in-NotBetween.x c.in-NotBetween.a c.in-NotBetween.b) c.in-NotBetween.is)
+is_mixed-returns-in-Between g t c = c.is_mixed_range.ensures ∙ sym (mixed_of _ (g.K.Kinds.kind c.args.kinds.now) c.args.condition.now (Condition-F.Between c.in-Between.operand c.in-Between.low c.in-Between.high c.in-Between.negated) c.in-Between.is)
 
 pub is_mixed-returns-in-In : goal.is_mixed-returns-in-In
-is_mixed-returns-in-In g t c = (rw c.as_slice-in-In.ensures at c.is_mixed_list.ensures) ∙ sym (mixed_of _ (g.K.Kinds.kind c.args.kinds.now) c.args.condition.now (Condition-F.In c.in-In.x c.in-In.literals) c.in-In.is)
-
-pub is_mixed-returns-in-NotIn : goal.is_mixed-returns-in-NotIn
-is_mixed-returns-in-NotIn g t c = (rw c.as_slice-in-NotIn.ensures at c.is_mixed_list-in-NotIn.ensures) ∙ sym (mixed_of _ (g.K.Kinds.kind c.args.kinds.now) c.args.condition.now (Condition-F.NotIn c.in-NotIn.x c.in-NotIn.literals) c.in-NotIn.is)
+is_mixed-returns-in-In g t c = (rw c.as_slice-in-In.ensures at c.is_mixed_list.ensures) ∙ sym (mixed_of _ (g.K.Kinds.kind c.args.kinds.now) c.args.condition.now (Condition-F.In c.in-In.operand c.in-In.literals c.in-In.negated) c.in-In.is)
 
 pub is_mixed-returns-in-IsNull : goal.is_mixed-returns-in-IsNull
-is_mixed-returns-in-IsNull g t c = sym (mixed_of _ (g.K.Kinds.kind c.args.kinds.now) c.args.condition.now (Condition-F.IsNull c.in-IsNull.field-0) c.in-IsNull.is)
-
-pub is_mixed-returns-in-IsNotNull : goal.is_mixed-returns-in-IsNotNull
-is_mixed-returns-in-IsNotNull g t c = sym (mixed_of _ (g.K.Kinds.kind c.args.kinds.now) c.args.condition.now (Condition-F.IsNotNull c.in-IsNotNull.field-0) c.in-IsNotNull.is)
+is_mixed-returns-in-IsNull g t c = sym (mixed_of _ (g.K.Kinds.kind c.args.kinds.now) c.args.condition.now (Condition-F.IsNull c.in-IsNull.operand c.in-IsNull.negated) c.in-IsNull.is)
 
 pub has_mixed_part-loop-part-init : goal.has_mixed_part-loop-part-init
 has_mixed_part-loop-part-init g t c = refl

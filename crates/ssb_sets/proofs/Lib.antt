@@ -1,0 +1,4 @@
+mod JoinFacts
+mod MergeFacts
+mod ParityFacts
+mod SetFacts

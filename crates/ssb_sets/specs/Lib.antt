@@ -1,0 +1,4 @@
+pub mod Joins
+pub mod Merging
+pub mod NumberSets
+pub mod Orders

@@ -3,7 +3,7 @@
 ghost use Rattle.std.specs.Prelude.{◌≡◌, length};
 
 use crate::folder::{catalog_in, sources_of};
-use crate::job::micros_since;
+use crate::tables::micros_since;
 use ssb_answer::{Database, Joined, Settings};
 use ssb_load::{Catalog, In};
 use std::fs::File;

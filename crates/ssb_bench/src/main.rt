@@ -14,19 +14,19 @@
 //! The catalog of a folder lies in it as `catalog`. The status is 1 where a file or a growth failed, or
 //! a file is not what it should be, and 2 where the words are others.
 //!
-//! - Files: `folder`, the files of a folder; `read`, records counted; `load`, loading alone; `job`, the job of a
-//!   query; `run`, its answers, timed.
+//! - Files: `folder`, the files of a folder; `read`, records counted; `load`, loading alone; `tables`, loaded;
+//!   `run`, a query's answers, timed.
 #![tactic(auto)]
 
 mod folder;
-mod job;
 mod load;
 mod read;
 mod run;
+mod tables;
 
 use load::loading_time;
 use read::count_records;
-use run::{By, own_time, whole_time};
+use run::{By, Since, answer_time};
 use ssb_answer::Settings;
 use std::alloc::AllocError;
 use std::fs::File;
@@ -105,13 +105,6 @@ fn workers(workers: &str, morsel_size: &str, parts: &str, batch: &str) -> Option
     Some(By::Workers(settings))
 }
 
-// From where on an answer is timed.
-#[derive(Clone, Copy)]
-enum Since {
-    Job,
-    Text,
-}
-
 // Prints the least milliseconds of so many answers, given by such workers.
 fn print_least<R: Files + Clock + Print + Threads + Wait + Sync + AllocGlobal>(
     rt: &R,
@@ -123,12 +116,7 @@ fn print_least<R: Files + Clock + Print + Threads + Wait + Sync + AllocGlobal>(
     let (Some(by), Ok(times)) = (by, times.parse()) else {
         return BAD_WORDS;
     };
-    let [folder, path] = files;
-    let least = match since {
-        Since::Job => own_time(rt, folder, path, by, times),
-        Since::Text => whole_time(rt, folder, path, by, times),
-    };
-    let Some(micros) = least else {
+    let Some(micros) = answer_time(rt, files, since, by, times) else {
         return FAILED;
     };
     status_of(print_micros(rt, "answering", micros))
@@ -140,34 +128,26 @@ fn print_answer_time<R: Files + Clock + Print + Threads + Wait + Sync + AllocGlo
     since: Since,
     given: &[String],
 ) -> u8 {
-    match given {
-        [folder, path, morsel_size, times] => {
-            let by = alone(morsel_size.as_str());
-            print_least(
-                rt,
-                [folder.as_str(), path.as_str()],
-                since,
-                by,
-                times.as_str(),
-            )
-        }
-        [folder, path, morsel_size, times, count, parts, batch] => {
-            let by = workers(
-                count.as_str(),
-                morsel_size.as_str(),
-                parts.as_str(),
-                batch.as_str(),
-            );
-            print_least(
-                rt,
-                [folder.as_str(), path.as_str()],
-                since,
-                by,
-                times.as_str(),
-            )
-        }
-        _ => BAD_WORDS,
-    }
+    let by = match given {
+        [_, _, morsel_size, _] => alone(morsel_size.as_str()),
+        [_, _, morsel_size, _, count, parts, batch] => workers(
+            count.as_str(),
+            morsel_size.as_str(),
+            parts.as_str(),
+            batch.as_str(),
+        ),
+        _ => None,
+    };
+    let [folder, path, _, times, ..] = given else {
+        return BAD_WORDS;
+    };
+    print_least(
+        rt,
+        [folder.as_str(), path.as_str()],
+        since,
+        by,
+        times.as_str(),
+    )
 }
 
 // Does what the words ask, and gives the exit status.

@@ -1,13 +1,9 @@
-// The tables of a folder, the job of a query over them, and how long something took.
+// The tables of a folder, and how long something took.
 
-use crate::folder::{catalog_in, sources_of};
+use crate::folder::sources_of;
 use ssb_answer::Database;
-use ssb_job::Job;
 use ssb_load::{Catalog, PIECE_SIZE};
-use std::alloc::Global;
-use std::fs;
 use std::rt::{Clock, Files};
-use std::sync::Arc;
 use std::time::Instant;
 
 // How long ago a moment was, in microseconds.
@@ -24,17 +20,4 @@ pub(crate) fn database_in<'a, R: Files + AllocGlobal>(
 ) -> Option<Database<'a>> {
     let mut sources = sources_of(rt, folder, catalog, 1)?;
     Database::load_alone(rt.alloc(), catalog, &mut sources, PIECE_SIZE).ok()
-}
-
-/// The job of a query's file over the tables of a folder, whose catalog lies in it as `catalog`; none
-/// where a file is missing, or is not what it should be.
-pub(crate) fn job_in<R: Files + AllocGlobal>(
-    rt: &R,
-    folder: &str,
-    path: &str,
-) -> Option<Arc<Job, Global>> {
-    let catalog = catalog_in(rt, folder)?;
-    let text = fs::read_to_string(rt, path).ok()?;
-    let database = database_in(rt, folder, &catalog)?;
-    database.job(rt.alloc(), text.as_str()).ok()
 }

@@ -54,15 +54,19 @@ TEXTS = {
 }
 
 # What `answer` answers beside the benchmark's queries: long lists over one column.
+# Behind each list a filter of a later column, which keeps no row: what is timed is then the list's own filter.
+NO_ROW = "lo_shipmode = 'NONE'"
+
+
 def listed(column, numbers, between, test):
     """A query whose condition is the tests of a column by each of some numbers, with a word between them."""
     tests = f" {between} ".join(f"{column} {test} {number}" for number in numbers)
-    return f"select count(*) from lineorder where {tests}\n"
+    return f"select count(*) from lineorder where ({tests}) and {NO_ROW}\n"
 
 
 def among(column, literals, negated=""):
     """A query whose condition is a list of literals."""
-    return f"select count(*) from lineorder where {column} {negated}in ({','.join(map(str, literals))})\n"
+    return f"select count(*) from lineorder where {column} {negated}in ({','.join(map(str, literals))}) and {NO_ROW}\n"
 
 
 LISTS = {
@@ -74,7 +78,7 @@ LISTS = {
     "4,000-sparse": among("lo_revenue", range(90000, 10090000, 2500)),
     "4,000-not-in": among("lo_revenue", range(90000, 10090000, 2500), "not "),
     "4,000-odd": among("lo_orderkey", [*range(1, 7999, 2), 2000000, 4000000]),
-    "1,000-texts": among("lo_shipmode", ["'AIR'", "'RAIL'", *(f"'NO {at}'" for at in range(998))]),
+    "1,000-texts": among("lo_orderpriority", ["'1-URGENT'", "'5-LOW'", *(f"'NO {at}'" for at in range(998))]),
 }
 
 # Beside which sum the time of a least or a greatest value stands.

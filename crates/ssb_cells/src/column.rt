@@ -234,6 +234,15 @@ impl Column {
         texts_in(&self.stored).dictionary.find(letters)
     }
 
+    /// How many different texts this text column has: their codes are the numbers below that. It takes no
+    /// memory.
+    pub fn text_count(&self) -> u32
+        requires kind { self.now.kind ≡ kinds.Text }
+        ensures { result ≡ length (texts_of self.now.values) }
+    {
+        texts_in(&self.stored).dictionary.len()
+    }
+
     /// The text of a code of this text column. It takes no memory.
     pub fn spelt(&self, code: u32) -> &str
         requires kind { self.now.kind ≡ kinds.Text }

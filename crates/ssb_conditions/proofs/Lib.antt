@@ -1,7 +1,9 @@
 pub mod Cells
-pub mod CodedFacts
-pub mod RangeFacts
+pub mod ColumnFacts
+pub mod ColumnRows
+pub mod Encodings
+pub mod Own
 pub mod SetFacts
+pub mod TableRows
 pub mod Together
-pub mod UnitedFacts
 mod Saying

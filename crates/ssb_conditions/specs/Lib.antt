@@ -1,10 +1,9 @@
-pub mod Coded
+pub mod Filters
 pub mod Holds
-pub mod Local
 pub mod Only
-pub mod Ranged
 pub mod Rows
 pub mod Sets
+pub mod Together
 pub use Rattle.ssb_cells.specs.Cell
 pub use Rattle.ssb_cells.specs.Tables
 pub use Rattle.ssb_cells.specs.Truth

@@ -1,31 +1,30 @@
-//! Conditions over rows: what one says, by three-valued logic, and quick tests of those over one table.
+//! Conditions over rows: what one says, by three-valued logic, and what those over one table ask of its columns.
 //!
-//! - Offers: [`truth_of`] and [`eval`], over whatever operands have values; [`local_tests`], conditions
-//!   over one table, tested by codes ([`CodeTest`]), by a range ([`RangeTest`]), by a set ([`SetTest`]) or by
-//!   what they say.
+//! - Offers: [`truth_of`] and [`eval`], over whatever operands have values; [`TableFilter`], the rows of one
+//!   table that meet the conjuncts over it: a [`ColumnFilter`] for each column that some speak of alone, of one
+//!   [`ValueSet`], and the others evaluated.
 //! - Callers: `ssb_job`, for WHERE; `ssb_groups`, for the cells of a combination; `ssb_rows`, for HAVING.
 //! - Apart: it is evaluated by three crates, and its edits are tried without indexes and joins.
-//! - Files: `valuation`, `evaluation`, `value`: what a condition says; `only`, `local`, `coded`,
-//!   `united`, `ranged`, `sets`: conditions over one table.
-//! - Definitions: `Holds`, `Rows`; `Only`, `Local`, `Coded`, `Ranged`, `Sets`: for the contracts here and in the
-//!   next crate.
+//! - Files: `valuation`, `evaluation`, `value`: what a condition says; `only`, `sole`: which tables and columns
+//!   it speaks of; `leaves`, `sets`: one over one column as a set; `column_filter`, `table_filter`: rows.
+//! - Definitions: `Holds`, `Rows`; `Only`, `Together`, `Sets`, `Filters`: for the contracts here and in the next
+//!   crate.
 #![tactic(auto)]
 
-pub mod coded;
+pub mod column_filter;
 mod evaluation;
-pub mod local;
+mod leaves;
 mod only;
-pub mod ranged;
 pub mod sets;
-mod united;
+mod sole;
+pub mod table_filter;
 pub mod valuation;
 mod value;
 
-pub use coded::CodeTest;
+pub use column_filter::{ColumnFilter, keep_values, values_of};
 pub use evaluation::{all_true, eval, truth_of};
-pub use local::{LocalRow, LocalTest, local_tests, meets_local};
 pub use only::only_at;
-pub use ranged::RangeTest;
-pub use sets::SetTest;
+pub use sets::ValueSet;
+pub use table_filter::{Local, TableFilter, alone};
 pub use valuation::{Valuation, literal_value};
 pub use value::{cell, column_value, table_at};

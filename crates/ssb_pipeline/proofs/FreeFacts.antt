@@ -7,7 +7,7 @@ use Rattle.ssb_job.specs.Kept.{fact_rows}
 use Rattle.ssb_pipeline.specs.Free.{FreeParts, IsFreePart, MorselsShareNoRow, SectionsShareNoRow}
 use Rattle.ssb_pipeline.specs.Morsels.{LiesIn, morsel, morsel_count, morsel_cut, piece, row_cut, section}
 use Rattle.ssb_pipeline.specs.Part.{AreOut, IsLawfulPart, IsReached, PartState, Ran, has}
-use Rattle.ssb_pipeline.specs.Rule.{IsFree, Knows, Ruled}
+use Rattle.ssb_pipeline.specs.Rule.{IsFree, Knows}
 use Rattle.ssb_pipeline.proofs.Cuts.{only-piece}
 use Rattle.ssb_pipeline.proofs.MorselFacts.{morsel-begins, morsel-rises, row-begins, row-rises}
 use Rattle.ssb_pipeline.proofs.Numbers.{head-has, tail-has}

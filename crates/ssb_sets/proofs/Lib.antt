@@ -1,4 +1,8 @@
+mod CheckFacts
 mod JoinFacts
 mod MergeFacts
 mod ParityFacts
+mod PointFacts
+pub mod RowFacts
 mod SetFacts
+mod StayFacts

@@ -6,7 +6,7 @@ use Rattle.std.proofs.lemmas.Bool.{cases_lt}
 use Rattle.std.proofs.lemmas.Int.{ints}
 use Rattle.std.proofs.lemmas.Option.{same_Some, slice_get-get_or}
 use Rattle.ssb_sets.specs.NumberSets.{said_by}
-use Rattle.ssb_sets.specs.Orders.{IsOrdered}
+use Rattle.ssb_sets.specs.Orders.{ArePassed, IsOrdered}
 use Rattle.ssb_sets.proofs.SetFacts.{turned_below, turned_from}
 
 abbrev pub odd : ℕ → Bool
@@ -46,7 +46,7 @@ true-le : (a b : ℤ) → a ≤ℤ b → int_le a b ≡ true
 true-le a b le = grind (arith, ints)
 
 -- an element that is there does not depend on what stands for those past the end
-read-any : {X : Type 0} (xs : List X) (i : ℕ) (d e : X) → i < length xs → get_or xs i d ≡ get_or xs i e
+pub read-any : {X : Type 0} (xs : List X) (i : ℕ) (d e : X) → i < length xs → get_or xs i d ≡ get_or xs i e
 read-any xs i d e lt = same_Some (get_or xs i d) (get_or xs i e) (sym (slice_get-get_or xs i d lt) ∙ slice_get-get_or xs i e lt)
 
 pub in-parts : (cuts : List ℤ) (n : ℤ) → IsOrdered cuts → IsPartitionedBy (λ c. int_le c n) cuts
@@ -55,5 +55,9 @@ in-parts cuts n ordered i j d le long passes = ⊎_elim
     (λ ge. let same : i ≡ j = omega (arith, ge, le) in rw same passes)
     (cases_lt i j)
 
-pub by-parts : (first : Bool) (cuts : List ℤ) (p : ℕ) (n : ℤ) → p ≤ length cuts → IsPartitionPoint (λ c. int_le c n ≡ true) (λ c. int_le c n ≡ false) cuts p → said_by first cuts n ≡ not (beq (odd p) first)
-by-parts first cuts p n within point = said_by-passed first cuts p n within (λ k lt. le-true (get_or cuts k (pos 0)) n (point.0 k (pos 0) (omega arith) lt)) (λ k above lt. le-false (get_or cuts k (pos 0)) n (point.1 k (pos 0) above lt))
+pub by-parts : (cuts : List ℤ) (p : ℕ) (n : ℤ) → p ≤ length cuts → IsPartitionPoint (λ c. int_le c n ≡ true) (λ c. int_le c n ≡ false) cuts p → ArePassed cuts n p
+by-parts cuts p n within point = record {
+  within = within;
+  passed = λ k lt. le-true (get_or cuts k (pos 0)) n (point.0 k (pos 0) (omega arith) lt);
+  ahead = λ k above lt. le-false (get_or cuts k (pos 0)) n (point.1 k (pos 0) above lt);
+}

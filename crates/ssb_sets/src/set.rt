@@ -2,7 +2,7 @@
 
 ghost use Rattle.std.specs.Prelude.{◌≡◌, ◌≤ℤ◌, ◌<ℤ◌, ℤ, ◌&&◌, not, ◌^◌, pos, int_le, IfOk, OnOk, []};
 ghost use Rattle.std.specs.List.{All};
-ghost use Rattle.ssb_sets.specs.Orders.{IsOrdered};
+ghost use Rattle.ssb_sets.specs.Orders.{ArePassed, IsOrdered};
 
 use crate::join::Join;
 use crate::merge::merged;
@@ -23,12 +23,18 @@ impl NumberSet {
     ghost use Rattle.ssb_sets.specs.Joins.{joined};
     ghost use Rattle.ssb_sets.specs.NumberSets.{has, turned_at};
 
+    // How many cuts are not above a number.
+    pub(crate) fn passed(&self, number: i64) -> usize
+        ensures { ArePassed self.now.cuts.items number result }
+    {
+        self.cuts.partition_point(|cut| *cut <= number)
+    }
+
     /// Whether it has a number. It takes as many steps as the count of cuts can be halved.
     pub fn has(&self, number: i64) -> bool
         ensures { result ≡ has self.now number }
     {
-        let passed = self.cuts.partition_point(|cut| *cut <= number);
-        (passed % 2 == 1) != self.first
+        (self.passed(number) % 2 == 1) != self.first
     }
 
     /// All numbers, where `all` is true, or none.
@@ -43,7 +49,7 @@ impl NumberSet {
     }
 
     // Turns the answer for a number and for all above it. No cut may be above it yet.
-    pub(crate) fn turn_from(&mut self, cut: i64) -> Result<(), AllocError>
+    pub fn turn_from(&mut self, cut: i64) -> Result<(), AllocError>
         requires { All (λ c. c ≤ℤ cut) self.old.cuts.items }
         ensures says { OnOk result ((n : ℤ) → has self.new n ≡ turned_at n (has self.old n) cut) }
         ensures order { OnOk result (All (λ c. c ≤ℤ cut) self.new.cuts.items) }

@@ -1,6 +1,6 @@
 use Rattle.std.proofs.Common.{take}
-use Rattle.ssb_conditions.specs.Sets.{TellEach}
+use Rattle.ssb_conditions.proofs.SetFacts.{TellMany}
 use Rattle.ssb_conditions.proofs.sets.+sets.Given as goal
 
-abbrev pub invariant-sets_of-loop-part : goal.invariant-sets_of-loop-part
-invariant-sets_of-loop-part l = TellEach l.x (take l.part-index l.parts) l.sets.items
+abbrev pub invariant-set_of_all-loop-part : goal.invariant-set_of_all-loop-part
+invariant-set_of_all-loop-part l = TellMany l.x.name l.x.values.now l.by (take l.part-index l.parts) l.null l.sets.items

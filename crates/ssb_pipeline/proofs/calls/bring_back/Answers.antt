@@ -1,12 +1,10 @@
-use Rattle.std.proofs.Common.{◌≡◌, ◌∙◌, ◌∷◌, [], ◌<◌, List, None, Option, Some, true, length, sym, ap, subst, arith}
+use Rattle.std.proofs.Common.{◌≡◌, ◌∙◌, None, Some, length, sym, ap, subst, arith}
 use Rattle.std.specs.Prelude.{slice_set}
 use Rattle.std.proofs.lemmas.List.{length-set}
-use Rattle.ssb_job.specs.Kept.{AreOneJob, JobShape}
-use Rattle.ssb_pipeline.specs.Part.{PartState, has, is_handed_out}
+use Rattle.ssb_pipeline.specs.Part.{PartState}
 use Rattle.ssb_pipeline.specs.Replay.{AreOf, BringsTo, Slots}
 use Rattle.ssb_pipeline.specs.Replay.BringsTo.{doubled, empty, strange, taken}
 use Rattle.ssb_pipeline.specs.State.{PartialState}
-use Rattle.ssb_pipeline.specs.Tickets.{TicketState}
 use Rattle.ssb_pipeline.specs.declared.calls.Reply.TheVariants as reply
 use Rattle.ssb_pipeline.proofs.Bringing.{handed-alone, one-alone, return-alone, returned-alone, same-ticket, strange-alone}
 use Rattle.ssb_pipeline.proofs.Replays.{back-in, lies-of, lies-within}

@@ -1,4 +1,4 @@
-use Rattle.std.proofs.Common.{rules, ◌≡◌, ◌++◌, ◌∷◌, [], Option, Some, sym, subst}
+use Rattle.std.proofs.Common.{rules, ◌≡◌, ◌++◌, ◌∷◌, [], Some, sym, subst}
 use Rattle.ssb_pipeline.specs.Replay.{HandsTo, Slots}
 use Rattle.ssb_pipeline.specs.Replay.HandsTo.{none, ticket}
 use Rattle.ssb_pipeline.specs.declared.calls.Reply.TheVariants as reply

@@ -1,4 +1,4 @@
-use Rattle.std.proofs.Common.{◌≡◌, ◌∙◌, ◌++◌, ◌∷◌, [], ◌+◌, IfSome, List, get_or, take, refl, sym, ap, subst}
+use Rattle.std.proofs.Common.{◌∙◌, [], IfSome, List, get_or, refl, sym, subst}
 use Rattle.std.specs.Arc.{arc_value}
 use Rattle.std.proofs.lemmas.List.{take_all, take_more}
 use Rattle.std.proofs.lemmas.List.Elements.{All-nil}

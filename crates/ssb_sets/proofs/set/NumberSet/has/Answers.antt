@@ -1,13 +1,11 @@
-use Rattle.std.proofs.Common.{◌≡◌, ◌∙◌, ap, int_le, rules, subst, sym, to_z, of_z, w64}
-use Rattle.std.proofs.lemmas.List.Sorted.{IsPartitionPoint-from_clause}
-use Rattle.ssb_sets.specs.NumberSets.{said_by}
-use Rattle.ssb_sets.specs.Orders.{IsOrdered}
-use Rattle.ssb_sets.proofs.ParityFacts.{by-parts, in-parts}
+use Rattle.std.proofs.Common.{◌≡◌, rules, subst, sym, to_z, of_z, w64}
+use Rattle.ssb_sets.specs.Orders.{ArePassed}
+use Rattle.ssb_sets.proofs.ParityFacts.{said_by-passed}
 use Rattle.ssb_sets.proofs.set.NumberSet.has.Goals as goal
 
 pub returns : goal.returns
 returns c =
-    let ordered = subst IsOrdered (sym c.deref.ensures.value) c.args.self.now.ordered in
+    let cuts = c.args.self.now.cuts.items in
     let exact : to_z w64 (of_z w64 c.args.number) ≡ c.args.number = search rules in
-    let point = IsPartitionPoint-from_clause (λ cut. int_le cut c.args.number) _ _ c.partition_point-passed.ensures.partitioned (in-parts c.deref.result.now c.args.number ordered) (λ a r q k. search rules) in
-    sym (by-parts c.args.self.now.first c.deref.result.now c.partition_point-passed.result c.args.number c.partition_point-passed.ensures.bound point) ∙ ap (λ cuts. said_by c.args.self.now.first cuts c.args.number) c.deref.ensures.value
+    let point = subst (λ n. ArePassed cuts n c.passed.result) exact c.passed.ensures in
+    sym (said_by-passed c.args.self.now.first cuts c.passed.result c.args.number point.within point.passed point.ahead)

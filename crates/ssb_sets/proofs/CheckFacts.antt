@@ -1,0 +1,89 @@
+-- What flags say of a number.
+use Rattle.std.proofs.Common.{◌≡◌, ◌∙◌, ⊎_elim, ℕ, ℤ, pos, negsuc, ◌+◌, ◌<◌, ◌≤◌, ◌+ℤ◌, ◌-ℤ◌, ◌<ℤ◌, ◌≤ℤ◌, Bool, true, false, cond, not, ◌&&◌, List, Result, Ok, Err, length, get_or, int_le, unsigned_abs, refl, sym, ap, arith}
+use mathlib.Core.Bool.{beq}
+use Rattle.std.proofs.lemmas.Bool.{cases_lt}
+use Rattle.std.proofs.lemmas.Int.{by_lt_z, ints}
+use Rattle.std.proofs.lemmas.List.{get_or_past}
+use Rattle.std.specs.Prelude.{OnOk, nat_lt}
+use Rattle.ssb_sets.specs.NumberSets.{has}
+use Rattle.ssb_sets.specs.declared.set.NumberSet.{NumberSet}
+use Rattle.ssb_sets.proofs.ParityFacts.{read-any}
+
+above : (a b : ℤ) → b <ℤ a → int_le a b ≡ false
+above a b lt = grind (arith, ints)
+
+upto : (a b : ℤ) → a ≤ℤ b → int_le a b ≡ true
+upto a b le = grind (arith, ints)
+
+pub abs-of : (a b : ℤ) → a ≤ℤ b → a +ℤ pos (unsigned_abs (b -ℤ a)) ≡ b
+abs-of a b le = ap (λ z. a +ℤ z) (natural (b -ℤ a) (omega (arith, ints, le))) ∙ omega (arith, ints)
+  where
+    natural : (z : ℤ) → pos 0 ≤ℤ z → pos (unsigned_abs z) ≡ z
+    natural (pos n) h = refl
+    natural (negsuc n) h = absurd (omega (arith, ints, h))
+
+pub flags-say : (s : NumberSet) (from to n : ℤ) (flags : List Bool) (others : Bool) → from +ℤ pos (length flags) ≡ to +ℤ pos 1 → ((k : ℕ) → k < length flags → get_or flags k false ≡ has s (from +ℤ pos k))
+    → (n <ℤ from → has s n ≡ others) → (to <ℤ n → has s n ≡ others) → cond (int_le from n) (get_or flags (unsigned_abs (n -ℤ from)) others) others ≡ has s n
+flags-say s from to n flags others count each below beyond = by_lt_z n from
+    (λ lt. ap (λ b. cond b (get_or flags k others) others) (above from n lt) ∙ sym (below lt))
+    (λ le. ap (λ b. cond b (get_or flags k others) others) (upto from n le)
+    ∙ ⊎_elim
+    (λ lt. read-any flags k others false lt ∙ each k lt ∙ ap (has s) (abs-of from n le))
+    (λ past. get_or_past flags k others past ∙ sym (beyond (let at = abs-of from n le in omega (arith, ints, at, count, past))))
+    (cases_lt k (length flags)))
+  where
+    k : ℕ
+    k = unsigned_abs (n -ℤ from)
+
+-- a run of numbers that a set has, between those that it has not
+pub run-says : (s : NumberSet) (low high n : ℤ) → (n <ℤ low → has s n ≡ false) → (low ≤ℤ n → n ≤ℤ high → has s n ≡ true) → (high <ℤ n → has s n ≡ false) → (int_le low n && int_le n high) ≡ has s n
+run-says s low high n ahead within behind = by_lt_z n low
+    (λ lt. ap (λ b. b && int_le n high) (above low n lt) ∙ sym (ahead lt))
+    (λ le. by_lt_z high n
+    (λ lt. (λ j. upto low n le j && above n high lt j) ∙ sym (behind lt))
+    (λ ge. (λ j. upto low n le j && upto n high ge j) ∙ sym (within le ge)))
+
+-- one of two answers, by what they differ in
+pub chosen : (first one other : Bool) → not (beq other (first && not (beq one other))) ≡ cond first one other
+chosen true true true = refl
+chosen true true false = refl
+chosen true false true = refl
+chosen true false false = refl
+chosen false one true = refl
+chosen false one false = refl
+
+lt-true : (a b : ℕ) → a < b → nat_lt a b ≡ true
+lt-true a b lt = grind arith
+
+lt-false : (a b : ℕ) → b ≤ a → nat_lt a b ≡ false
+lt-false a b le = grind arith
+
+-- a flag that was read for any number
+pub flag-of : (base n : ℤ) (flags : List Bool) (others there : Bool) (at : ℕ) → there ≡ (int_le base n && nat_lt (unsigned_abs (n -ℤ base)) (length flags)) → (unsigned_abs (n -ℤ base) < length flags → at ≡ unsigned_abs (n -ℤ base))
+    → cond there (get_or flags at false) others ≡ cond (int_le base n) (get_or flags (unsigned_abs (n -ℤ base)) others) others
+flag-of base n flags others there at is same = ap (λ b. cond b (get_or flags at false) others) is ∙ by-side (int_le base n)
+  where
+    k : ℕ
+    k = unsigned_abs (n -ℤ base)
+
+    by-side : (b : Bool) → cond (b && nat_lt k (length flags)) (get_or flags at false) others ≡ cond b (get_or flags k others) others
+    by-side false = refl
+    by-side true = ⊎_elim
+        (λ lt. ap (λ b. cond b (get_or flags at false) others) (lt-true k (length flags) lt) ∙ ap (λ j. get_or flags j false) (same lt) ∙ read-any flags k false others lt)
+        (λ past. ap (λ b. cond b (get_or flags at false) others) (lt-false k (length flags) past) ∙ sym (get_or_past flags k others past))
+        (cases_lt k (length flags))
+
+-- what follows from what holds where it went well
+pub each-ok : {X E : Type 0} (r : Result X E) {P Q : Type 0} → (P → Q) → OnOk r P → OnOk r Q
+each-ok (Ok x) f h = f h
+each-ok (Err e) f h = tt
+
+-- flags that were filled up with what is said of a run
+pub run-flags : (s : NumberSet) (from start end : ℤ) (old new : List Bool) (last : ℕ) (said : Bool) → from +ℤ pos (length old) ≡ start → from +ℤ pos (last + 1) ≡ end → start <ℤ end → length new ≡ last + 1
+    → ((k : ℕ) → k < length old → get_or old k false ≡ has s (from +ℤ pos k)) → said ≡ has s start → ((n : ℤ) → start ≤ℤ n → n <ℤ end → has s n ≡ has s start)
+    → ((k : ℕ) → k < last → k < length old → get_or new k false ≡ get_or old k false) → ((k : ℕ) → length old ≤ k → k ≤ last → get_or new k false ≡ said)
+    → (k : ℕ) → k < length new → get_or new k false ≡ has s (from +ℤ pos k)
+run-flags s from start end old new last said begins ends order long each is stays same filled k lt = ⊎_elim
+    (λ below. same k (let e : k < last = omega (arith, ints, below, begins, ends, order) in e) below ∙ each k below)
+    (λ past. filled k past (omega (arith, long, lt)) ∙ is ∙ sym (stays (from +ℤ pos k) (omega (arith, ints, past, begins)) (omega (arith, ints, long, lt, ends))))
+    (cases_lt k (length old))

@@ -1,0 +1,184 @@
+// What stands for a set where many numbers are tested.
+
+ghost use Rattle.std.specs.Prelude.{◌≡◌, ◌≤◌, ◌<◌, ◌-◌, ◌-ℤ◌, ◌&&◌, if◌then◌else◌, int_le, nat_lt, unsigned_abs, OnOk, length, pos, slice_index_or};
+ghost use Rattle.std.specs.List.{All, filter, range_with_len};
+ghost use Rattle.ssb_sets.specs.Checks.{flag_of, passes, point_of};
+ghost use Rattle.ssb_sets.specs.Passing.{passes_at};
+ghost use Rattle.ssb_sets.specs.Values.{IsWithin, bounds_of, values_in};
+
+use crate::asked::{Between, Constantly, FlagsAsk, PointsAsk, SearchAsk};
+use crate::set::NumberSet;
+use crate::values::ValueSlice;
+use std::alloc::AllocError;
+use std::collections::HashSet;
+
+/// What stands for a set, so that a number is tested by few steps.
+pub enum Check {
+    /// No number passes.
+    Never,
+    /// Each passes.
+    Always,
+    /// Those from a least to a greatest pass.
+    Within(i64, i64),
+    /// By a flag for each number of a span.
+    Flagged(Flags),
+    /// By single numbers.
+    Listed(Points),
+    /// By a search in the set.
+    Searched(NumberSet),
+}
+
+// Written out, so that what lets go of a check need not say how its parts are let go.
+impl Drop for Check {
+    fn drop(self) {
+        match self {
+            Check::Never => {}
+            Check::Always => {}
+            Check::Within(_, _) => {}
+            Check::Flagged(flags) => drop(flags),
+            Check::Listed(points) => drop(points),
+            Check::Searched(set) => drop(set),
+        }
+    }
+}
+
+/// From a base on, what is said of each number; and what is said of all others.
+#[derive(Drop)]
+pub struct Flags {
+    /// The first number that has a flag.
+    pub base: i64,
+    /// Whether it and each next one passes.
+    pub flags: Vec<bool>,
+    /// Whether all others pass.
+    pub others: bool,
+}
+
+/// Numbers of which one thing is said, and what is said of all others.
+#[derive(Drop)]
+pub struct Points {
+    /// The numbers.
+    pub numbers: HashSet<i64>,
+    /// Whether all others pass; then these do not.
+    pub others: bool,
+}
+
+// Whether a number has one of so many flags from a base on.
+fn has_flag(base: i64, count: usize, number: i64) -> bool
+    ensures { result ≡ (int_le base number && nat_lt (unsigned_abs (number -ℤ base)) count) }
+{
+    (base <= number) & ((number.abs_diff(base) as usize) < count)
+}
+
+// One of two answers, without a branch.
+fn chosen(first: bool, one: bool, other: bool) -> bool
+    ensures { result ≡ (if first then one else other) }
+{
+    other != (first & (one != other))
+}
+
+// What is said of a number by flags, from a base on. A flag is read for any number, the last one for
+// those too far, and no branch chooses: that spares a jump which no processor could foresee.
+pub(crate) fn flag_of(base: i64, flags: &[bool], others: bool, number: i64) -> bool
+    ensures { result ≡ flag_of base flags.now others number }
+{
+    if flags.len() == 0 {
+        return others;
+    }
+    let there = has_flag(base, flags.len(), number);
+    let flag = flags[(number.abs_diff(base) as usize).min(flags.len() - 1)];
+    chosen(there, flag, others)
+}
+
+impl Points {
+    // What is said of a number.
+    pub(crate) fn says(&self, number: i64) -> bool
+        ensures { result ≡ point_of self.now number }
+    {
+        self.numbers.contains(&number) != self.others
+    }
+}
+
+impl Check {
+    /// Whether a number passes.
+    pub fn passes(&self, number: i64) -> bool
+        ensures { result ≡ passes self.now number }
+    {
+        match self {
+            Check::Never => false,
+            Check::Always => true,
+            Check::Within(low, high) => *low <= number && number <= *high,
+            Check::Flagged(flags) => flag_of(flags.base, &flags.flags, flags.others, number),
+            Check::Listed(points) => points.says(number),
+            Check::Searched(set) => set.has(number),
+        }
+    }
+
+    /// Leaves the rows whose value passes, in their order. Takes no memory.
+    pub fn keep(&self, values: ValueSlice<'_>, rows: &mut Vec<u32>)
+        requires { All (λ r. r < length (values_in values)) rows.old.items }
+        ensures rows { rows.new.items ≡ filter (passes_at (passes self.now) (values_in values.entry)) rows.old.items }
+        ensures within { All (λ r. IsWithin (bounds_of values.entry) (slice_index_or (values_in values.entry) r (pos 0))) rows.old.items }
+    {
+        match self {
+            Check::Never => values.keep(Constantly { all: false }, rows),
+            Check::Always => values.keep(Constantly { all: true }, rows),
+            Check::Within(low, high) => {
+                let asked = Between {
+                    low: *low,
+                    high: *high,
+                };
+                values.keep(asked, rows)
+            }
+            Check::Flagged(flags) => {
+                let asked = FlagsAsk {
+                    base: flags.base,
+                    flags: flags.flags.as_slice(),
+                    others: flags.others,
+                };
+                values.keep(asked, rows)
+            }
+            Check::Listed(points) => values.keep(PointsAsk { points }, rows),
+            Check::Searched(set) => values.keep(SearchAsk { set }, rows),
+        }
+    }
+
+    /// Makes a list that of the rows from one up to, not including, another whose value passes.
+    ///
+    /// # Errors
+    ///
+    /// Only where a growth was refused.
+    pub fn first(
+        &self,
+        values: ValueSlice<'_>,
+        from: u32,
+        end: u32,
+        rows: &mut Vec<u32>,
+    ) -> Result<(), AllocError>
+        requires order { from ≤ end }
+        requires there { end ≤ length (values_in values) }
+        ensures rows { OnOk result (rows.new.items ≡ filter (passes_at (passes self.now) (values_in values.entry)) (range_with_len from (end - from))) }
+        ensures within { OnOk result (All (λ r. IsWithin (bounds_of values.entry) (slice_index_or (values_in values.entry) r (pos 0))) (range_with_len from (end - from))) }
+    {
+        match self {
+            Check::Never => values.first(Constantly { all: false }, from, end, rows),
+            Check::Always => values.first(Constantly { all: true }, from, end, rows),
+            Check::Within(low, high) => {
+                let asked = Between {
+                    low: *low,
+                    high: *high,
+                };
+                values.first(asked, from, end, rows)
+            }
+            Check::Flagged(flags) => {
+                let asked = FlagsAsk {
+                    base: flags.base,
+                    flags: flags.flags.as_slice(),
+                    others: flags.others,
+                };
+                values.first(asked, from, end, rows)
+            }
+            Check::Listed(points) => values.first(PointsAsk { points }, from, end, rows),
+            Check::Searched(set) => values.first(SearchAsk { set }, from, end, rows),
+        }
+    }
+}

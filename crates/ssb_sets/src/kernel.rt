@@ -1,0 +1,104 @@
+// Tests of many rows, one column after the other: one loop for all widths of numbers.
+
+ghost use Rattle.std.specs.Prelude.{◌≡◌, ◌≤◌, ◌<◌, ◌+◌, ◌^◌, ◌-◌, ℤ, pos, length, map, slice_index_or, take};
+ghost use Rattle.std.specs.List.{All, filter, range_with_len};
+ghost use Rattle.ssb_sets.specs.Passing.{passes_at, passes_from};
+ghost use Rattle.ssb_sets.specs.declared.values.Bounds.{Bounds};
+ghost use Rattle.ssb_sets.specs.Values.{IsWithin, byte_bounds, two_byte_bounds, four_byte_bounds, eight_byte_bounds};
+
+use crate::asks::Asks;
+
+/// A signed number of some width.
+pub trait Number: Copy {
+    ghost wide: { Self → ℤ };
+
+    ghost bounds: { Bounds };
+
+    /// The same number in 64 bits.
+    fn wide(self) -> i64
+        ensures number { result ≡ wide self }
+        ensures within { IsWithin bounds result };
+}
+
+impl Number for i8 {
+    ghost wide = { λ n. n };
+
+    ghost bounds = { byte_bounds };
+
+    fn wide(self) -> i64 {
+        i64::from(self)
+    }
+}
+
+impl Number for i16 {
+    ghost wide = { λ n. n };
+
+    ghost bounds = { two_byte_bounds };
+
+    fn wide(self) -> i64 {
+        i64::from(self)
+    }
+}
+
+impl Number for i32 {
+    ghost wide = { λ n. n };
+
+    ghost bounds = { four_byte_bounds };
+
+    fn wide(self) -> i64 {
+        i64::from(self)
+    }
+}
+
+impl Number for i64 {
+    ghost wide = { λ n. n };
+
+    ghost bounds = { eight_byte_bounds };
+
+    fn wide(self) -> i64 {
+        self
+    }
+}
+
+/// Writes the rows whose numbers pass, of a stretch from a first row on, and says how many they are. Each row is
+/// written before it is known whether it passes: that spares a jump which no processor could foresee.
+pub fn first_rows<T: Number, A: Asks>(
+    numbers: &[T],
+    first: u32,
+    asked: A,
+    rows: &mut [u32],
+) -> usize
+    requires room { length numbers.now ≤ length rows.old }
+    requires fits { first + length numbers.now < 2 ^ 32 }
+    ensures count { result ≤ length numbers.now }
+    ensures rows { take result rows.new ≡ filter (passes_from (A.says asked) (map T.wide numbers.now) first) (range_with_len first (length numbers.now)) }
+    ensures within { All (λ row. IsWithin T.bounds (slice_index_or (map T.wide numbers.now) (row - first) (pos 0))) (range_with_len first (length numbers.now)) }
+{
+    let mut left = 0;
+    for i in 0..numbers.len() {
+        rows[left] = first + i as u32;
+        if asked.passes(numbers[i].wide()) {
+            left += 1;
+        }
+    }
+    // The rows that pass stand in front: so many.
+    left
+}
+
+/// Likewise of rows that are listed, in place.
+pub fn next_rows<T: Number, A: Asks>(numbers: &[T], asked: A, rows: &mut [u32]) -> usize
+    requires { All (λ row. row < length numbers.now) rows.old }
+    ensures count { result ≤ length rows.old }
+    ensures rows { take result rows.new ≡ filter (passes_at (A.says asked) (map T.wide numbers.now)) rows.old }
+    ensures within { All (λ row. IsWithin T.bounds (slice_index_or (map T.wide numbers.now) row (pos 0))) rows.old }
+{
+    let mut left = 0;
+    for i in 0..rows.len() {
+        let row = rows[i];
+        rows[left] = row;
+        if asked.passes(numbers[row as usize].wide()) {
+            left += 1;
+        }
+    }
+    left
+}

@@ -1,12 +1,10 @@
 -- What the slices that a column lends tell of the rows that a filter tests.
-use Rattle.std.proofs.Common.{◌≡◌, ◌∙◌, ◌⊎◌, ⊎_elim, inl, inr, ◌++◌, ◌+◌, ◌%◌, ◌^◌, zero, suc, nat_eq, ◌<◌, ◌≤◌, ◌<ℤ◌, ◌||◌, ◌&&◌, ℕ, ℤ, pos, Bool, true, false, cond, not, true≢false, List, [], ◌∷◌, length, get_or, Option, None, Some, slice_get, unwrap_or, map, filter, refl, sym, ap, subst, arith}
+use Rattle.std.proofs.Common.{◌≡◌, ◌∙◌, ◌⊎◌, ⊎_elim, inl, inr, ◌+◌, ◌^◌, zero, suc, ◌<◌, ◌≤◌, ◌<ℤ◌, ◌||◌, ◌&&◌, ℕ, ℤ, pos, Bool, true, false, cond, not, true≢false, List, [], ◌∷◌, length, get_or, Option, None, Some, slice_get, unwrap_or, map, filter, refl, sym, ap, subst, arith}
 use Rattle.std.specs.List.{All, range_with_len}
-use Rattle.std.specs.Bool.{◌==◌}
 use Rattle.std.specs.Option.{option_map}
 use Rattle.std.proofs.lemmas.Bool.{cases_Bool}
 use Rattle.std.proofs.lemmas.Int.{ints}
 use Rattle.std.proofs.lemmas.List.Elements.{All-cons, All-head, All-nil, All-tail}
-use Rattle.std.proofs.lemmas.Nat.Bits.{bit_at-zero}
 use Rattle.std.proofs.lemmas.Option.{none-some, same_Some, slice_get-get_or, slice_get-map}
 use Rattle.ssb_cells.specs.Cell.{Cell, null, number, text}
 use Rattle.ssb_cells.specs.Codes.{cell_code, code_at, code_of}
@@ -143,32 +141,7 @@ module _ (t : Columns) (f : ColumnFilter) (c : Filled) (vs : List ℤ) (words : 
     pub together-list : is_true f.set.null ≡ true → filter (λ r. flag_at words r || passes f.check (get_or vs r (pos 0))) rows ≡ filter (passes_column t f) rows
     together-list passing = sym (filter-alike (passes_column t f) (λ r. flag_at words r || passes f.check (get_or vs r (pos 0))) rows (λ k d lt. together-say (get_or rows k d) (below k d lt) (λ flag. within k d lt) passing))
 
--- ---- lists of rows and words
-
--- no flag is set where there is no word
-pub no-flag : (r : ℕ) → flag_at [] r ≡ false
-no-flag r = ap (λ x. nat_eq x 1) (bit_at-zero (r % 64))
-
-pub filter-no_flags : (words rows : List ℕ) → words ≡ [] → filter (λ r. not (flag_at words r)) rows ≡ rows
-filter-no_flags words rows none = rw none (all rows)
-  where
-    all : (xs : List ℕ) → filter (λ r. not (flag_at [] r)) xs ≡ xs
-    all [] = refl
-    all (x ∷ xs) = ap (λ b. cond (not b) (x ∷ filter (λ r. not (flag_at [] r)) xs) (filter (λ r. not (flag_at [] r)) xs)) (no-flag x) ∙ ap (λ ys. x ∷ ys) (all xs)
-
-pub range-more : (a n : ℕ) → range_with_len a (n + 1) ≡ range_with_len a n ++ (a + n) ∷ []
-range-more a zero = ap (λ b. b ∷ []) (let e : a ≡ a + zero = omega arith in e)
-range-more a (suc n) =
-    ap (range_with_len a) (let e : suc n + 1 ≡ suc (n + 1) = omega arith in e)
-    ∙ ap (λ t. a ∷ t) (range-more (a + 1) n ∙ ap (λ b. range_with_len (a + 1) n ++ b ∷ []) (let e : a + 1 + n ≡ a + suc n = omega arith in e))
-
-pub no-words : (words : List ℕ) → (length words == 0) ≡ true → words ≡ []
-no-words [] e = refl
-no-words (w ∷ words) e = let bad : suc (length words) ≡ 0 = grind (arith, e) in absurd (omega (arith, bad))
-
--- an element that was read
-pub read-zero : (ys : List ℕ) (i x : ℕ) → i < length ys → x ≡ get_or ys i x → get_or ys i 0 ≡ x
-read-zero ys i x lt is = same_Some (get_or ys i 0) (get_or ys i x) (sym (slice_get-get_or ys i 0 lt) ∙ slice_get-get_or ys i x lt) ∙ sym is
+-- ---- the rows of a range
 
 pub range-below : (n a m : ℕ) → a + m ≤ n → All (λ r. r < n) (range_with_len a m)
 range-below n a zero le = All-nil (λ r. r < n)

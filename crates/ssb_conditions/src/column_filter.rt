@@ -11,8 +11,8 @@ ghost use Rattle.ssb_sets.specs.Passing.{passes_at};
 ghost use Rattle.ssb_sets.specs.Values.{IsWithin, bounds_of, eight_byte_bounds, values_in};
 
 use crate::sets::ValueSet;
-use ssb_cells::{Column, Table, flag_at};
-use ssb_sets::{Bounds, Check, ValueSlice};
+use ssb_cells::{Column, Table};
+use ssb_sets::{Bounds, Check, ValueSlice, fill, keep_values};
 use ssb_terms::ColType;
 use std::alloc::{AllocError, Global};
 
@@ -55,16 +55,6 @@ const ALL: Bounds = Bounds {
     greatest: i64::MAX,
 };
 
-/// Leaves the rows that are not null, by the flags of the nulls.
-pub fn keep_values(nulls: &[u64], rows: &mut Vec<u32>)
-    ensures { rows.new.items ≡ filter (λ r. not (flag_at nulls.now r)) rows.old.items }
-{
-    if nulls.is_empty() {
-        return;
-    }
-    rows.retain(|row| !flag_at(nulls, *row));
-}
-
 impl ColumnFilter {
     /// The filter of a column by a set.
     ///
@@ -94,33 +84,6 @@ impl ColumnFilter {
         self.set.null.is_true() && !nulls.is_empty()
     }
 
-    // Whether a row is null, or its value passes.
-    fn is_null_or_passes(&self, values: ValueSlice<'_>, nulls: &[u64], row: u32) -> bool
-        requires { row < length (values_in values) }
-        ensures says { result ≡ (flag_at nulls.now row || passes_at (passes self.now.check) (values_in values.entry) row) }
-        ensures within { IsWithin eight_byte_bounds (slice_index_or (values_in values.entry) row (pos 0)) }
-    {
-        let passes = self.check.passes(values.get(row as usize));
-        flag_at(nulls, row) || passes
-    }
-
-    // Leaves the rows that are null, and those whose value passes.
-    fn keep_with_nulls(&self, values: ValueSlice<'_>, nulls: &[u64], rows: &mut Vec<u32>)
-        requires { All (λ r. r < length (values_in values)) rows.old.items }
-        ensures rows { rows.new.items ≡ filter (λ r. flag_at nulls.now r || passes_at (passes self.now.check) (values_in values.entry) r) rows.old.items }
-        ensures within { All (λ r. IsWithin eight_byte_bounds (slice_index_or (values_in values.entry) r (pos 0))) rows.old.items }
-    {
-        let mut left = 0;
-        for i in 0..rows.len() {
-            let row = rows[i];
-            rows[left] = row;
-            if self.is_null_or_passes(values, nulls, row) {
-                left += 1;
-            }
-        }
-        rows.truncate(left);
-    }
-
     /// Leaves the rows of a list that pass, in their order.
     pub(crate) fn keep(&self, table: &Table, rows: &mut Vec<u32>)
         requires there { IsThere table.now self.now }
@@ -132,7 +95,7 @@ impl ColumnFilter {
         let values = values_of(column);
         let nulls = column.null_words();
         if self.takes_nulls(nulls) {
-            self.keep_with_nulls(values, nulls, rows);
+            self.check.keep_with_nulls(values, nulls, rows);
         } else {
             self.check.keep(values, rows);
             keep_values(nulls, rows);
@@ -157,24 +120,11 @@ impl ColumnFilter {
         let nulls = column.null_words();
         if self.takes_nulls(nulls) {
             fill(rows, from, end)?;
-            self.keep_with_nulls(values_of(column), nulls, rows);
+            self.check.keep_with_nulls(values_of(column), nulls, rows);
         } else {
             self.check.first(values_of(column), from, end, rows)?;
             keep_values(nulls, rows);
         }
         Ok(())
     }
-}
-
-/// Makes a list that of the rows from one up to, not including, another.
-pub(crate) fn fill(rows: &mut Vec<u32>, from: u32, end: u32) -> Result<(), AllocError>
-    requires { from ≤ end }
-    ensures { OnOk result (rows.new.items ≡ range_with_len from (end - from)) }
-{
-    rows.clear();
-    rows.reserve((end - from) as usize)?;
-    for row in from..end {
-        rows.push(row)?;
-    }
-    Ok(())
 }

@@ -21,7 +21,7 @@ pub mod table_filter;
 pub mod valuation;
 mod value;
 
-pub use column_filter::{ColumnFilter, keep_values, values_of};
+pub use column_filter::{ColumnFilter, values_of};
 pub use evaluation::{all_true, eval, truth_of};
 pub use only::only_at;
 pub use sets::ValueSet;

@@ -10,14 +10,14 @@ ghost use Rattle.ssb_conditions.specs.declared.column_filter.ColumnFilter.{Colum
 ghost use Rattle.ssb_query.specs.declared.column.BoundColumn.{BoundColumn};
 ghost use Rattle.ssb_trees.specs.Conditions.{Filter};
 
-use crate::column_filter::{ColumnFilter, fill};
+use crate::column_filter::ColumnFilter;
 use crate::evaluation::{all_true, either, settling};
 use crate::only::only_at;
 use crate::sets::{Subject, ValueSet, set_of};
 use crate::sole::sole_column;
 use ssb_cells::Table;
 use ssb_query::{BoundColumn, copy_condition};
-use ssb_sets::{Join, NumberSet};
+use ssb_sets::{Join, NumberSet, fill};
 use ssb_trees::Filter;
 use std::alloc::{AllocError, Global};
 

@@ -1,8 +1,9 @@
 mod CheckFacts
 mod JoinFacts
 mod MergeFacts
+mod NullFacts
 mod ParityFacts
 mod PointFacts
-pub mod RowFacts
+mod RowFacts
 mod SetFacts
 mod StayFacts

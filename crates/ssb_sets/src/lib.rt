@@ -4,9 +4,9 @@
 //!   [`Join`]; [`Check`], which stands for a set where many numbers between [`Bounds`] are tested;
 //!   [`ValueSlice`], the values of a column as numbers, and its rows that pass what is asked ([`Asks`]).
 //! - Callers: `ssb_conditions` and `ssb_job`.
-//! - Apart: what a set has is said without a condition or a null.
+//! - Apart: what a set has is said without a condition.
 //! - Files: `set`; `join`; `merge`, of two sets; `halves`, of many; `runs`, between two cuts; `values`;
-//!   `asks`; `kernel`, the loops; `rows`, which loop it is; `check`; `asked`, what checks ask; `choice`,
+//!   `asks`; `kernel`, the loops; `rows`, which loop it is; `nulls`; `check`; `asked`, what checks ask; `choice`,
 //!   which check it is.
 //! - Definitions: `NumberSets`, `Orders`, `Joins`, `Merging`, `Stays`, `Values`, `Passing`, `Checks`.
 #![tactic(auto)]
@@ -19,6 +19,7 @@ mod halves;
 pub mod join;
 mod kernel;
 mod merge;
+pub mod nulls;
 mod rows;
 mod runs;
 pub mod set;
@@ -27,5 +28,6 @@ pub mod values;
 pub use asks::Asks;
 pub use check::Check;
 pub use join::Join;
+pub use nulls::{fill, keep_values};
 pub use set::NumberSet;
 pub use values::{Bounds, ValueSlice};

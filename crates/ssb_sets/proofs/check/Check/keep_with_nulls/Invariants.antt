@@ -4,11 +4,11 @@ use Rattle.ssb_packed.specs.Lent.{flag_at}
 use Rattle.ssb_sets.specs.Checks.{passes}
 use Rattle.ssb_sets.specs.Passing.{passes_at}
 use Rattle.ssb_sets.specs.Values.{IsWithin, eight_byte_bounds, values_in}
-use Rattle.ssb_conditions.proofs.column_filter.ColumnFilter.keep_with_nulls.Given as goal
+use Rattle.ssb_sets.proofs.check.Check.keep_with_nulls.Given as goal
 
 abbrev pub invariant-loop-i : goal.invariant-loop-i
 invariant-loop-i l =
     record {
-      front : FiltersInPlace (λ r. flag_at l.nulls r || passes_at (passes l.self.check) (values_in l.values) r) l.initial.rows.items l.rows.items l.left l.i;
+      front : FiltersInPlace (λ r. flag_at l.nulls r || passes_at (passes l.self) (values_in l.values) r) l.initial.rows.items l.rows.items l.left l.i;
       within : (k : ℕ) → k < l.i → IsWithin eight_byte_bounds (get_or (values_in l.values) (get_or l.initial.rows.items k 0) (pos 0));
     }

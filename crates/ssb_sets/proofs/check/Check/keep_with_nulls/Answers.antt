@@ -2,9 +2,9 @@ use Rattle.std.proofs.Common.{◌∙◌, ◌<◌, ap, arith, get_or, length, pos
 use Rattle.std.proofs.lemmas.List.Filters.{FiltersInPlace-more_no, FiltersInPlace-more_set}
 use Rattle.ssb_sets.specs.Values.{eight_byte_bounds, values_in}
 use Rattle.ssb_sets.proofs.RowFacts.{holds-there, unread, within-all, within-more, written-no}
-use Rattle.ssb_conditions.proofs.ColumnRows.{read-zero}
-use Rattle.ssb_conditions.proofs.column_filter.ColumnFilter.keep_with_nulls.Goals as goal
-use Rattle.ssb_conditions.proofs.column_filter.ColumnFilter.keep_with_nulls.Goals.{then-is_null_or_passes, else-is_null_or_passes}
+use Rattle.ssb_sets.proofs.NullFacts.{read-zero}
+use Rattle.ssb_sets.proofs.check.Check.keep_with_nulls.Goals as goal
+use Rattle.ssb_sets.proofs.check.Check.keep_with_nulls.Goals.{then-is_null_or_passes, else-is_null_or_passes}
 
 pub is_null_or_passes-requires : goal.is_null_or_passes-requires
 is_null_or_passes-requires c =

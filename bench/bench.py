@@ -53,22 +53,22 @@ TEXTS = {
     "max-joined-text": f"select max(c_name) {CUSTOMERS}\n",
 }
 
-# What `answer` answers beside the benchmark's queries: long lists over one column.
 # Behind each list a filter of a later column, which keeps no row: what is timed is then the list's own filter.
-NO_ROW = "lo_shipmode = 'NONE'"
+LATER = "lo_shipmode = 'NONE'"
 
 
 def listed(column, numbers, between, test):
     """A query whose condition is the tests of a column by each of some numbers, with a word between them."""
     tests = f" {between} ".join(f"{column} {test} {number}" for number in numbers)
-    return f"select count(*) from lineorder where ({tests}) and {NO_ROW}\n"
+    return f"select count(*) from lineorder where ({tests}) and {LATER}\n"
 
 
 def among(column, literals, negated=""):
     """A query whose condition is a list of literals."""
-    return f"select count(*) from lineorder where {column} {negated}in ({','.join(map(str, literals))}) and {NO_ROW}\n"
+    return f"select count(*) from lineorder where {column} {negated}in ({','.join(map(str, literals))}) and {LATER}\n"
 
 
+# What `answer` answers beside the benchmark's queries: long lists over one column.
 LISTS = {
     "1,000-by-or": listed("lo_partkey", range(1, 5001, 5), "or", "="),
     "1,000-by-in": among("lo_partkey", range(1, 5001, 5)),

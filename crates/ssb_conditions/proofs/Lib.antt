@@ -2,6 +2,7 @@ pub mod Cells
 pub mod ColumnFacts
 pub mod ColumnRows
 pub mod Encodings
+pub mod MarkedRows
 pub mod Own
 pub mod SetFacts
 pub mod TableRows

@@ -1,18 +1,19 @@
 // What WHERE asks of one column of a table.
 
-ghost use Rattle.std.specs.Prelude.{◌≡◌, ◌≤◌, ◌<◌, ◌-◌, ◌||◌, ℕ, ℤ, not, slice_index_or, length, pos, true, false, IfOk, OnOk};
+ghost use Rattle.std.specs.Prelude.{◌≡◌, ◌≤◌, ◌<◌, ◌-◌, ◌||◌, ◌&&◌, ℕ, ℤ, Bool, not, slice_index_or, length, pos, true, false, IfOk, OnOk};
 ghost use Rattle.std.specs.List.{All, filter, range_with_len};
 ghost use Rattle.ssb_cells.specs.Tables.{rows_in};
 ghost use Rattle.ssb_cells.specs.Truth.{is_true};
 ghost use Rattle.ssb_conditions.specs.Filters.{AreEncoded, StandsAt, IsThere, passes_column};
 ghost use Rattle.ssb_packed.specs.Lent.{flag_at};
 ghost use Rattle.ssb_sets.specs.Checks.{passes};
+ghost use Rattle.ssb_sets.specs.Marks.{AreMarked};
 ghost use Rattle.ssb_sets.specs.Passing.{passes_at};
 ghost use Rattle.ssb_sets.specs.Values.{IsWithin, bounds_of, eight_byte_bounds, values_in};
 
 use crate::sets::ValueSet;
 use ssb_cells::{Column, Table};
-use ssb_sets::{Bounds, Check, ValueSlice, fill, keep_values};
+use ssb_sets::{Bounds, Check, Marks, ValueSlice, fill, keep_values};
 use ssb_terms::ColType;
 use std::alloc::{AllocError, Global};
 
@@ -102,7 +103,34 @@ impl ColumnFilter {
         }
     }
 
-    /// Makes a list that of the rows from one up to, not including, another that pass.
+    /// Clears the marks of the rows in `from..end` that do not pass, and says so, where a range of a column's numbers
+    /// is asked and no null passes; else the marks stay as they were.
+    pub(crate) fn mark(&self, table: &Table, from: u32, end: u32, marks: &mut Marks) -> bool
+        requires there { IsThere table.now self.now }
+        requires order { from ≤ end }
+        requires rows { end ≤ rows_in table.now }
+        requires few { end - from ≤ 4096 }
+        ensures same { result ≡ false → marks.new ≡ marks.old }
+        ensures marked { result ≡ true → (p : ℕ → Bool) → AreMarked p from (end - from) marks.old.words → AreMarked (λ r. p r && passes_column table.now self.now r) from (end - from) marks.new.words }
+        ensures stand { result ≡ true → All (StandsAt table.now self.now.column) (range_with_len from (end - from)) }
+    {
+        let Check::Within(low, high) = &self.check else {
+            return false;
+        };
+        let column = table.column(self.column);
+        let ValueSlice::Numbers(numbers) = values_of(column) else {
+            return false;
+        };
+        let nulls = column.null_words();
+        if self.takes_nulls(nulls) {
+            return false;
+        }
+        marks.clear_outside(numbers, from, end, *low, *high);
+        marks.clear_nulls(nulls, from, end);
+        true
+    }
+
+    /// Fills a list with the rows in `from..end` that pass.
     pub(crate) fn first(
         &self,
         table: &Table,

@@ -1,6 +1,6 @@
 // What WHERE asks of the rows of one table alone.
 
-ghost use Rattle.std.specs.Prelude.{◌≡◌, ◌<◌, ◌≤◌, ◌-◌, List, [], Some, is_some, length, slice_get, ℕ, Bool, IfOk, IfSome, MatchOption, OnOk};
+ghost use Rattle.std.specs.Prelude.{◌≡◌, ◌<◌, ◌≤◌, ◌-◌, List, [], Some, is_some, length, slice_get, take, true, ℕ, Bool, IfOk, IfSome, MatchOption, OnOk};
 ghost use Rattle.std.specs.List.{All, filter, list_all, range_with_len};
 ghost use Rattle.ssb_cells.specs.Tables.{rows_in};
 ghost use Rattle.ssb_conditions.specs.Filters.{IsColumnFilter, IsTableFilter, IsThere, SaysSame, asked_column, asked_of, is_evaluated, passes};
@@ -8,6 +8,7 @@ ghost use Rattle.ssb_conditions.specs.Only.{all_true, alone_at};
 ghost use Rattle.ssb_conditions.specs.Rows.{RowValuation, tables_at, value};
 ghost use Rattle.ssb_conditions.specs.declared.column_filter.ColumnFilter.{ColumnFilter};
 ghost use Rattle.ssb_query.specs.declared.column.BoundColumn.{BoundColumn};
+ghost use Rattle.ssb_sets.specs.Marks.{AreMarked};
 ghost use Rattle.ssb_trees.specs.Conditions.{Filter};
 
 use crate::column_filter::ColumnFilter;
@@ -17,7 +18,7 @@ use crate::sets::{Subject, ValueSet, set_of};
 use crate::sole::sole_column;
 use ssb_cells::Table;
 use ssb_query::{BoundColumn, copy_condition};
-use ssb_sets::{Join, NumberSet, fill};
+use ssb_sets::{Join, MARKED_ROWS, Marks, NumberSet, fill};
 use ssb_trees::Filter;
 use std::alloc::{AllocError, Global};
 
@@ -168,6 +169,99 @@ fn keep_all(columns: &[ColumnFilter], table: &Table, rows: &mut Vec<u32>)
     }
 }
 
+// Clears the marks of the rows in `from..end` that do not pass the leading filters that ask ranges, and says how many
+// these filters are.
+fn mark_leading(
+    columns: &[ColumnFilter],
+    table: &Table,
+    from: u32,
+    end: u32,
+    marks: &mut Marks,
+) -> usize
+    requires there { All (IsThere table.now) columns.now }
+    requires order { from ≤ end }
+    requires rows { end ≤ rows_in table.now }
+    requires few { end - from ≤ 4096 }
+    ensures count { result ≤ length columns.now }
+    ensures marks { (p : ColumnFilter → ℕ → Bool) → All (SaysSame table.now p) columns.now → AreMarked (λ r. true) from (end - from) marks.old.words → AreMarked (λ r. list_all (λ f. p f r) (take result columns.now)) from (end - from) marks.new.words }
+{
+    for i in 0..columns.len() {
+        if !columns[i].mark(table, from, end, marks) {
+            return i;
+        }
+    }
+    columns.len()
+}
+
+// Fills a list with the rows in `from..end` that pass all these filters of columns, and says so, where the rows are
+// few and the first filter asks a range.
+fn first_marked(
+    columns: &[ColumnFilter],
+    table: &Table,
+    from: u32,
+    end: u32,
+    rows: &mut Vec<u32>,
+) -> Result<bool, AllocError>
+    requires there { All (IsThere table.now) columns.now }
+    requires order { from ≤ end }
+    requires rows { end ≤ rows_in table.now }
+    ensures { IfOk result (λ done. done ≡ true → (p : ColumnFilter → ℕ → Bool) → All (SaysSame table.now p) columns.now → rows.new.items ≡ filter (λ r. list_all (λ f. p f r) columns.now) (range_with_len from (end - from))) }
+{
+    if end - from > MARKED_ROWS {
+        return Ok(false);
+    }
+    let mut marks = Marks::all(end - from);
+    let marked = mark_leading(columns, table, from, end, &mut marks);
+    if marked == 0 {
+        return Ok(false);
+    }
+    marks.list_rows(from, end, rows)?;
+    keep_all(&columns[marked..], table, rows);
+    Ok(true)
+}
+
+// The same by lists alone.
+fn first_listed(
+    columns: &[ColumnFilter],
+    table: &Table,
+    from: u32,
+    end: u32,
+    rows: &mut Vec<u32>,
+) -> Result<(), AllocError>
+    requires there { All (IsThere table.now) columns.now }
+    requires order { from ≤ end }
+    requires rows { end ≤ rows_in table.now }
+    ensures { OnOk result ((p : ColumnFilter → ℕ → Bool) → All (SaysSame table.now p) columns.now → rows.new.items ≡ filter (λ r. list_all (λ f. p f r) columns.now) (range_with_len from (end - from))) }
+{
+    match columns {
+        [first, rest @ ..] => {
+            first.first(table, from, end, rows)?;
+            keep_all(rest, table, rows);
+        }
+        [] => fill(rows, from, end)?,
+    }
+    Ok(())
+}
+
+// The same, by marks where the first filter asks a range.
+fn first_of(
+    columns: &[ColumnFilter],
+    table: &Table,
+    from: u32,
+    end: u32,
+    rows: &mut Vec<u32>,
+) -> Result<(), AllocError>
+    requires there { All (IsThere table.now) columns.now }
+    requires order { from ≤ end }
+    requires rows { end ≤ rows_in table.now }
+    ensures { OnOk result ((p : ColumnFilter → ℕ → Bool) → All (SaysSame table.now p) columns.now → rows.new.items ≡ filter (λ r. list_all (λ f. p f r) columns.now) (range_with_len from (end - from))) }
+{
+    if first_marked(columns, table, from, end, rows)? {
+        return Ok(());
+    }
+    first_listed(columns, table, from, end, rows)
+}
+
 impl TableFilter {
     /// What the conjuncts of WHERE over the table at this place of FROM ask of its rows.
     ///
@@ -208,21 +302,7 @@ impl TableFilter {
         rows.retain(|row| self.meets_others(local, *row));
     }
 
-    /// Leaves the rows of a list that meet the conjuncts over this table alone, in their order. It takes no
-    /// memory.
-    pub fn keep(&self, local: Local<'_>, rows: &mut Vec<u32>)
-        requires few { local.place < 8 }
-        requires table { slice_get (tables_at local.tables.now local.from.now) local.place ≡ Some local.table.now }
-        requires there { All (IsThere local.table.now) self.now.columns.items }
-        requires rows { All (λ r. r < rows_in local.table.now) rows.old.items }
-        ensures { (cs : List (Filter BoundColumn)) → IsTableFilter local.entry.table.now local.entry.place cs self.now → rows.new.items ≡ filter (passes (tables_at local.entry.tables.now local.entry.from.now) local.entry.place cs) rows.old.items }
-    {
-        keep_all(&self.columns, local.table, rows);
-        self.keep_others(local, rows);
-    }
-
-    /// Makes a list that of the rows from one up to, not including, another that meet the conjuncts over
-    /// this table alone.
+    /// Fills a list with the rows in `from..end` that meet the conjuncts over this table alone.
     ///
     /// # Errors
     ///
@@ -241,13 +321,7 @@ impl TableFilter {
         requires rows { end ≤ rows_in local.table.now }
         ensures { OnOk result ((cs : List (Filter BoundColumn)) → IsTableFilter local.entry.table.now local.entry.place cs self.now → rows.new.items ≡ filter (passes (tables_at local.entry.tables.now local.entry.from.now) local.entry.place cs) (range_with_len from (end - from))) }
     {
-        match self.columns.as_slice() {
-            [first, rest @ ..] => {
-                first.first(local.table, from, end, rows)?;
-                keep_all(rest, local.table, rows);
-            }
-            [] => fill(rows, from, end)?,
-        }
+        first_of(&self.columns, local.table, from, end, rows)?;
         self.keep_others(local, rows);
         Ok(())
     }

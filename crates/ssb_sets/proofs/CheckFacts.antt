@@ -1,10 +1,9 @@
 -- What flags say of a number.
-use Rattle.std.proofs.Common.{◌≡◌, ◌∙◌, ⊎_elim, ℕ, ℤ, pos, negsuc, ◌+◌, ◌<◌, ◌≤◌, ◌+ℤ◌, ◌-ℤ◌, ◌<ℤ◌, ◌≤ℤ◌, Bool, true, false, cond, not, ◌&&◌, List, Result, Ok, Err, length, get_or, int_le, unsigned_abs, refl, sym, ap, arith}
-use mathlib.Core.Bool.{beq}
+use Rattle.std.proofs.Common.{◌≡◌, ◌∙◌, ⊎_elim, ℕ, ℤ, pos, negsuc, ◌+◌, ◌<◌, ◌≤◌, ◌+ℤ◌, ◌-ℤ◌, ◌<ℤ◌, ◌≤ℤ◌, Bool, true, false, cond, ◌&&◌, List, Result, Ok, Err, length, get_or, int_le, unsigned_abs, refl, sym, ap, arith}
 use Rattle.std.proofs.lemmas.Bool.{cases_lt}
 use Rattle.std.proofs.lemmas.Int.{by_lt_z, ints}
 use Rattle.std.proofs.lemmas.List.{get_or_past}
-use Rattle.std.specs.Prelude.{OnOk, nat_lt}
+use Rattle.std.specs.Prelude.{OnOk}
 use Rattle.ssb_sets.specs.NumberSets.{has}
 use Rattle.ssb_sets.specs.declared.set.NumberSet.{NumberSet}
 use Rattle.ssb_sets.proofs.ParityFacts.{read-any}
@@ -42,36 +41,6 @@ run-says s low high n ahead within behind = by_lt_z n low
     (λ le. by_lt_z high n
     (λ lt. (λ j. upto low n le j && above n high lt j) ∙ sym (behind lt))
     (λ ge. (λ j. upto low n le j && upto n high ge j) ∙ sym (within le ge)))
-
--- one of two answers, by what they differ in
-pub chosen : (first one other : Bool) → not (beq other (first && not (beq one other))) ≡ cond first one other
-chosen true true true = refl
-chosen true true false = refl
-chosen true false true = refl
-chosen true false false = refl
-chosen false one true = refl
-chosen false one false = refl
-
-lt-true : (a b : ℕ) → a < b → nat_lt a b ≡ true
-lt-true a b lt = grind arith
-
-lt-false : (a b : ℕ) → b ≤ a → nat_lt a b ≡ false
-lt-false a b le = grind arith
-
--- a flag that was read for any number
-pub flag-of : (base n : ℤ) (flags : List Bool) (others there : Bool) (at : ℕ) → there ≡ (int_le base n && nat_lt (unsigned_abs (n -ℤ base)) (length flags)) → (unsigned_abs (n -ℤ base) < length flags → at ≡ unsigned_abs (n -ℤ base))
-    → cond there (get_or flags at false) others ≡ cond (int_le base n) (get_or flags (unsigned_abs (n -ℤ base)) others) others
-flag-of base n flags others there at is same = ap (λ b. cond b (get_or flags at false) others) is ∙ by-side (int_le base n)
-  where
-    k : ℕ
-    k = unsigned_abs (n -ℤ base)
-
-    by-side : (b : Bool) → cond (b && nat_lt k (length flags)) (get_or flags at false) others ≡ cond b (get_or flags k others) others
-    by-side false = refl
-    by-side true = ⊎_elim
-        (λ lt. ap (λ b. cond b (get_or flags at false) others) (lt-true k (length flags) lt) ∙ ap (λ j. get_or flags j false) (same lt) ∙ read-any flags k false others lt)
-        (λ past. ap (λ b. cond b (get_or flags at false) others) (lt-false k (length flags) past) ∙ sym (get_or_past flags k others past))
-        (cases_lt k (length flags))
 
 -- what follows from what holds where it went well
 pub each-ok : {X E : Type 0} (r : Result X E) {P Q : Type 0} → (P → Q) → OnOk r P → OnOk r Q

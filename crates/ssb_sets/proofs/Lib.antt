@@ -1,5 +1,8 @@
 mod CheckFacts
 mod JoinFacts
+mod LaneFacts
+mod MarkFacts
+mod MarkRows
 mod MergeFacts
 mod NullFacts
 mod ParityFacts

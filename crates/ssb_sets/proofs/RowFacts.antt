@@ -98,7 +98,7 @@ module _ {T : Type 0} (wide : T → ℤ) (numbers some : List T) (from n : ℕ) 
   pub stretch-long : length some ≡ n
   stretch-long = ap length is ∙ length-take-le n (drop from numbers) (let e = length-drop from numbers in omega (arith, e, there))
 
-  stretch-read : (k : ℕ) → k < n → get_or (map wide some) (from + k - from) (pos 0) ≡ get_or (map wide numbers) (from + k) (pos 0)
+  pub stretch-read : (k : ℕ) → k < n → get_or (map wide some) (from + k - from) (pos 0) ≡ get_or (map wide numbers) (from + k) (pos 0)
   stretch-read k lt =
       ap (λ j. get_or (map wide some) j (pos 0)) (let e : from + k - from ≡ k = omega arith in e)
       ∙ ap (λ xs. get_or (map wide xs) k (pos 0)) is

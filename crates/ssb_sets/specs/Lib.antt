@@ -1,5 +1,6 @@
 pub mod Checks
 pub mod Joins
+pub mod Marks
 pub mod Merging
 pub mod NumberSets
 pub mod Orders

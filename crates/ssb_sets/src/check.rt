@@ -1,6 +1,6 @@
 // What stands for a set where many numbers are tested.
 
-ghost use Rattle.std.specs.Prelude.{◌≡◌, ◌≤◌, ◌<◌, ◌-◌, ◌-ℤ◌, ◌&&◌, if◌then◌else◌, int_le, nat_lt, unsigned_abs, OnOk, length, pos, slice_index_or};
+ghost use Rattle.std.specs.Prelude.{◌≡◌, ◌≤◌, ◌<◌, ◌-◌, OnOk, length, pos, slice_index_or};
 ghost use Rattle.std.specs.List.{All, filter, range_with_len};
 ghost use Rattle.ssb_sets.specs.Checks.{flag_of, passes, point_of};
 ghost use Rattle.ssb_sets.specs.Passing.{passes_at};
@@ -62,31 +62,38 @@ pub struct Points {
     pub others: bool,
 }
 
-// Whether a number has one of so many flags from a base on.
-fn has_flag(base: i64, count: usize, number: i64) -> bool
-    ensures { result ≡ (int_le base number && nat_lt (unsigned_abs (number -ℤ base)) count) }
-{
-    (base <= number) & ((number.abs_diff(base) as usize) < count)
-}
-
-// One of two answers, without a branch.
-fn chosen(first: bool, one: bool, other: bool) -> bool
-    ensures { result ≡ (if first then one else other) }
-{
-    other != (first & (one != other))
-}
-
-// What is said of a number by flags, from a base on. A flag is read for any number, the last one for
-// those too far, and no branch chooses: that spares a jump which no processor could foresee.
+// What is said of a number by flags, from a base on. Below the base its distance wraps to some other flag's or
+// to none's; both are asked, so that no branch chooses which no processor could foresee.
 pub(crate) fn flag_of(base: i64, flags: &[bool], others: bool, number: i64) -> bool
     ensures { result ≡ flag_of base flags.now others number }
 {
-    if flags.len() == 0 {
-        return others;
+    match flags.get(number.wrapping_sub(base).cast_unsigned() as usize) {
+        Some(flag) => { if base <= number { *flag } else { others } }
+        None => others,
     }
-    let there = has_flag(base, flags.len(), number);
-    let flag = flags[(number.abs_diff(base) as usize).min(flags.len() - 1)];
-    chosen(there, flag, others)
+}
+
+impl Flags {
+    /// What is said of a number.
+    pub fn says(&self, number: i64) -> bool
+        ensures { result ≡ flag_of self.now.base self.now.flags.items self.now.others number }
+    {
+        flag_of(self.base, &self.flags, self.others, number)
+    }
+
+    /// Leaves the rows whose value passes, in their order. Takes no memory.
+    pub fn keep(&self, values: ValueSlice<'_>, rows: &mut Vec<u32>)
+        requires { All (λ r. r < length (values_in values)) rows.old.items }
+        ensures rows { rows.new.items ≡ filter (passes_at (λ n. flag_of self.now.base self.now.flags.items self.now.others n) (values_in values.entry)) rows.old.items }
+        ensures within { All (λ r. IsWithin (bounds_of values.entry) (slice_index_or (values_in values.entry) r (pos 0))) rows.old.items }
+    {
+        let asked = FlagsAsk {
+            base: self.base,
+            flags: self.flags.as_slice(),
+            others: self.others,
+        };
+        values.keep(asked, rows)
+    }
 }
 
 impl Points {
@@ -107,7 +114,7 @@ impl Check {
             Check::Never => false,
             Check::Always => true,
             Check::Within(low, high) => *low <= number && number <= *high,
-            Check::Flagged(flags) => flag_of(flags.base, &flags.flags, flags.others, number),
+            Check::Flagged(flags) => flags.says(number),
             Check::Listed(points) => points.says(number),
             Check::Searched(set) => set.has(number),
         }
@@ -129,20 +136,13 @@ impl Check {
                 };
                 values.keep(asked, rows)
             }
-            Check::Flagged(flags) => {
-                let asked = FlagsAsk {
-                    base: flags.base,
-                    flags: flags.flags.as_slice(),
-                    others: flags.others,
-                };
-                values.keep(asked, rows)
-            }
+            Check::Flagged(flags) => flags.keep(values, rows),
             Check::Listed(points) => values.keep(PointsAsk { points }, rows),
             Check::Searched(set) => values.keep(SearchAsk { set }, rows),
         }
     }
 
-    /// Makes a list that of the rows from one up to, not including, another whose value passes.
+    /// Fills a list with the rows in `from..end` whose value passes.
     ///
     /// # Errors
     ///

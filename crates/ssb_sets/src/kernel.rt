@@ -1,12 +1,14 @@
 // Tests of many rows, one column after the other: one loop for all widths of numbers.
 
-ghost use Rattle.std.specs.Prelude.{◌≡◌, ◌≤◌, ◌<◌, ◌+◌, ◌^◌, ◌-◌, ℤ, pos, length, map, slice_index_or, take};
+ghost use Rattle.std.specs.Prelude.{◌≡◌, ◌≤◌, ◌<◌, ◌+◌, ◌^◌, ◌-◌, ℕ, ℤ, pos, length, map, slice_index_or, take};
 ghost use Rattle.std.specs.List.{All, filter, range_with_len};
+ghost use Rattle.ssb_sets.specs.Marks.{has_bit, is_between};
 ghost use Rattle.ssb_sets.specs.Passing.{passes_at, passes_from};
 ghost use Rattle.ssb_sets.specs.declared.values.Bounds.{Bounds};
 ghost use Rattle.ssb_sets.specs.Values.{IsWithin, byte_bounds, two_byte_bounds, four_byte_bounds, eight_byte_bounds};
 
 use crate::asks::Asks;
+use crate::lanes::{bytes_between, eight_bytes_between, four_bytes_between, two_bytes_between};
 
 /// A signed number of some width.
 pub trait Number: Copy {
@@ -18,6 +20,12 @@ pub trait Number: Copy {
     fn wide(self) -> i64
         ensures number { result ≡ wide self }
         ensures within { IsWithin bounds result };
+
+    /// Which of the first 64 numbers lie from a least to a greatest: a bit for each.
+    fn between(numbers: &[Self], low: i64, high: i64) -> u64
+        requires many { 64 ≤ length numbers.now }
+        requires within { (i : ℕ) → i < 64 → IsWithin bounds (slice_index_or (map wide numbers.now) i (pos 0)) }
+        ensures { (i : ℕ) → i < 64 → has_bit result i ≡ is_between low high (slice_index_or (map wide numbers.now) i (pos 0)) };
 }
 
 impl Number for i8 {
@@ -27,6 +35,10 @@ impl Number for i8 {
 
     fn wide(self) -> i64 {
         i64::from(self)
+    }
+
+    fn between(numbers: &[i8], low: i64, high: i64) -> u64 {
+        bytes_between(numbers, low, high)
     }
 }
 
@@ -38,6 +50,10 @@ impl Number for i16 {
     fn wide(self) -> i64 {
         i64::from(self)
     }
+
+    fn between(numbers: &[i16], low: i64, high: i64) -> u64 {
+        two_bytes_between(numbers, low, high)
+    }
 }
 
 impl Number for i32 {
@@ -48,6 +64,10 @@ impl Number for i32 {
     fn wide(self) -> i64 {
         i64::from(self)
     }
+
+    fn between(numbers: &[i32], low: i64, high: i64) -> u64 {
+        four_bytes_between(numbers, low, high)
+    }
 }
 
 impl Number for i64 {
@@ -57,6 +77,10 @@ impl Number for i64 {
 
     fn wide(self) -> i64 {
         self
+    }
+
+    fn between(numbers: &[i64], low: i64, high: i64) -> u64 {
+        eight_bytes_between(numbers, low, high)
     }
 }
 

@@ -22,7 +22,7 @@ pub fn keep_values(nulls: &[u64], rows: &mut Vec<u32>)
     rows.retain(|row| !flag_at(nulls, *row));
 }
 
-/// Makes a list that of the rows from one up to, not including, another.
+/// Fills a list with the rows in `from..end`.
 pub fn fill(rows: &mut Vec<u32>, from: u32, end: u32) -> Result<(), AllocError>
     requires { from ≤ end }
     ensures { OnOk result (rows.new.items ≡ range_with_len from (end - from)) }

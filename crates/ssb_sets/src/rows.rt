@@ -25,7 +25,7 @@ impl<'a> ValueSlice<'a> {
         }
     }
 
-    /// Makes a list that of the rows from one up to, not including, another whose value passes.
+    /// Fills a list with the rows in `from..end` whose value passes.
     ///
     /// # Errors
     ///

@@ -1,0 +1,7 @@
+use Rattle.std.proofs.Common.{get_or, pos, refl, subst}
+use Rattle.std.proofs.lemmas.List.Folds.{map_fixed}
+use Rattle.ssb_sets.specs.Values.{IsWithin, byte_bounds}
+use Rattle.ssb_sets.proofs.kernel.I8Number.between.Goals as goal
+
+pub bytes_between-requires-clause-within : goal.bytes_between-requires-clause-within
+bytes_between-requires-clause-within c i lt = subst (λ ns. IsWithin byte_bounds (get_or ns i (pos 0))) (map_fixed (λ n. n) c.args.numbers.now (λ k d small. refl)) (c.requires.within i lt)

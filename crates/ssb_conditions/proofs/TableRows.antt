@@ -1,9 +1,8 @@
 -- What the filters of a table's columns and the conjuncts that are evaluated say together.
-use Rattle.std.proofs.Common.{◌≡◌, ◌∙◌, ◌<◌, ◌≤◌, ◌+◌, ◌-◌, ◌&&◌, ◌||◌, ℕ, ℤ, Bool, true, false, cond, not, is_some, List, [], ◌∷◌, length, get_or, Option, None, Some, slice_get, unwrap_or, map, drop, filter, take, suc, refl, sym, ap, subst, arith}
+use Rattle.std.proofs.Common.{◌≡◌, ◌∙◌, ◌<◌, ◌≤◌, ◌+◌, ◌&&◌, ◌||◌, ℕ, ℤ, Bool, true, false, cond, not, is_some, List, [], ◌∷◌, length, get_or, Option, None, Some, slice_get, unwrap_or, map, filter, take, suc, refl, sym, ap, subst, arith}
 use Rattle.std.specs.List.{All, list_all, range_with_len}
 use Rattle.std.specs.Bool.{◌==◌}
 use Rattle.std.proofs.lemmas.List.{take_all}
-use Rattle.std.proofs.lemmas.List.Elements.{All-tail}
 use Rattle.std.proofs.lemmas.List.FromFn.{get_or-range_with_len, length-range_with_len}
 use Rattle.std.proofs.lemmas.List.Folds.{list_all_more}
 use Rattle.ssb_cells.specs.Cell.{null}
@@ -40,7 +39,7 @@ filter-others v cs none rows = sym (ap (λ ds. filter (λ r. all_true (v r) ds) 
 
 module _ (t : Columns) (p : ColumnFilter → ℕ → Bool) (fs : List ColumnFilter) (same : All (SaysSame t p) fs) where
   -- a filter keeps the rows that its test does
-  pub one-same : (f : ColumnFilter) (i : ℕ) → i < length fs → f ≡ get_or fs i f → (rows : List ℕ) → All (StandsAt t f.column) rows → filter (passes_column t f) rows ≡ filter (p f) rows
+  one-same : (f : ColumnFilter) (i : ℕ) → i < length fs → f ≡ get_or fs i f → (rows : List ℕ) → All (StandsAt t f.column) rows → filter (passes_column t f) rows ≡ filter (p f) rows
   one-same f i lt is rows stand = filter-alike (passes_column t f) (p f) rows (λ k d below. (subst (SaysSame t p) (sym is) (same i f lt)) (get_or rows k d) (stand k d below))
 
   pub one-more : (f : ColumnFilter) (i : ℕ) → i < length fs → f ≡ get_or fs i f → (initial rows : List ℕ) → rows ≡ filter (λ r. list_all (λ g. p g r) (take i fs)) initial → All (StandsAt t f.column) rows
@@ -56,26 +55,6 @@ module _ (t : Columns) (p : ColumnFilter → ℕ → Bool) (fs : List ColumnFilt
 
 pub all-taken : (p : ColumnFilter → ℕ → Bool) (fs : List ColumnFilter) (i : ℕ) (initial : List ℕ) → length fs ≤ i → filter (λ r. list_all (λ g. p g r) (take i fs)) initial ≡ filter (λ r. list_all (λ g. p g r) fs) initial
 all-taken p fs i initial past = ap (λ gs. filter (λ r. list_all (λ g. p g r) gs) initial) (take_all i fs past)
-
-pub no-columns : (p : ColumnFilter → ℕ → Bool) (fs : List ColumnFilter) (rows : List ℕ) → length fs < 1 → rows ≡ filter (λ r. list_all (λ g. p g r) fs) rows
-no-columns p [] rows none = sym (filter-true rows)
-no-columns p (f ∷ fs) rows none = absurd (omega (arith, none))
-
--- a first filter, and then the others
-pub first-more : (t : Columns) (p : ColumnFilter → ℕ → Bool) (f : ColumnFilter) (fs gs : List ColumnFilter) (rows kept : List ℕ) → fs ≡ f ∷ gs → All (SaysSame t p) fs → kept ≡ filter (passes_column t f) rows → All (StandsAt t f.column) rows
-    → filter (λ r. list_all (λ g. p g r) gs) kept ≡ filter (λ r. list_all (λ g. p g r) fs) rows
-first-more t p f fs gs rows kept is same kept-is stand =
-    ap (filter (λ r. list_all (λ g. p g r) gs)) (kept-is ∙ one-same t p (f ∷ gs) (subst (All (SaysSame t p)) is same) f 0 (omega arith) refl rows stand)
-    ∙ filter-both (p f) (λ r. list_all (λ g. p g r) gs) rows
-    ∙ ap (λ hs. filter (λ r. list_all (λ g. p g r) hs) rows) (sym is)
-
-pub rest-same : (t : Columns) (p : ColumnFilter → ℕ → Bool) (f : ColumnFilter) (fs gs : List ColumnFilter) → fs ≡ f ∷ gs → All (SaysSame t p) fs → All (SaysSame t p) gs
-rest-same t p f fs gs is same = All-tail (SaysSame t p) f gs (subst (All (SaysSame t p)) is same)
-
--- what the pattern of a slice finds
-pub rest-there : (read fs : List ColumnFilter) (f : ColumnFilter) → read ≡ fs → 1 ≤ length read → f ≡ get_or read 0 f → fs ≡ f ∷ take (length read - 1) (drop 1 read)
-rest-there [] fs f own some is = absurd (omega (arith, some))
-rest-there (g ∷ gs) fs f own some is = sym own ∙ (λ j. sym is j ∷ sym (take_all (length (g ∷ gs) - 1) gs (omega arith)) j)
 
 pub range-below : (a n end : ℕ) → a + n ≤ end → All (λ r. r < end) (range_with_len a n)
 range-below a n end below k d lt =

@@ -1,6 +1,6 @@
 // What WHERE asks of one column of a table.
 
-ghost use Rattle.std.specs.Prelude.{◌≡◌, ◌≤◌, ◌<◌, ◌-◌, ◌||◌, ◌&&◌, ℕ, ℤ, Bool, not, slice_index_or, length, pos, true, false, IfOk, OnOk};
+ghost use Rattle.std.specs.Prelude.{◌≡◌, ◌≤◌, ◌<◌, ◌-◌, ◌&&◌, ℕ, ℤ, Bool, length, true, false, IfOk};
 ghost use Rattle.std.specs.List.{All, filter, range_with_len};
 ghost use Rattle.ssb_cells.specs.Tables.{rows_in};
 ghost use Rattle.ssb_cells.specs.Truth.{is_true};
@@ -8,12 +8,11 @@ ghost use Rattle.ssb_conditions.specs.Filters.{AreEncoded, StandsAt, IsThere, pa
 ghost use Rattle.ssb_packed.specs.Lent.{flag_at};
 ghost use Rattle.ssb_sets.specs.Checks.{passes};
 ghost use Rattle.ssb_sets.specs.Marks.{AreMarked};
-ghost use Rattle.ssb_sets.specs.Passing.{passes_at};
 ghost use Rattle.ssb_sets.specs.Values.{IsWithin, bounds_of, eight_byte_bounds, values_in};
 
 use crate::sets::ValueSet;
 use ssb_cells::{Column, Table};
-use ssb_sets::{Bounds, Check, Marks, ValueSlice, fill, keep_values};
+use ssb_sets::{Bounds, Check, Marks, ValueSlice, keep_values};
 use ssb_terms::ColType;
 use std::alloc::{AllocError, Global};
 
@@ -128,31 +127,5 @@ impl ColumnFilter {
         marks.clear_outside(numbers, from, end, *low, *high);
         marks.clear_nulls(nulls, from, end);
         true
-    }
-
-    /// Fills a list with the rows in `from..end` that pass.
-    pub(crate) fn first(
-        &self,
-        table: &Table,
-        from: u32,
-        end: u32,
-        rows: &mut Vec<u32>,
-    ) -> Result<(), AllocError>
-        requires there { IsThere table.now self.now }
-        requires order { from ≤ end }
-        requires rows { end ≤ rows_in table.now }
-        ensures rows { OnOk result (rows.new.items ≡ filter (passes_column table.now self.now) (range_with_len from (end - from))) }
-        ensures stand { OnOk result (All (StandsAt table.now self.now.column) (range_with_len from (end - from))) }
-    {
-        let column = table.column(self.column);
-        let nulls = column.null_words();
-        if self.takes_nulls(nulls) {
-            fill(rows, from, end)?;
-            self.check.keep_with_nulls(values_of(column), nulls, rows);
-        } else {
-            self.check.first(values_of(column), from, end, rows)?;
-            keep_values(nulls, rows);
-        }
-        Ok(())
     }
 }

@@ -72,14 +72,8 @@ fn asked_column(place: usize, count: usize, conjunct: &Filter<BoundColumn>) -> O
         return None;
     }
     match sole_column(conjunct) {
-        Some(x) => {
-            if x.table == place && x.column < count {
-                Some(x.column)
-            } else {
-                None
-            }
-        }
-        None => None,
+        Some(x) if x.table == place && x.column < count => Some(x.column),
+        _ => None,
     }
 }
 
@@ -193,57 +187,34 @@ fn mark_leading(
     columns.len()
 }
 
-// Fills a list with the rows in `from..end` that pass all these filters of columns, and says so, where the rows are
-// few and the first filter asks a range.
+// Fills a list with the rows in `from..end` that pass the leading filters that ask ranges, as many as go by marks, and
+// says how many these filters are.
 fn first_marked(
     columns: &[ColumnFilter],
     table: &Table,
     from: u32,
     end: u32,
     rows: &mut Vec<u32>,
-) -> Result<bool, AllocError>
+) -> Result<usize, AllocError>
     requires there { All (IsThere table.now) columns.now }
     requires order { from ≤ end }
     requires rows { end ≤ rows_in table.now }
-    ensures { IfOk result (λ done. done ≡ true → (p : ColumnFilter → ℕ → Bool) → All (SaysSame table.now p) columns.now → rows.new.items ≡ filter (λ r. list_all (λ f. p f r) columns.now) (range_with_len from (end - from))) }
+    ensures count { IfOk result (λ marked. marked ≤ length columns.now) }
+    ensures rows { IfOk result (λ marked. (p : ColumnFilter → ℕ → Bool) → All (SaysSame table.now p) columns.now → rows.new.items ≡ filter (λ r. list_all (λ f. p f r) (take marked columns.now)) (range_with_len from (end - from))) }
 {
-    if end - from > MARKED_ROWS {
-        return Ok(false);
-    }
-    let mut marks = Marks::all(end - from);
-    let marked = mark_leading(columns, table, from, end, &mut marks);
-    if marked == 0 {
-        return Ok(false);
-    }
-    marks.list_rows(from, end, rows)?;
-    keep_all(&columns[marked..], table, rows);
-    Ok(true)
-}
-
-// The same by lists alone.
-fn first_listed(
-    columns: &[ColumnFilter],
-    table: &Table,
-    from: u32,
-    end: u32,
-    rows: &mut Vec<u32>,
-) -> Result<(), AllocError>
-    requires there { All (IsThere table.now) columns.now }
-    requires order { from ≤ end }
-    requires rows { end ≤ rows_in table.now }
-    ensures { OnOk result ((p : ColumnFilter → ℕ → Bool) → All (SaysSame table.now p) columns.now → rows.new.items ≡ filter (λ r. list_all (λ f. p f r) columns.now) (range_with_len from (end - from))) }
-{
-    match columns {
-        [first, rest @ ..] => {
-            first.first(table, from, end, rows)?;
-            keep_all(rest, table, rows);
+    if end - from <= MARKED_ROWS {
+        let mut marks = Marks::all(end - from);
+        let marked = mark_leading(columns, table, from, end, &mut marks);
+        if marked > 0 {
+            marks.list_rows(from, end, rows)?;
+            return Ok(marked);
         }
-        [] => fill(rows, from, end)?,
     }
-    Ok(())
+    fill(rows, from, end)?;
+    Ok(0)
 }
 
-// The same, by marks where the first filter asks a range.
+// Fills a list with the rows in `from..end` that pass all these filters of columns.
 fn first_of(
     columns: &[ColumnFilter],
     table: &Table,
@@ -256,10 +227,9 @@ fn first_of(
     requires rows { end ≤ rows_in table.now }
     ensures { OnOk result ((p : ColumnFilter → ℕ → Bool) → All (SaysSame table.now p) columns.now → rows.new.items ≡ filter (λ r. list_all (λ f. p f r) columns.now) (range_with_len from (end - from))) }
 {
-    if first_marked(columns, table, from, end, rows)? {
-        return Ok(());
-    }
-    first_listed(columns, table, from, end, rows)
+    let marked = first_marked(columns, table, from, end, rows)?;
+    keep_all(&columns[marked..], table, rows);
+    Ok(())
 }
 
 impl TableFilter {

@@ -1,35 +1,23 @@
 -- Loops that write the rows that pass to the front of a list.
-use Rattle.std.proofs.Common.{◌≡◌, ◌∙◌, ⊎_elim, ◌++◌, ◌+◌, ◌-◌, ◌<◌, ◌≤◌, ℕ, ℤ, pos, Bool, true, false, cond, List, [], ◌∷◌, length, take, drop, set, get_or, filter, map, suc, append-nil, refl, sym, ap, arith, subst}
+use Rattle.std.proofs.Common.{◌≡◌, ◌∙◌, ⊎_elim, ◌+◌, ◌-◌, ◌<◌, ◌≤◌, ℕ, ℤ, pos, Bool, cond, List, [], ◌∷◌, length, take, drop, set, get_or, filter, map, suc, refl, sym, ap, arith, subst}
 use Rattle.std.specs.List.{All, range_with_len}
 use Rattle.std.proofs.lemmas.Bool.{cases_lt}
 use Rattle.std.proofs.lemmas.Int.{ints}
-use Rattle.std.proofs.lemmas.List.{get_or-drop, get_or-take, length-drop, length-map, length-take-le, take_more_set, take-set, drop_more, drop-set-lt, length-set, get_or-map, take-map, drop-map}
+use Rattle.std.proofs.lemmas.List.{get_or-drop, get_or-take, length-drop, length-map, length-take-le, take-set, drop_more, drop-set-lt, length-set, get_or-map, take-map, drop-map}
 use Rattle.std.proofs.lemmas.List.Filters.{FiltersInPlace}
-use Rattle.std.proofs.lemmas.List.Folds.{map_fixed}
-use Rattle.std.proofs.lemmas.List.FromFn.{filter_of_map_range_with_len_more, get_or-range_with_len, length-range_with_len}
+use Rattle.std.proofs.lemmas.List.FromFn.{get_or-range_with_len, length-range_with_len}
 use Rattle.std.proofs.lemmas.Option.{same_Some, slice_get-get_or}
 use Rattle.ssb_packed.specs.Lent.{kept_code}
-use Rattle.ssb_sets.specs.Passing.{passes_at, passes_from}
+use Rattle.ssb_sets.specs.Passing.{passes_at}
 use Rattle.ssb_sets.specs.Values.{IsWithin, code_bounds}
 use Rattle.ssb_sets.specs.declared.values.Bounds.{Bounds}
 use Rattle.ssb_sets.proofs.ParityFacts.{read-any}
-
-filter-range_more : (p : ℕ → Bool) (a n : ℕ) → filter p (range_with_len a (n + 1)) ≡ filter p (range_with_len a n) ++ cond (p (a + n)) ((a + n) ∷ []) []
-filter-range_more p a n =
-    ap (filter p) (sym (same (n + 1))) ∙ filter_of_map_range_with_len_more p (λ x. x) a n (a + n) refl ∙ ap (λ xs. filter p xs ++ cond (p (a + n)) ((a + n) ∷ []) []) (same n)
-  where
-    same : (m : ℕ) → map (λ x. x) (range_with_len a m) ≡ range_with_len a m
-    same m = map_fixed (λ x. x) (range_with_len a m) (λ k d lt. refl)
 
 -- the number that was read, among the wide ones
 pub wide-read : {T : Type 0} (wide : T → ℤ) (numbers : List T) (i : ℕ) (x : T) → i < length numbers → x ≡ get_or numbers i x → get_or (map wide numbers) i (pos 0) ≡ wide x
 wide-read wide numbers i x lt is = get_or-map wide numbers i x (pos 0) lt ∙ ap wide (sym is)
 
 -- what is said of a row by the number that was read
-pub says-read : (p : ℤ → Bool) (ns : List ℤ) (first row i : ℕ) (z : ℤ) (said : Bool) → row ≡ first + i → get_or ns i (pos 0) ≡ z → said ≡ p z → passes_from p ns first row ≡ said
-says-read p ns first row i z said at read told =
-    ap (λ k. p (get_or ns k (pos 0))) (let e : row - first ≡ i = omega (arith, at) in e) ∙ ap p read ∙ sym told
-
 pub says-row : (p : ℤ → Bool) (ns : List ℤ) (row : ℕ) (z : ℤ) (said : Bool) → get_or ns row (pos 0) ≡ z → said ≡ p z → passes_at p ns row ≡ said
 says-row p ns row z said read told = ap p read ∙ sym told
 
@@ -39,13 +27,6 @@ within-more b f i z before at is k lt = ⊎_elim
     (λ below. before k below)
     (λ past. let same : i ≡ k = omega (arith, past, lt) in subst (λ j. IsWithin b (f j)) same (subst (IsWithin b) (sym at) is))
     (cases_lt k i)
-
-module _ (p : ℕ → Bool) (first : ℕ) (ys : List ℕ) (k i : ℕ) where
-  pub row-passes : p (first + i) ≡ true → k < length ys → take k ys ≡ filter p (range_with_len first i) → take (k + 1) (set ys k (first + i)) ≡ filter p (range_with_len first (i + 1))
-  row-passes said lt so_far = take_more_set ys k (first + i) lt ∙ ap (λ xs. xs ++ (first + i) ∷ []) so_far ∙ sym (filter-range_more p first i ∙ ap (λ b. filter p (range_with_len first i) ++ cond b ((first + i) ∷ []) []) said)
-
-  pub row-fails : p (first + i) ≡ false → take k ys ≡ filter p (range_with_len first i) → take k (set ys k (first + i)) ≡ filter p (range_with_len first (i + 1))
-  row-fails said so_far = take-set ys k (first + i) ∙ so_far ∙ sym (filter-range_more p first i ∙ ap (λ b. filter p (range_with_len first i) ++ cond b ((first + i) ∷ []) []) said ∙ append-nil (filter p (range_with_len first i)))
 
 -- ---- rows that are listed
 
@@ -76,7 +57,7 @@ read-same ys i lt = same_Some (get_or ys i 0) (get_or ys i (get_or ys i 0)) (sym
 
 -- ---- tests that say the same of each row that is there
 
-pub filter-same : (p q : ℕ → Bool) (xs : List ℕ) → ((k : ℕ) → k < length xs → p (get_or xs k 0) ≡ q (get_or xs k 0)) → filter p xs ≡ filter q xs
+filter-same : (p q : ℕ → Bool) (xs : List ℕ) → ((k : ℕ) → k < length xs → p (get_or xs k 0) ≡ q (get_or xs k 0)) → filter p xs ≡ filter q xs
 filter-same p q [] same = refl
 filter-same p q (x ∷ xs) same =
     ap (λ b. cond b (x ∷ filter p xs) (filter p xs)) (same 0 (omega arith))
@@ -85,13 +66,13 @@ filter-same p q (x ∷ xs) same =
 -- ---- a stretch of the rows
 
 -- what holds of each place of a stretch holds of each row
-pub of-rows : (P : ℕ → Type 0) (from n : ℕ) → ((k : ℕ) → k < n → P (from + k)) → All P (range_with_len from n)
+of-rows : (P : ℕ → Type 0) (from n : ℕ) → ((k : ℕ) → k < n → P (from + k)) → All P (range_with_len from n)
 of-rows P from n each k d lt =
     let short : k < n = (let e = length-range_with_len from n in omega (arith, e, lt)) in
     subst P (sym (get_or-range_with_len from n k d short)) (each k short)
 
 -- and the other way round
-pub to-rows : (P : ℕ → Type 0) (from n : ℕ) → All P (range_with_len from n) → (k : ℕ) → k < n → P (from + k)
+to-rows : (P : ℕ → Type 0) (from n : ℕ) → All P (range_with_len from n) → (k : ℕ) → k < n → P (from + k)
 to-rows P from n all k lt = subst P (get_or-range_with_len from n k 0 lt) (all k 0 (let e = length-range_with_len from n in omega (arith, e, lt)))
 
 module _ {T : Type 0} (wide : T → ℤ) (numbers some : List T) (from n : ℕ) (is : some ≡ take n (drop from numbers)) (there : from + n ≤ length numbers) where
@@ -106,12 +87,6 @@ module _ {T : Type 0} (wide : T → ℤ) (numbers some : List T) (from n : ℕ) 
       ∙ get_or-take n (map wide (drop from numbers)) k (pos 0) lt
       ∙ ap (λ xs. get_or xs k (pos 0)) (sym (drop-map wide from numbers))
       ∙ get_or-drop from (map wide numbers) k (pos 0)
-
-  pub stretch-rows : (p : ℤ → Bool) → filter (passes_from p (map wide some) from) (range_with_len from (length some)) ≡ filter (passes_at p (map wide numbers)) (range_with_len from n)
-  stretch-rows p =
-      ap (λ m. filter (passes_from p (map wide some) from) (range_with_len from m)) stretch-long
-      ∙ filter-same (passes_from p (map wide some) from) (passes_at p (map wide numbers)) (range_with_len from n)
-      (λ k lt. of-rows (λ r. passes_from p (map wide some) from r ≡ passes_at p (map wide numbers) r) from n (λ j below. ap p (stretch-read j below)) k 0 lt)
 
   pub stretch-within : (b : Bounds) → All (λ r. IsWithin b (get_or (map wide some) (r - from) (pos 0))) (range_with_len from (length some)) → All (λ r. IsWithin b (get_or (map wide numbers) r (pos 0))) (range_with_len from n)
   stretch-within b all = of-rows (λ r. IsWithin b (get_or (map wide numbers) r (pos 0))) from n

@@ -1,7 +1,7 @@
 // What stands for a set where many numbers are tested.
 
-ghost use Rattle.std.specs.Prelude.{◌≡◌, ◌≤◌, ◌<◌, ◌-◌, OnOk, length, pos, slice_index_or};
-ghost use Rattle.std.specs.List.{All, filter, range_with_len};
+ghost use Rattle.std.specs.Prelude.{◌≡◌, ◌<◌, ◌-◌, length, pos, slice_index_or};
+ghost use Rattle.std.specs.List.{All, filter};
 ghost use Rattle.ssb_sets.specs.Checks.{flag_of, passes, point_of};
 ghost use Rattle.ssb_sets.specs.Passing.{passes_at};
 ghost use Rattle.ssb_sets.specs.Values.{IsWithin, bounds_of, values_in};
@@ -9,7 +9,6 @@ ghost use Rattle.ssb_sets.specs.Values.{IsWithin, bounds_of, values_in};
 use crate::asked::{Between, Constantly, FlagsAsk, PointsAsk, SearchAsk};
 use crate::set::NumberSet;
 use crate::values::ValueSlice;
-use std::alloc::AllocError;
 use std::collections::HashSet;
 
 /// What stands for a set, so that a number is tested by few steps.
@@ -62,13 +61,16 @@ pub struct Points {
     pub others: bool,
 }
 
-// What is said of a number by flags, from a base on. Below the base its distance wraps to some other flag's or
-// to none's; both are asked, so that no branch chooses which no processor could foresee.
+// What is said of a number by flags, from a base on. Keys nearly always lie in the span of the flags: two branches
+// that are predicted cost less than asking both.
 pub(crate) fn flag_of(base: i64, flags: &[bool], others: bool, number: i64) -> bool
     ensures { result ≡ flag_of base flags.now others number }
 {
-    match flags.get(number.wrapping_sub(base).cast_unsigned() as usize) {
-        Some(flag) => { if base <= number { *flag } else { others } }
+    if number < base {
+        return others;
+    }
+    match flags.get(number.abs_diff(base) as usize) {
+        Some(flag) => *flag,
         None => others,
     }
 }
@@ -139,46 +141,6 @@ impl Check {
             Check::Flagged(flags) => flags.keep(values, rows),
             Check::Listed(points) => values.keep(PointsAsk { points }, rows),
             Check::Searched(set) => values.keep(SearchAsk { set }, rows),
-        }
-    }
-
-    /// Fills a list with the rows in `from..end` whose value passes.
-    ///
-    /// # Errors
-    ///
-    /// Only where a growth was refused.
-    pub fn first(
-        &self,
-        values: ValueSlice<'_>,
-        from: u32,
-        end: u32,
-        rows: &mut Vec<u32>,
-    ) -> Result<(), AllocError>
-        requires order { from ≤ end }
-        requires there { end ≤ length (values_in values) }
-        ensures rows { OnOk result (rows.new.items ≡ filter (passes_at (passes self.now) (values_in values.entry)) (range_with_len from (end - from))) }
-        ensures within { OnOk result (All (λ r. IsWithin (bounds_of values.entry) (slice_index_or (values_in values.entry) r (pos 0))) (range_with_len from (end - from))) }
-    {
-        match self {
-            Check::Never => values.first(Constantly { all: false }, from, end, rows),
-            Check::Always => values.first(Constantly { all: true }, from, end, rows),
-            Check::Within(low, high) => {
-                let asked = Between {
-                    low: *low,
-                    high: *high,
-                };
-                values.first(asked, from, end, rows)
-            }
-            Check::Flagged(flags) => {
-                let asked = FlagsAsk {
-                    base: flags.base,
-                    flags: flags.flags.as_slice(),
-                    others: flags.others,
-                };
-                values.first(asked, from, end, rows)
-            }
-            Check::Listed(points) => values.first(PointsAsk { points }, from, end, rows),
-            Check::Searched(set) => values.first(SearchAsk { set }, from, end, rows),
         }
     }
 }

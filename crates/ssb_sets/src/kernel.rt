@@ -1,9 +1,9 @@
-// Tests of many rows, one column after the other: one loop for all widths of numbers.
+// Tests of many listed rows, one column after the other: one loop for all widths of numbers.
 
-ghost use Rattle.std.specs.Prelude.{◌≡◌, ◌≤◌, ◌<◌, ◌+◌, ◌^◌, ◌-◌, ℕ, ℤ, pos, length, map, slice_index_or, take};
-ghost use Rattle.std.specs.List.{All, filter, range_with_len};
+ghost use Rattle.std.specs.Prelude.{◌≡◌, ◌≤◌, ◌<◌, ◌+◌, ◌-◌, ℕ, ℤ, pos, length, map, slice_index_or, take};
+ghost use Rattle.std.specs.List.{All, filter};
 ghost use Rattle.ssb_sets.specs.Marks.{has_bit, is_between};
-ghost use Rattle.ssb_sets.specs.Passing.{passes_at, passes_from};
+ghost use Rattle.ssb_sets.specs.Passing.{passes_at};
 ghost use Rattle.ssb_sets.specs.declared.values.Bounds.{Bounds};
 ghost use Rattle.ssb_sets.specs.Values.{IsWithin, byte_bounds, two_byte_bounds, four_byte_bounds, eight_byte_bounds};
 
@@ -84,32 +84,8 @@ impl Number for i64 {
     }
 }
 
-/// Writes the rows whose numbers pass, of a stretch from a first row on, and says how many they are. Each row is
+/// Leaves in front the rows of a list whose numbers pass, in their order, and says how many they are. Each row is
 /// written before it is known whether it passes: that spares a jump which no processor could foresee.
-pub fn first_rows<T: Number, A: Asks>(
-    numbers: &[T],
-    first: u32,
-    asked: A,
-    rows: &mut [u32],
-) -> usize
-    requires room { length numbers.now ≤ length rows.old }
-    requires fits { first + length numbers.now < 2 ^ 32 }
-    ensures count { result ≤ length numbers.now }
-    ensures rows { take result rows.new ≡ filter (passes_from (A.says asked) (map T.wide numbers.now) first) (range_with_len first (length numbers.now)) }
-    ensures within { All (λ row. IsWithin T.bounds (slice_index_or (map T.wide numbers.now) (row - first) (pos 0))) (range_with_len first (length numbers.now)) }
-{
-    let mut left = 0;
-    for i in 0..numbers.len() {
-        rows[left] = first + i as u32;
-        if asked.passes(numbers[i].wide()) {
-            left += 1;
-        }
-    }
-    // The rows that pass stand in front: so many.
-    left
-}
-
-/// Likewise of rows that are listed, in place.
 pub fn next_rows<T: Number, A: Asks>(numbers: &[T], asked: A, rows: &mut [u32]) -> usize
     requires { All (λ row. row < length numbers.now) rows.old }
     ensures count { result ≤ length rows.old }

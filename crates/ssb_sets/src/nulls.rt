@@ -1,7 +1,7 @@
-// Rows by the flags of nulls, and rows whatever their values are.
+// Rows by the flags of nulls.
 
-ghost use Rattle.std.specs.Prelude.{◌≡◌, ◌≤◌, ◌<◌, ◌-◌, ◌||◌, not, slice_index_or, length, pos, OnOk};
-ghost use Rattle.std.specs.List.{All, filter, range_with_len};
+ghost use Rattle.std.specs.Prelude.{◌≡◌, ◌<◌, ◌||◌, not, slice_index_or, length, pos};
+ghost use Rattle.std.specs.List.{All, filter};
 ghost use Rattle.ssb_packed.specs.Lent.{flag_at};
 ghost use Rattle.ssb_sets.specs.Checks.{passes};
 ghost use Rattle.ssb_sets.specs.Passing.{passes_at};
@@ -10,7 +10,6 @@ ghost use Rattle.ssb_sets.specs.Values.{IsWithin, eight_byte_bounds, values_in};
 use crate::check::Check;
 use crate::values::ValueSlice;
 use ssb_packed::flag_at;
-use std::alloc::AllocError;
 
 /// Leaves the rows that are not null, by the flags of the nulls.
 pub fn keep_values(nulls: &[u64], rows: &mut Vec<u32>)
@@ -20,19 +19,6 @@ pub fn keep_values(nulls: &[u64], rows: &mut Vec<u32>)
         return;
     }
     rows.retain(|row| !flag_at(nulls, *row));
-}
-
-/// Fills a list with the rows in `from..end`.
-pub fn fill(rows: &mut Vec<u32>, from: u32, end: u32) -> Result<(), AllocError>
-    requires { from ≤ end }
-    ensures { OnOk result (rows.new.items ≡ range_with_len from (end - from)) }
-{
-    rows.clear();
-    rows.reserve((end - from) as usize)?;
-    for row in from..end {
-        rows.push(row)?;
-    }
-    Ok(())
 }
 
 impl Check {

@@ -1,34 +1,14 @@
-use Rattle.std.proofs.Common.{◌≡◌, ◌∙◌, ◌-◌, ◌<◌, ap, arith, drop, filter, length, refl, subst, sym, take}
-use Rattle.std.specs.List.{All, list_all, range_with_len}
-use Rattle.std.proofs.lemmas.List.{length-drop, take_all}
-use Rattle.std.proofs.lemmas.List.Elements.{All-drop, All-filter, All-take}
-use Rattle.ssb_cells.specs.Tables.{rows_in}
-use Rattle.ssb_conditions.specs.Filters.{IsThere, SaysSame, passes_column}
-use Rattle.ssb_conditions.proofs.MarkedRows.{tested-all}
-use Rattle.ssb_conditions.proofs.TableRows.{range-below}
+use Rattle.std.proofs.Common.{◌∙◌, ◌-◌, refl, sym, take}
+use Rattle.std.specs.List.{list_all, range_with_len}
+use Rattle.ssb_conditions.specs.Filters.{passes_column}
+use Rattle.ssb_conditions.proofs.TableRows.{filter-true}
 use Rattle.ssb_conditions.proofs.table_filter.first_marked.Goals as goal
 
 pub list_rows-requires-clause-none : goal.list_rows-requires-clause-none
 list_rows-requires-clause-none c = (c.mark_leading-marked.ensures.marks (passes_column c.args.table.now) (λ k d lt r stands. refl) (c.all-marks.ensures c.args.from)).none
 
-pub keep_all-requires-clause-there : goal.keep_all-requires-clause-there
-keep_all-requires-clause-there c = All-take (IsThere c.args.table.now) _ _ (All-drop (IsThere c.args.table.now) c.mark_leading-marked.result c.args.columns.now c.requires.there)
+pub returns-then-marked-gt0-clause-rows : goal.returns-then-marked-gt0-clause-rows
+returns-then-marked-gt0-clause-rows c = λ p same. c.in_ok-list_rows.ensures (λ r. list_all (λ f. p f r) (take c.mark_leading-marked.result c.args.columns.now)) (c.mark_leading-marked.ensures.marks p same (c.all-marks.ensures c.args.from))
 
-pub keep_all-requires-clause-rows : goal.keep_all-requires-clause-rows
-keep_all-requires-clause-rows c =
-    let order = c.requires.order in
-    let rows = c.requires.rows in
-    let marked = c.mark_leading-marked.ensures.marks (passes_column c.args.table.now) (λ k d lt r stands. refl) (c.all-marks.ensures c.args.from) in
-    subst (All (λ r. r < rows_in c.args.table.now)) (sym (c.in_ok-list_rows.ensures _ marked))
-    (All-filter _ (λ r. r < rows_in c.args.table.now) (range_with_len c.args.from (c.args.end - c.args.from))
-    (range-below c.args.from (c.args.end - c.args.from) (rows_in c.args.table.now) (omega (arith, order, rows))))
-
-pub returns : goal.returns
-returns c = λ done p same.
-    let m = c.mark_leading-marked.result in
-    let columns = c.args.columns.now in
-    let rest = take (length columns - m) (drop m columns) in
-    let whole : rest ≡ drop m columns = take_all (length columns - m) (drop m columns) (let long = length-drop m columns in omega (arith, long)) in
-    c.keep_all.ensures p (All-take (SaysSame c.args.table.now p) (length columns - m) (drop m columns) (All-drop (SaysSame c.args.table.now p) m columns same))
-    ∙ ap (filter (λ r. list_all (λ f. p f r) rest)) (c.in_ok-list_rows.ensures (λ r. list_all (λ f. p f r) (take m columns)) (c.mark_leading-marked.ensures.marks p same (c.all-marks.ensures c.args.from)))
-    ∙ tested-all p columns rest m (range_with_len c.args.from (c.args.end - c.args.from)) whole
+pub returns-clause-rows : goal.returns-clause-rows
+returns-clause-rows c = λ p same. c.in_ok-fill.ensures ∙ sym (filter-true (range_with_len c.args.from (c.args.end - c.args.from)))

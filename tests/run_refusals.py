@@ -46,6 +46,7 @@ TRIALS = {
     "give_back": [DONE, DONE_AGAIN],
     "merge": [DONE, DONE_AGAIN],
     "partial": [DONE, DONE_AGAIN],
+    "block": [DONE, DONE_AGAIN],
     "session": [COUNT + GREATEST, LINE + GREATEST, COUNT + LINE],
 }
 

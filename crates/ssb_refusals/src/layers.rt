@@ -1,5 +1,4 @@
-// Calls that hand back what they were given where a growth is refused: each is called once more with that,
-// and then succeeds.
+// Calls whose contracts say what a refused growth leaves: each is called once more with that, and then succeeds.
 
 ghost use Rattle.std.specs.Prelude.{◌≡◌, ◌<◌, IfOk};
 ghost use Rattle.std.specs.Arc.{arc_value};
@@ -7,9 +6,10 @@ ghost use Rattle.std.specs.List.{All};
 ghost use Rattle.ssb_job.specs.Kept.{AreOneJob};
 
 use crate::ends::{Done, Stop};
+use crate::files::small_job;
 use crate::numbers::{are_counts, numbers_job};
 use ssb_groups::Groups;
-use ssb_job::Job;
+use ssb_job::{Block, Job};
 use ssb_pipeline::{Part, Partial, ReturnFault, Ticket};
 use std::alloc::{AllocError, Global};
 use std::sync::Arc;
@@ -201,4 +201,38 @@ pub(crate) fn partial_of_ticket(alloc: Global) -> Result<Done, Stop> {
     are_counts(alloc, &groups, 10, 1, 10)?;
     drop(groups);
     Ok(done)
+}
+
+// Joins all rows of the fact table, which was refused: the block has no combination.
+fn join_all_again(job: &Job, block: &mut Block) -> Result<Done, Stop> {
+    if block.len() != 0 {
+        return Err(Stop::Wrong);
+    }
+    match job.join_range(0, job.fact_rows(), block) {
+        Ok(()) => Ok(Done::Again),
+        Err(_) => Err(Stop::Wrong),
+    }
+}
+
+// Joins all rows of the fact table; where that is refused, once more.
+fn join_all(job: &Job, block: &mut Block) -> Result<Done, Stop> {
+    match job.join_range(0, job.fact_rows(), block) {
+        Ok(()) => Ok(Done::AtOnce),
+        Err(_) => join_all_again(job, block),
+    }
+}
+
+/// A block takes the combinations of the first row of the small tables, and then those of all: five, of which the
+/// last is of the last row, of the first date and of the first supplier.
+pub(crate) fn join_small(alloc: Global) -> Result<Done, Stop> {
+    let job = small_job(alloc)?;
+    let mut block = Block::new(alloc);
+    job.join_range(0, job.fact_rows().min(1), &mut block)?;
+    let done = join_all(&job, &mut block)?;
+    drop(job);
+    if block.len() == 5 && block.row(4).as_slice() == [6, 0, 0].as_slice() {
+        Ok(done)
+    } else {
+        Err(Stop::Wrong)
+    }
 }

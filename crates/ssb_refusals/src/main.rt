@@ -9,16 +9,17 @@
 //! - `give_back`: a part takes the groups of its morsels
 //! - `merge`: the groups of two sections become one
 //! - `partial`: a ticket becomes the groups of its morsel
+//! - `block`: a block takes the combinations of all rows of the small tables in place of those of one
 //! - `session`: two statements, answered by two workers over the small tables
 //!
 //! The first five print the rows of the answer, and `session` those of each statement, or the line of memory in
 //! place of them. The others print `done`, or `done again` where the call was
-//! refused, all stood as before, and the same call then succeeded. `Memory` comes in place of these where
+//! refused, left what its contract says, and the same call then succeeded. `Memory` comes in place of these where
 //! another growth was refused, and `wrong` where something came that may not come. The status is 1 where
 //! nothing could be printed, and 2 where a word names no trial.
 //!
 //! - Files: `ends`, how a trial ends; `files`, `numbers`, the tables; `runs`, `finishing`, the trials that print
-//!   rows; `layers`, those of calls that hand back what they were given.
+//!   rows; `layers`, those of calls that are tried again.
 #![tactic(auto)]
 
 mod ends;
@@ -30,7 +31,7 @@ mod runs;
 
 use ends::{Done, Stop};
 use finishing::finish_all_back;
-use layers::{give_back, merge_sections, partial_of_ticket};
+use layers::{give_back, join_small, merge_sections, partial_of_ticket};
 use runs::{run_by_caller, run_by_workers, run_in_pieces, run_over_sections, run_session};
 use std::alloc::AllocError;
 use std::process::ExitCode;
@@ -74,6 +75,7 @@ fn act<R: Print + Threads + Wait + Sync + AllocGlobal>(rt: &R, word: &str) -> u8
         "give_back" => give_back(rt.alloc()),
         "merge" => merge_sections(rt.alloc()),
         "partial" => partial_of_ticket(rt.alloc()),
+        "block" => join_small(rt.alloc()),
         "session" => run_session(rt, rt.alloc()),
         _ => return BAD_WORDS,
     };

@@ -32,6 +32,22 @@ LINE = b"ssb: Memory\n"
 ROWS = b"799|1993|ASIA\n194|1993|EUROPE\n380|1994|\n294|1994|ASIA\n"
 COUNT = b"7\n"
 GREATEST = b"700\n"
+PLAN = b"""lineorder: 7 rows
+lineorder: lo_quantity in ..24
+lineorder: lo_discount < lo_quantity
+supplier: 2 of 3 rows by lo_suppkey = s_suppkey
+supplier: s_region in 'ASIA', 'EUROPE'
+date: 2 of 2 rows by lo_orderdate = d_datekey
+residual: (d_year = 1993 or s_city = 'x')
+groups: d_year
+aggregates: sum(lo_revenue), count(*)
+having: count(*) > 0
+order: d_year desc
+lineorder: 7 rows to 4 in 0 ms
+supplier: 4 rows to 3 in 0 ms
+date: 3 rows to 2 in 0 ms
+residual: 2 rows to 2 in 0 ms
+"""
 DONE = b"done\n"
 DONE_AGAIN = b"done again\n"
 
@@ -48,6 +64,7 @@ TRIALS = {
     "partial": [DONE, DONE_AGAIN],
     "block": [DONE, DONE_AGAIN],
     "session": [COUNT + GREATEST, LINE + GREATEST, COUNT + LINE],
+    "plan": [PLAN],
 }
 
 

@@ -34,6 +34,10 @@ LIMITS = {"stack": "s", "open_files": "n"}
 # takes 512 bytes.
 OUTPUTS = {"": "", "closed": " >&-", "full": " >/dev/full", "short": " >short"}
 
+# A time that is told in whole milliseconds, and what stands for it in a row that is timed.
+MILLIS = re.compile(rb"(?<= )(?:0|[1-9]\d*) ms$", re.MULTILINE)
+SOME_MILLIS = b"N ms"
+
 # Each key of a row, with what it is where the row leaves it out.
 DEFAULTS = {
     "shows": "",
@@ -49,6 +53,7 @@ DEFAULTS = {
     "words": None,
     "standard_output": "",
     "output": "",
+    "timed": False,
     "error": "",
     "error_pattern": None,
     "written": {},
@@ -290,6 +295,8 @@ def written_differences(row, folder):
 def differences(row, status, output, error):
     """What is not as the row says, one text for each difference."""
     found = []
+    if row["timed"]:
+        output = MILLIS.sub(SOME_MILLIS, output)
     if status != row["status"]:
         found.append(f"status {status}, wanted {row['status']}")
     if row["output"] is None:

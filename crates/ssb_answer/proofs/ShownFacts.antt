@@ -15,7 +15,7 @@ use Rattle.ssb_reply.specs.declared.run_fault.RunFault.{RunFault}
 use Rattle.ssb_reply.specs.declared.run_fault.RunFault.TheVariants as run
 use Rattle.ssb_show.specs.Shown.{IsUnshown, plain, shown}
 use Rattle.ssb_show.specs.declared.shape.Shape.{Shape}
-use Rattle.ssb_show.specs.Titles.{column_titles}
+use Rattle.ssb_spelling.specs.Titles.{column_titles}
 use Rattle.ssb_answer.specs.Asking.{AnswersText}
 use Rattle.ssb_answer.specs.Database.{RepliesOver}
 use Rattle.ssb_answer.specs.Showing.{AnswersSheet, IsSheet, Sheet, ShowsFiles, ShowsOver, WritesSheet, WritesText}

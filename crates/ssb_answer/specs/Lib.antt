@@ -1,5 +1,6 @@
 pub mod Asking
 pub mod Database
+pub mod Explaining
 pub mod Session
 pub mod SessionStep
 pub mod Showing
@@ -24,4 +25,4 @@ pub use Rattle.ssb_rows.specs.Taking
 pub use Rattle.ssb_rows.specs.Text
 pub use Rattle.ssb_show.specs.Columns
 pub use Rattle.ssb_show.specs.Shown
-pub use Rattle.ssb_show.specs.Titles
+pub use Rattle.ssb_spelling.specs.Titles

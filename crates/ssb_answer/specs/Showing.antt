@@ -11,7 +11,7 @@ use Rattle.ssb_reply.specs.Reply.{Answered, Replies}
 use Rattle.ssb_reply.specs.declared.run_fault.RunFault.{RunFault}
 use Rattle.ssb_reply.specs.declared.run_fault.RunFault.TheVariants as run
 use Rattle.ssb_show.specs.Shown.{plain, shown}
-use Rattle.ssb_show.specs.Titles.{column_titles}
+use Rattle.ssb_spelling.specs.Titles.{column_titles}
 use Rattle.ssb_show.specs.declared.shape.Shape.{Shape}
 use Rattle.ssb_answer.specs.Asking.{AnswersText, IsAnswered}
 use Rattle.ssb_answer.specs.Database.{RepliesOver}

@@ -11,7 +11,7 @@ use Rattle.ssb_reply.specs.Told.{told_answer}
 use Rattle.ssb_job.specs.Kept.{JobShape}
 use Rattle.ssb_rows.specs.Result.{Answers}
 use Rattle.ssb_rows.specs.declared.fault.AnswerFault.{AnswerFault}
-use Rattle.ssb_show.specs.Titles.{column_titles}
+use Rattle.ssb_spelling.specs.Titles.{column_titles}
 use Rattle.ssb_show.specs.declared.shape.Shape.{Shape}
 use Rattle.ssb_answer.specs.Asking.{AnswersText}
 use Rattle.ssb_answer.specs.Showing.{AnswersSheet, Sheet, WritesSheet}

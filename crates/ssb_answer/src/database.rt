@@ -1,8 +1,9 @@
 // Tables that are loaded once, for any number of texts.
 
-ghost use Rattle.std.specs.Prelude.{◌≡◌, ◌<◌, Err, IfErr, IfOk, List, OnOk, Some, length, map};
+ghost use Rattle.std.specs.Prelude.{◌≡◌, ◌<◌, Err, IfErr, IfOk, List, OnOk, Some, length, map, string_bytes};
 ghost use Rattle.std.specs.Arc.{arc_value};
 ghost use Rattle.ssb_answer.specs.Asking.{Asked, AnswersText};
+ghost use Rattle.ssb_answer.specs.Explaining.{Analyzes, Explains};
 ghost use Rattle.ssb_catalog.specs.Catalog.{IsCatalog};
 ghost use Rattle.ssb_lanes.specs.JoinedSource.{joined_source};
 ghost use Rattle.ssb_job.specs.Loaded.{AreLoaded};
@@ -16,6 +17,7 @@ use crate::context::Context;
 use crate::whole::{answer_shared, query_of, write_answered};
 use ssb_catalog::Catalog;
 use ssb_cells::Table;
+use ssb_explain::{Watch, analyze, explain};
 use ssb_job::Job;
 use ssb_lanes::{Joined, load_all_with};
 use ssb_load::{FileFault, load_all};
@@ -186,6 +188,48 @@ impl<'a> Database<'a> {
         let query = query_of(alloc, self.catalog, text)?;
         match shared_job(alloc, query, &self.tables) {
             Ok(job) => Ok(job),
+            Err(_) => Err(RunFault::Memory),
+        }
+    }
+
+    /// The plan of a text's query over these tables, as text: a line a step.
+    ///
+    /// # Errors
+    ///
+    /// As of [`job`](Self::job).
+    pub fn explain(&self, alloc: Global, text: &str) -> Result<String, RunFault>
+        ensures explained { IfOk result (λ plan. Explains self.now.catalog self.now.tables text.now (string_bytes plan)) }
+        ensures fault { IfErr result (λ f. Asked self.now.catalog text.now (Err f)) }
+    {
+        let job = self.job(alloc, text)?;
+        let explained = explain(alloc, self.catalog, &job);
+        drop(job);
+        match explained {
+            Ok(plan) => Ok(plan),
+            Err(_) => Err(RunFault::Memory),
+        }
+    }
+
+    /// [`explain`](Self::explain), and behind it a line for each step that tests rows of the fact table: how many it is
+    /// given and how many it leaves, and how long it took, by the watch.
+    ///
+    /// # Errors
+    ///
+    /// As of [`job`](Self::job).
+    pub fn analyze<W: Watch>(
+        &self,
+        alloc: Global,
+        text: &str,
+        watch: &mut W,
+    ) -> Result<String, RunFault>
+        ensures analyzed { IfOk result (λ plan. Analyzes self.now.catalog self.now.tables text.now (string_bytes plan)) }
+        ensures fault { IfErr result (λ f. Asked self.now.catalog text.now (Err f)) }
+    {
+        let job = self.job(alloc, text)?;
+        let analyzed = analyze(alloc, self.catalog, &job, watch);
+        drop(job);
+        match analyzed {
+            Ok(plan) => Ok(plan),
             Err(_) => Err(RunFault::Memory),
         }
     }

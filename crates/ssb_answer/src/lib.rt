@@ -1,14 +1,14 @@
 //! Answers: the whole path of a query, from the bytes of files to the bytes of the answer.
 //!
-//! - Offers: [`Database`], tables loaded once; [`Session`], the statements of an input over them, in a
-//!   [`Manner`]; [`run`] and [`run_alone`] over readers, [`run_from`] and [`run_alone_from`] over sources,
+//! - Offers: [`Database`], tables loaded once, and the plans of texts over them; [`Session`], the statements of an
+//!   input over them, in a [`Manner`]; [`run`] and [`run_alone`] over readers, [`run_from`] and [`run_alone_from`] over sources,
 //!   [`answer_bytes`] over files in memory; [`Context`], [`Settings`], [`RunFault`], [`Gate`], [`Laps`]; [`Shape`],
 //!   in which [`Database::show`] writes; [`rows`], [`write_answer`], [`Answer`], [`Sink`], [`Out`].
 //! - Callers: the program; embedders.
 //! - Files: `database`, `session`, `context`; `show`: for people; `whole`, `grouping`: by workers; `alone`: in
 //!   the caller's thread; `readers`, `bytes`, `law`.
-//! - Definitions: `Database`, `Session`, `Steps`, `Showing`, `Asking`, `Writing`; the reply that a run owes is
-//!   handed on from the crate below. `SessionStep`, `ShownStep`: for the contracts inside.
+//! - Definitions: `Database`, `Session`, `Steps`, `Showing`, `Asking`, `Explaining`, `Writing`; the reply that a run
+//!   owes is handed on from the crate below. `SessionStep`, `ShownStep`: for the contracts inside.
 #![tactic(auto)]
 
 mod alone;
@@ -30,6 +30,7 @@ pub use law::{outcomes_are_replies, outcomes_are_shown, replies_of_files, sessio
 pub use readers::{run, run_alone};
 pub use session::{Manner, Session, SessionEnd, SessionOutcome, Step};
 pub use show::{Lap, Laps, NoLaps, plain_shows_replies, shows_of_files};
+pub use ssb_explain::Watch;
 pub use ssb_lanes::{
     CatalogTable, Joined, ReadOptions, Section, load_all_with, load_with, sections_of,
 };

@@ -3,12 +3,12 @@
 use crate::desk::Desk;
 use crate::host::Host;
 use crate::loading::load;
-use crate::statements::show_text;
+use crate::statements::{program_fault, show_text};
 use crate::tell::write_fault;
 use ssb_answer::{Database, Mode, Out};
 use ssb_files::{ProgramFault, create, table_lines};
 use ssb_load::Catalog;
-use ssb_words::{Command, command_of};
+use ssb_words::{Command, command_of, text_named};
 use std::alloc::{AllocError, Global};
 use std::fs::File;
 use std::io;
@@ -20,6 +20,7 @@ const HELP: &str = "\
 .tables             the tables, with how many rows and columns they have
 .schema TABLE       the catalog's lines of a table
 .run NAME           answers a query of the benchmark, Q1.1 to Q4.3
+.explain QUERY      tells the plan of a query, which stands there as text or by its name
 .read FILE          answers the statements of a file
 .output FILE        writes rows to a file from now on; alone, to the standard output
 .mode bars|columns  parts fields by bars, or aligns them in columns
@@ -29,6 +30,9 @@ const HELP: &str = "\
 .help               these lines
 .quit               ends
 ";
+
+// As many bytes of a line are told at most: what one of these or more asks is not known.
+const LINE_SIZE: usize = 4096;
 
 /// Why a script is left before its end, or that it has ended.
 #[derive(Drop)]
@@ -131,6 +135,19 @@ fn run_named<R: Host>(rt: &R, desk: &mut Desk<'_>, text: &str) -> bool {
     }
 }
 
+// Writes the plan of a query of the benchmark, or of the query that this is.
+fn explain<R: Print + Eprint + AllocGlobal>(rt: &R, desk: &mut Desk<'_>, query: &str) -> bool {
+    let text = text_named(query).unwrap_or(query);
+    match desk.database.explain(rt.alloc(), text) {
+        Ok(plan) => {
+            let goes_on = put(rt, desk, plan.as_str());
+            drop(plan);
+            goes_on
+        }
+        Err(fault) => desk.tell(rt, program_fault(rt.alloc(), fault)),
+    }
+}
+
 // Writes rows to a file from now on, or to the standard output.
 fn turn_output<R: Files<File = File> + Eprint + AllocGlobal>(
     rt: &R,
@@ -175,6 +192,7 @@ fn act<R: Host>(rt: &R, desk: &mut Desk<'_>, command: Command<'_>) -> Option<Sto
         }
         Command::Schema(name) => unless(show_schema(rt, desk, name)),
         Command::Run(text) => unless(run_named(rt, desk, text)),
+        Command::Explain(query) => unless(explain(rt, desk, query)),
         Command::Read(path) => match String::from_str(rt.alloc(), path) {
             Ok(path) => Some(Stop::File(path)),
             Err(_) => unless(desk.tell(rt, ProgramFault::Memory)),
@@ -198,6 +216,14 @@ fn act<R: Host>(rt: &R, desk: &mut Desk<'_>, command: Command<'_>) -> Option<Sto
     }
 }
 
+// A line up to its first space.
+fn first_word(line: &str) -> &str {
+    match line.split_once(' ') {
+        Some((word, _)) => word,
+        None => line,
+    }
+}
+
 /// Does what a line that is a command asks, or tells that it is none. It gives why the script is left, if it
 /// is.
 pub(crate) fn obey<R: Host>(rt: &R, desk: &mut Desk<'_>, line: &[u8]) -> Option<Stop> {
@@ -205,6 +231,7 @@ pub(crate) fn obey<R: Host>(rt: &R, desk: &mut Desk<'_>, line: &[u8]) -> Option<
         return unless(desk.tell_bad(rt, ""));
     };
     match command_of(line) {
+        Ok(_) if line.len() >= LINE_SIZE => unless(desk.tell_bad(rt, first_word(line.trim()))),
         Ok(command) => act(rt, desk, command),
         Err(word) => unless(desk.tell_bad(rt, word)),
     }

@@ -1,8 +1,8 @@
 //! The program `ssb`, which answers queries over the tables of the Star Schema Benchmark: words, files, a run
 //! or a session, and one line and a status for a fault.
 //!
-//! - Files: `program`, the order of work; `host`, the system; `run`; `shell`, with `desk`, `statements` and
-//!   `commands`; `folder` and `loading`, the tables; `tell`, faults; `timing`.
+//! - Files: `program`, the order of work; `host`, the system; `run`; `explain`; `shell`, with `desk`,
+//!   `statements` and `commands`; `folder` and `loading`, the tables; `tell`, faults; `timing`.
 //!
 //! Beside it stands a run that the gate makes of the built program: its words in `args`, its files in
 //! `data/` and what it must print in `stdout`. A crate that is a program is linked whole at each check,
@@ -12,6 +12,7 @@
 
 mod commands;
 mod desk;
+mod explain;
 mod folder;
 mod host;
 mod loading;

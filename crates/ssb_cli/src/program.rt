@@ -5,11 +5,12 @@
 ghost use Rattle.std.specs.Prelude.{IfOk};
 ghost use Rattle.ssb_files.specs.Faults.{IsStatus};
 
+use crate::explain::{Explaining, explain};
 use crate::folder::Folder;
 use crate::host::Host;
 use crate::run::{Showing, run};
 use crate::shell::{ShellOptions, shell};
-use crate::tell::{tell, write_fault};
+use crate::tell::{print_text, tell};
 use ssb_answer::{Settings, query_of};
 use ssb_files::{ProgramFault, catalog_of, read_query};
 use ssb_load::Catalog;
@@ -25,13 +26,6 @@ use std::{env, io};
 pub(crate) struct Terminals {
     pub(crate) input: bool,
     pub(crate) errors: bool,
-}
-
-fn print_text<R: Print + AllocGlobal>(rt: &R, text: &str) -> Result<(), ProgramFault> {
-    match rt.print(text) {
-        Ok(()) => Ok(()),
-        Err(_) => Err(write_fault(rt.alloc())),
-    }
 }
 
 // Says `ok` of a file's text that means something over the catalog.
@@ -138,6 +132,17 @@ fn act_on_task<R: Host, E: Write + Drop>(
                 is_watched: terminals.errors,
             };
             done(run(rt, folder_of(tables)?, query, showing))
+        }
+        Task::Explain {
+            tables,
+            query,
+            analyze,
+        } => {
+            let explaining = Explaining {
+                analyzes: analyze,
+                is_watched: terminals.errors,
+            };
+            done(explain(rt, folder_of(tables)?, query, explaining))
         }
         Task::Shell { tables, stop } => {
             let options = ShellOptions {

@@ -43,8 +43,11 @@ impl Showing {
     }
 }
 
-// The text of a query that is to be answered.
-fn text_of<R: Files + AllocGlobal>(rt: &R, query: QuerySource<'_>) -> Result<String, ProgramFault> {
+/// The text of a query.
+pub(crate) fn text_of<R: Files + AllocGlobal>(
+    rt: &R,
+    query: QuerySource<'_>,
+) -> Result<String, ProgramFault> {
     match query {
         QuerySource::File(path) => read_query(rt, path),
         QuerySource::Text(text) => Ok(String::from_str(rt.alloc(), text)?),

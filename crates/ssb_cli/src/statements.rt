@@ -14,8 +14,8 @@ use std::fs::File;
 use std::io;
 use std::io::Write;
 
-// A text's fault as one of the program.
-fn program_fault(alloc: Global, fault: RunFault) -> ProgramFault {
+/// A text's fault as one of the program.
+pub(crate) fn program_fault(alloc: Global, fault: RunFault) -> ProgramFault {
     ProgramFault::Run {
         names: Vec::new(alloc),
         fault,

@@ -1,4 +1,4 @@
-// How a fault of the program is told.
+// What is printed of a text, and how a fault of the program is told.
 
 ghost use Rattle.std.specs.Prelude.{◌≡◌, ◌⊎◌};
 ghost use Rattle.ssb_files.specs.Faults.{out_of_memory, program_status};
@@ -14,6 +14,14 @@ pub(crate) fn write_fault(alloc: Global) -> ProgramFault {
     ProgramFault::Run {
         names: Vec::new(alloc),
         fault: RunFault::Answer(AnswerFault::Write),
+    }
+}
+
+// Prints a text on the standard output.
+pub(crate) fn print_text<R: Print + AllocGlobal>(rt: &R, text: &str) -> Result<(), ProgramFault> {
+    match rt.print(text) {
+        Ok(()) => Ok(()),
+        Err(_) => Err(write_fault(rt.alloc())),
     }
 }
 

@@ -1,12 +1,13 @@
 // How long an answer takes.
 
 use crate::tell::tell_time;
-use ssb_answer::{Lap, Laps};
+use ssb_answer::{Lap, Laps, Watch};
 use std::alloc::{AllocError, Global};
 use std::rt::Clock;
 use std::time::Instant;
 
-/// Counts the microseconds between the laps of an answer. Time that a clock does not tell counts as none.
+/// Counts the microseconds between the laps of an answer, or of a plan's steps. Time that a clock does not tell counts
+/// as none.
 #[derive(Drop)]
 pub(crate) struct Stopwatch<'a, R> {
     rt: &'a R,
@@ -28,13 +29,6 @@ impl<'a, R: Clock> Stopwatch<'a, R> {
         }
     }
 
-    // The microseconds since this was asked last.
-    fn lap(&mut self) -> u64 {
-        let spent = micros_since(self.rt, self.last);
-        self.last = Instant::now(self.rt).ok();
-        spent
-    }
-
     /// The line that tells the times.
     pub(crate) fn line(&self, alloc: Global) -> Result<String, AllocError> {
         let (read, answer, write) = (self.read, self.answer, self.write);
@@ -47,6 +41,14 @@ impl<'a, R: Clock> Stopwatch<'a, R> {
             write / 1000,
             write % 1000
         )
+    }
+}
+
+impl<R: Clock> Watch for Stopwatch<'_, R> {
+    fn lap(&mut self) -> u64 {
+        let spent = micros_since(self.rt, self.last);
+        self.last = Instant::now(self.rt).ok();
+        spent
     }
 }
 

@@ -1,6 +1,6 @@
 -- What the conjuncts over one table ask of its rows, by column.
 -- For the contracts inside this crate and ssb_job.
-use Rattle.std.specs.Prelude.{◌≡◌, ◌⊎◌, ◌&&◌, ℕ, ℤ, Bool, false, not, nat_eq, nat_lt, List, length, map, Option, Some, None, if◌then◌else◌, is_some, slice_get, unwrap_or}
+use Rattle.std.specs.Prelude.{◌≡◌, ◌⊎◌, ◌&&◌, ◌||◌, ℕ, ℤ, Bool, false, not, nat_eq, nat_lt, List, length, map, Option, Some, None, if◌then◌else◌, is_some, slice_get, unwrap_or}
 use Rattle.std.specs.List.{All, filter, list_all}
 use Rattle.ssb_cells.specs.Cell.{null}
 use Rattle.ssb_cells.specs.Tables.{Columns, Filled, cell_at}
@@ -88,6 +88,10 @@ pub record IsTableFilter (t : Columns) (place : ℕ) (cs : List (Filter BoundCol
   pub columns : All (IsColumnFilter t place cs) f.columns.items
   pub each : (v : RowValuation) → list_all (λ (g : ColumnFilter). all_true v (asked_of place (length t) g.column cs)) f.columns.items ≡ all_true v (filter (λ c. is_some (asked_column place (length t) c)) cs)
   pub others : f.others.items ≡ filter (is_evaluated place (length t)) cs
+
+-- whether it asks anything
+abbrev pub tests_rows : TableFilter → Bool
+tests_rows f = not (nat_eq (length f.columns.items) 0) || not (nat_eq (length f.others.items) 0)
 
 -- whether a row of the table at this place meets the conjuncts that speak of it alone
 abbrev pub passes : List Columns → ℕ → List (Filter BoundColumn) → ℕ → Bool

@@ -3,7 +3,8 @@
 //! - Offers: [`truth_of`] and [`eval`], over whatever operands have values; [`TableFilter`], the rows of one
 //!   table that meet the conjuncts over it: a [`ColumnFilter`] for each column that some speak of alone, of one
 //!   [`ValueSet`], and the others evaluated.
-//! - Callers: `ssb_job`, for WHERE; `ssb_groups`, for the cells of a combination; `ssb_rows`, for HAVING.
+//! - Callers: `ssb_job`, for WHERE; `ssb_groups`, for the cells of a combination; `ssb_rows`, for HAVING;
+//!   `ssb_explain`.
 //! - Apart: it is evaluated by three crates, and its edits are tried without indexes and joins.
 //! - Files: `valuation`, `evaluation`, `value`: what a condition says; `only`, `sole`: which tables and columns
 //!   it speaks of; `leaves`, `sets`: one over one column as a set; `column_filter`, `table_filter`: rows.

@@ -3,7 +3,7 @@
 ghost use Rattle.std.specs.Prelude.{◌≡◌, ◌<◌, ◌≤◌, ◌-◌, List, [], Some, is_some, length, slice_get, take, true, ℕ, Bool, IfOk, IfSome, MatchOption, OnOk};
 ghost use Rattle.std.specs.List.{All, filter, list_all, range_with_len};
 ghost use Rattle.ssb_cells.specs.Tables.{rows_in};
-ghost use Rattle.ssb_conditions.specs.Filters.{IsColumnFilter, IsTableFilter, IsThere, SaysSame, asked_column, asked_of, is_evaluated, passes};
+ghost use Rattle.ssb_conditions.specs.Filters.{IsColumnFilter, IsTableFilter, IsThere, SaysSame, asked_column, asked_of, is_evaluated, passes, tests_rows};
 ghost use Rattle.ssb_conditions.specs.Only.{all_true, alone_at};
 ghost use Rattle.ssb_conditions.specs.Rows.{RowValuation, tables_at, value};
 ghost use Rattle.ssb_conditions.specs.declared.column_filter.ColumnFilter.{ColumnFilter};
@@ -252,6 +252,13 @@ impl TableFilter {
         })
     }
 
+    /// Whether it asks anything of a row.
+    pub fn tests_rows(&self) -> bool
+        ensures { result ≡ tests_rows self.now }
+    {
+        !self.columns.is_empty() || !self.others.is_empty()
+    }
+
     // Whether a row meets the conjuncts that are evaluated.
     fn meets_others(&self, local: Local<'_>, row: u32) -> bool
         requires { local.place < 8 }
@@ -261,8 +268,8 @@ impl TableFilter {
         all_true(local.tables, local.from, &combination, &self.others)
     }
 
-    // Leaves the rows that meet the conjuncts that are evaluated.
-    fn keep_others(&self, local: Local<'_>, rows: &mut Vec<u32>)
+    /// Leaves the rows that meet the conjuncts that are evaluated, in their order.
+    pub fn keep_others(&self, local: Local<'_>, rows: &mut Vec<u32>)
         requires { local.place < 8 }
         ensures { rows.new.items ≡ filter (λ r. all_true (value (tables_at local.entry.tables.now local.entry.from.now) (alone_at local.entry.place r)) self.now.others.items) rows.old.items }
     {

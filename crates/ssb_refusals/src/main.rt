@@ -11,15 +11,16 @@
 //! - `partial`: a ticket becomes the groups of its morsel
 //! - `block`: a block takes the combinations of all rows of the small tables in place of those of one
 //! - `session`: two statements, answered by two workers over the small tables
+//! - `plan`: the plan of a query over the small tables, and the rows that its steps leave
 //!
-//! The first five print the rows of the answer, and `session` those of each statement, or the line of memory in
-//! place of them. The others print `done`, or `done again` where the call was
+//! The first five print the rows of the answer, `session` those of each statement, or the line of memory in
+//! place of them, and `plan` its lines. The others print `done`, or `done again` where the call was
 //! refused, left what its contract says, and the same call then succeeded. `Memory` comes in place of these where
 //! another growth was refused, and `wrong` where something came that may not come. The status is 1 where
 //! nothing could be printed, and 2 where a word names no trial.
 //!
 //! - Files: `ends`, how a trial ends; `files`, `numbers`, the tables; `runs`, `finishing`, the trials that print
-//!   rows; `layers`, those of calls that are tried again.
+//!   rows; `plans`, the one of a plan; `layers`, those of calls that are tried again.
 #![tactic(auto)]
 
 mod ends;
@@ -27,11 +28,13 @@ mod files;
 mod finishing;
 mod layers;
 mod numbers;
+mod plans;
 mod runs;
 
 use ends::{Done, Stop};
 use finishing::finish_all_back;
 use layers::{give_back, join_small, merge_sections, partial_of_ticket};
+use plans::tell_plan;
 use runs::{run_by_caller, run_by_workers, run_in_pieces, run_over_sections, run_session};
 use std::alloc::AllocError;
 use std::process::ExitCode;
@@ -77,6 +80,7 @@ fn act<R: Print + Threads + Wait + Sync + AllocGlobal>(rt: &R, word: &str) -> u8
         "partial" => partial_of_ticket(rt.alloc()),
         "block" => join_small(rt.alloc()),
         "session" => run_session(rt, rt.alloc()),
+        "plan" => tell_plan(rt.alloc(), io::writer(rt)),
         _ => return BAD_WORDS,
     };
     print_end(rt, ended)

@@ -1,4 +1,3 @@
 mod Putting
-mod Spelt
 mod Lines
 mod Widths

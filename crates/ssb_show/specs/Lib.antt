@@ -1,7 +1,6 @@
 pub mod Columns
 pub mod Pieces
 pub mod Shown
-pub mod Titles
 pub use Rattle.ssb_rows.specs.Order
 pub use Rattle.ssb_rows.specs.Taking
 pub use Rattle.ssb_rows.specs.Text

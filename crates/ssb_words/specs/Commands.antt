@@ -32,6 +32,7 @@ abbrev pub IsWritten : Command → List ℕ → List ℕ → Type 0
 IsWritten command.Tables word rest = IsAlone (codes ".tables") word rest
 IsWritten (command.Schema table) word rest = HasBehind (codes ".schema") table.now word rest
 IsWritten (command.Run text) word rest = (word ≡ codes ".run") × (lookup (bytes_eq rest) named_texts ≡ Some text.now)
+IsWritten (command.Explain query) word rest = HasBehind (codes ".explain") query.now word rest
 IsWritten (command.Read path) word rest = HasBehind (codes ".read") path.now word rest
 IsWritten (command.Output None) word rest = IsAlone (codes ".output") word rest
 IsWritten (command.Output (Some path)) word rest = HasBehind (codes ".output") path.now word rest

@@ -16,6 +16,8 @@ pub enum Command<'a> {
     Schema(&'a str),
     /// To answer this text, of a query of the benchmark.
     Run(&'static str),
+    /// To tell the plan of the query of the benchmark of this name, or of the query that this is.
+    Explain(&'a str),
     /// To answer the statements of the file of this path.
     Read(&'a str),
     /// To write rows to the file of this path from now on, or to the standard output again.
@@ -102,6 +104,7 @@ fn full_command<'a>(word: &str, rest: &'a str) -> Option<Command<'a>>
     match word {
         ".schema" => Some(Command::Schema(rest)),
         ".run" => Some(Command::Run(text_named(rest)?)),
+        ".explain" => Some(Command::Explain(rest)),
         ".read" => Some(Command::Read(rest)),
         ".output" => Some(Command::Output(Some(rest))),
         ".mode" => Some(Command::Columns(aligned(rest)?)),

@@ -1,7 +1,7 @@
 // The words of the command line.
 
-ghost use Rattle.std.specs.Prelude.{IfOk, IfSome};
-ghost use Rattle.ssb_words.specs.Words.{AsksKnownQuery, IsFileOrBenchmark};
+ghost use Rattle.std.specs.Prelude.{◌≡◌, IfOk, IfSome, codes};
+ghost use Rattle.ssb_words.specs.Words.{AsksKnownQuery, IsFileOrBenchmark, command_word};
 
 use crate::benchmark::text_named;
 use clap::error::ErrorKind;
@@ -47,6 +47,15 @@ pub enum Task<'a> {
         headers: bool,
         /// Whether to tell how long loading, answering and writing take.
         timing: bool,
+    },
+    /// To tell the plan of a query over tables.
+    Explain {
+        /// The tables; of their numbers only that of the workers is given, who load them.
+        tables: Tables<'a>,
+        /// The query.
+        query: QuerySource<'a>,
+        /// Whether to do its steps too, and to tell their rows and times.
+        analyze: bool,
     },
     /// To load tables once, and to answer each query of the standard input over them.
     Shell {
@@ -170,11 +179,34 @@ const TIMING: Choice = Choice {
     is_required: false,
 };
 
+const ANALYZE: Choice = Choice {
+    name: "analyze",
+    value: None,
+    help: "Counts the rows of each step, and tells how long it takes",
+    is_required: false,
+};
+
 static RUN: Action = Action {
     name: "run",
     about: "Answers a query over tables",
     choices: &[
         DATA, QUERY, NAME, CATALOG, WORKERS, MORSEL, PARTS, BATCH, HEADERS, TIMING,
+    ],
+};
+
+static EXPLAIN: Action = Action {
+    name: "explain",
+    about: "Loads tables, and tells the plan of a query over them",
+    choices: &[
+        DATA,
+        QUERY,
+        NAME,
+        CATALOG,
+        Choice {
+            help: "How many workers load the tables, each in a thread, 1 to 64; 4 if not given",
+            ..WORKERS
+        },
+        ANALYZE,
     ],
 };
 
@@ -238,6 +270,7 @@ fn program<'a>(alloc: Global) -> Result<Command<'a>, AllocError> {
 
 fn command<'a>(alloc: Global) -> Result<Command<'a>, AllocError> {
     let program = with_command(alloc, program(alloc), &RUN);
+    let program = with_command(alloc, program, &EXPLAIN);
     let program = with_command(alloc, program, &SHELL);
     with_command(alloc, program, &CHECK)
 }
@@ -262,19 +295,31 @@ fn number(found: &ArgMatches, name: &str) -> Option<Option<u32>> {
     found.try_get_one(name).ok()
 }
 
-fn tables_in<'a>(found: &ArgMatches<'a>) -> Option<Tables<'a>> {
+// Tables, with no number but that of the workers, who load them.
+fn loaded_tables<'a>(found: &ArgMatches<'a>) -> Option<Tables<'a>> {
     Some(Tables {
         data: found.get_str("data")?,
         catalog: found.get_str("catalog"),
         workers: number(found, "workers")?,
+        morsel: None,
+        parts: None,
+        batch: None,
+    })
+}
+
+fn tables_in<'a>(found: &ArgMatches<'a>) -> Option<Tables<'a>> {
+    let tables = loaded_tables(found)?;
+    Some(Tables {
         morsel: number(found, "morsel")?,
         parts: number(found, "parts")?,
         batch: number(found, "batch")?,
+        ..tables
     })
 }
 
 fn run_task<'a>(found: &ArgMatches<'a>) -> Option<Task<'a>>
-    ensures { IfSome result AsksKnownQuery }
+    ensures query { IfSome result AsksKnownQuery }
+    ensures word { IfSome result (λ t. command_word t ≡ codes "run") }
 {
     Some(Task::Run {
         tables: tables_in(found)?,
@@ -284,8 +329,20 @@ fn run_task<'a>(found: &ArgMatches<'a>) -> Option<Task<'a>>
     })
 }
 
+fn explain_task<'a>(found: &ArgMatches<'a>) -> Option<Task<'a>>
+    ensures query { IfSome result AsksKnownQuery }
+    ensures word { IfSome result (λ t. command_word t ≡ codes "explain") }
+{
+    Some(Task::Explain {
+        tables: loaded_tables(found)?,
+        query: query_source(found)?,
+        analyze: found.get_flag("analyze"),
+    })
+}
+
 fn shell_task<'a>(found: &ArgMatches<'a>) -> Option<Task<'a>>
-    ensures { IfSome result AsksKnownQuery }
+    ensures query { IfSome result AsksKnownQuery }
+    ensures word { IfSome result (λ t. command_word t ≡ codes "shell") }
 {
     Some(Task::Shell {
         tables: tables_in(found)?,
@@ -294,7 +351,8 @@ fn shell_task<'a>(found: &ArgMatches<'a>) -> Option<Task<'a>>
 }
 
 fn check_task<'a>(found: &ArgMatches<'a>) -> Option<Task<'a>>
-    ensures { IfSome result AsksKnownQuery }
+    ensures query { IfSome result AsksKnownQuery }
+    ensures word { IfSome result (λ t. command_word t ≡ codes "check") }
 {
     Some(Task::Check {
         query: found.get_str("query")?,
@@ -319,15 +377,25 @@ fn fault_of(alloc: Global, error: Error) -> WordsFault {
     }
 }
 
+// The task of a command, by its word.
+fn task_named<'a>(word: &str, found: &ArgMatches<'a>) -> Option<Task<'a>>
+    ensures query { IfSome result AsksKnownQuery }
+    ensures word { IfSome result (λ t. command_word t ≡ word.now) }
+{
+    match word {
+        "run" => run_task(found),
+        "explain" => explain_task(found),
+        "shell" => shell_task(found),
+        "check" => check_task(found),
+        _ => None,
+    }
+}
+
 fn task_in<'a>(matches: &ArgMatches<'a>) -> Option<Task<'a>>
     ensures { IfSome result AsksKnownQuery }
 {
-    match matches.subcommand() {
-        Some(("run", found)) => run_task(found),
-        Some(("shell", found)) => shell_task(found),
-        Some(("check", found)) => check_task(found),
-        _ => None,
-    }
+    let (word, found) = matches.subcommand()?;
+    task_named(word, found)
 }
 
 /// What the words ask. The first is the program's own name. A query that stands there by its name is

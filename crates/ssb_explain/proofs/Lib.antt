@@ -1,0 +1,2 @@
+mod MemberFacts
+mod StepFacts

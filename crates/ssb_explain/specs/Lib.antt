@@ -1,0 +1,3 @@
+pub mod Analyzed
+pub mod Explained
+pub mod Members

@@ -1,0 +1,3 @@
+pub mod Spelt
+mod Conditioned
+mod Doubling

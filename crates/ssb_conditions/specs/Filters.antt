@@ -1,5 +1,5 @@
 -- What the conjuncts over one table ask of its rows, by column.
--- For the contracts inside this crate and ssb_job.
+-- Source: own.
 use Rattle.std.specs.Prelude.{◌≡◌, ◌⊎◌, ◌&&◌, ◌||◌, ℕ, ℤ, Bool, false, not, nat_eq, nat_lt, List, length, map, Option, Some, None, if◌then◌else◌, is_some, slice_get, unwrap_or}
 use Rattle.std.specs.List.{All, filter, list_all}
 use Rattle.ssb_cells.specs.Cell.{null}

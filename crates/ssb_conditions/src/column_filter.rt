@@ -84,8 +84,8 @@ impl ColumnFilter {
         self.set.null.is_true() && !nulls.is_empty()
     }
 
-    /// Leaves the rows of a list that pass, in their order.
-    pub fn keep(&self, table: &Table, rows: &mut Vec<u32>)
+    // Leaves the rows of a list that pass, in their order.
+    pub(crate) fn keep(&self, table: &Table, rows: &mut Vec<u32>)
         requires there { IsThere table.now self.now }
         requires rows { All (λ r. r < rows_in table.now) rows.old.items }
         ensures rows { rows.new.items ≡ filter (passes_column table.now self.now) rows.old.items }

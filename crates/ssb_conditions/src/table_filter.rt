@@ -268,8 +268,8 @@ impl TableFilter {
         all_true(local.tables, local.from, &combination, &self.others)
     }
 
-    /// Leaves the rows that meet the conjuncts that are evaluated, in their order.
-    pub fn keep_others(&self, local: Local<'_>, rows: &mut Vec<u32>)
+    // Leaves the rows that meet the conjuncts that are evaluated, in their order.
+    fn keep_others(&self, local: Local<'_>, rows: &mut Vec<u32>)
         requires { local.place < 8 }
         ensures { rows.new.items ≡ filter (λ r. all_true (value (tables_at local.entry.tables.now local.entry.from.now) (alone_at local.entry.place r)) self.now.others.items) rows.old.items }
     {

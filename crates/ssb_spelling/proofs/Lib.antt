@@ -1,3 +1,3 @@
 pub mod Spelt
 mod Conditioned
-mod Doubling
+mod ShownFacts

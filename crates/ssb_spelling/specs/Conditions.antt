@@ -1,6 +1,8 @@
--- How a condition is spelt: as SQL has it, with parentheses round each AND and OR.
+-- How a condition is spelt: as SQL has it, with parentheses round each AND and OR, and on one line: control characters of a text are escaped.
 -- Source: SQL-92, 5.3 <literal>, 8.12 <search condition>, cut down to the language.
-use Rattle.std.specs.Prelude.{◌++◌, ℕ, Bool, true, false, List, [], ◌∷◌, Option, Some, None, if◌then◌else◌, codes, map, nat_eq, slice_get}
+use Rattle.std.specs.Prelude.{◌++◌, ℕ, Bool, true, false, not, List, [], ◌∷◌, Option, Some, None, chars, codes, encode_utf8_all, if◌then◌else◌, map, nat_eq, slice_get}
+use Rattle.std.specs.Char.{is_control}
+use Rattle.std.specs.Char.Escape.{escape_default}
 use Rattle.std.specs.List.{flat_map}
 use Rattle.std.specs.Fmt.{signed_decimal}
 use Rattle.ssb_catalog.specs.Shapes.{TableShape}
@@ -18,7 +20,7 @@ use Rattle.ssb_query.specs.declared.column.BoundColumn.{BoundColumn}
 use Rattle.ssb_query.specs.declared.query.Origin.{Origin}
 use Rattle.ssb_query.specs.declared.query.Origin.TheVariants as origin
 use Rattle.ssb_query.specs.declared.query.QueryParts.{QueryParts}
-use Rattle.ssb_spelling.specs.Titles.{Bytes, column_name, origin_title}
+use Rattle.ssb_spelling.specs.Titles.{Bytes, closed_unless, column_name, origin_title}
 
 -- ---- lists
 
@@ -33,16 +35,20 @@ parted by (t ∷ ts) = t ++ further by ts
 
 -- ---- literals and operands
 
--- a byte, or a quote twice
-abbrev pub twice_if_quote : ℕ → Bytes
-twice_if_quote b = if nat_eq b 39 then codes "''" else b ∷ []
+-- a control character is shown escaped, as `\n` or `\u{1b}`, and any other as it is
+abbrev pub shown_char : ℕ → List ℕ
+shown_char c = if is_control c then escape_default c else c ∷ []
 
--- letters, each quote among them twice
-abbrev pub doubled : Bytes → Bytes
-doubled letters = flat_map twice_if_quote letters
+-- a quote is shown twice
+abbrev pub quoted_char : ℕ → List ℕ
+quoted_char c = if nat_eq c 39 then codes "''" else shown_char c
+
+-- letters, character by character
+abbrev pub quotable : Bytes → Bytes
+quotable letters = encode_utf8_all (flat_map quoted_char (chars letters))
 
 abbrev pub quoted : Bytes → Bytes
-quoted letters = codes "'" ++ (doubled letters ++ codes "'")
+quoted letters = codes "'" ++ (quotable letters ++ codes "'")
 
 abbrev pub literal_text : Literal → Bytes
 literal_text (literal.Number n) = signed_decimal n
@@ -86,15 +92,30 @@ abbrev pub null_text : Bool → Bytes
 null_text true = codes " is not null"
 null_text false = codes " is null"
 
-abbrev pub condition_layer : (O : Type 0) → (O → Bytes) → Condition-F O Bytes → Bytes
-condition_layer O of (Condition-F.Any parts) = codes "(" ++ (parted (codes " or ") parts ++ codes ")")
-condition_layer O of (Condition-F.All parts) = codes "(" ++ (parted (codes " and ") parts ++ codes ")")
-condition_layer O of (Condition-F.Not part) = codes "not " ++ part
-condition_layer O of (Condition-F.Compare o a b) = of a ++ (op_text o ++ of b)
-condition_layer O of (Condition-F.Between x a b negated) = of x ++ (between_text negated ++ (of a ++ (codes " and " ++ of b)))
-condition_layer O of (Condition-F.In x literals negated) = of x ++ (in_text negated ++ (parted (codes ", ") (map literal_text literals) ++ codes ")"))
-condition_layer O of (Condition-F.IsNull x negated) = of x ++ null_text negated
+-- a condition's text, and whether it is a negation
+pub record SpeltCondition : Type 0 where
+  pub is_negation : Bool
+  pub text : Bytes
+
+abbrev pub plain : Bytes → SpeltCondition
+plain text = record { is_negation = false; text = text }
+
+-- what NOT stands before: no other NOT, so that a negation stands in parentheses
+abbrev pub as_negated : SpeltCondition → Bytes
+as_negated s = closed_unless (not s.is_negation) s.text
+
+abbrev pub condition_layer : (O : Type 0) → (O → Bytes) → Condition-F O SpeltCondition → SpeltCondition
+condition_layer O of (Condition-F.Any parts) = plain (codes "(" ++ (parted (codes " or ") (map (λ s. s.text) parts) ++ codes ")"))
+condition_layer O of (Condition-F.All parts) = plain (codes "(" ++ (parted (codes " and ") (map (λ s. s.text) parts) ++ codes ")"))
+condition_layer O of (Condition-F.Not part) = record { is_negation = true; text = codes "not " ++ as_negated part }
+condition_layer O of (Condition-F.Compare o a b) = plain (of a ++ (op_text o ++ of b))
+condition_layer O of (Condition-F.Between x a b negated) = plain (of x ++ (between_text negated ++ (of a ++ (codes " and " ++ of b))))
+condition_layer O of (Condition-F.In x literals negated) = plain (of x ++ (in_text negated ++ (parted (codes ", ") (map literal_text literals) ++ codes ")")))
+condition_layer O of (Condition-F.IsNull x negated) = plain (of x ++ null_text negated)
 
 -- a condition over operands of these texts
+abbrev pub condition_spelling : (O : Type 0) → (O → Bytes) → Condition O → SpeltCondition
+condition_spelling O of = fold-Condition O SpeltCondition (condition_layer O of)
+
 abbrev pub condition_text : (O : Type 0) → (O → Bytes) → Condition O → Bytes
-condition_text O of = fold-Condition O Bytes (condition_layer O of)
+condition_text O of c = (condition_spelling O of c).text

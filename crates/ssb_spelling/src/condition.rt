@@ -1,9 +1,10 @@
 // The spelling of conditions.
 
-ghost use Rattle.std.specs.Prelude.{◌≡◌, ◌++◌, codes, List, OnOk, map, string_bytes, ℕ};
+ghost use Rattle.std.specs.Prelude.{◌≡◌, ◌++◌, codes, encode_utf8_all, List, OnOk, map, string_bytes, ℕ};
 ghost use Rattle.std.specs.Fmt.{signed_decimal};
 ghost use Rattle.ssb_spelling.specs.Conditions as spec;
 ghost use Rattle.ssb_spelling.specs.Titles as names;
+ghost use Rattle.ssb_spelling.specs.Titles.{closed_unless};
 
 use crate::expression::put_aggregate;
 use crate::names::put_name;
@@ -58,22 +59,40 @@ pub fn put_number(out: &mut String, number: i64) -> Result<(), AllocError>
     out.push_str(buffer.format(number))
 }
 
-// Puts letters, each quote among them twice.
-fn put_doubled(out: &mut String, letters: &str) -> Result<(), AllocError>
-    ensures { OnOk result (string_bytes out.new ≡ string_bytes out.old ++ spec.doubled letters.now) }
+// Puts a character, escaped where it is a control character.
+fn put_shown(out: &mut String, character: char) -> Result<(), AllocError>
+    ensures { OnOk result (string_bytes out.new ≡ string_bytes out.old ++ encode_utf8_all (spec.shown_char character)) }
 {
-    let mut rest = letters;
-    'quotes: loop {
-        let Some((before, after)) = rest.split_once('\'') else {
-            return out.push_str(rest);
-        };
-        out.push_str(before)?;
-        out.push_str("''")?;
-        rest = after;
+    if !character.is_control() {
+        return out.push(character);
     }
+    for mark in character.escape_default() {
+        out.push(mark)?;
+    }
+    Ok(())
 }
 
-/// Puts a text in quotes, each quote in it twice, as SQL has it.
+// Puts a character of a text in quotes: a quote twice.
+fn put_char(out: &mut String, character: char) -> Result<(), AllocError>
+    ensures { OnOk result (string_bytes out.new ≡ string_bytes out.old ++ encode_utf8_all (spec.quoted_char character)) }
+{
+    if character == '\'' {
+        return out.push_str("''");
+    }
+    put_shown(out, character)
+}
+
+fn put_quotable(out: &mut String, letters: &str) -> Result<(), AllocError>
+    ensures { OnOk result (string_bytes out.new ≡ string_bytes out.old ++ spec.quotable letters.now) }
+{
+    for character in letters.chars() {
+        put_char(out, character)?;
+    }
+    Ok(())
+}
+
+/// Puts a text in quotes, each quote in it twice, as SQL has it, and each control character escaped, so that it stays
+/// on one line.
 ///
 /// # Errors
 ///
@@ -82,7 +101,7 @@ pub fn put_quoted(out: &mut String, letters: &str) -> Result<(), AllocError>
     ensures { OnOk result (string_bytes out.new ≡ string_bytes out.old ++ spec.quoted letters.now) }
 {
     out.push_str("'")?;
-    put_doubled(out, letters)?;
+    put_quotable(out, letters)?;
     out.push_str("'")
 }
 
@@ -254,6 +273,30 @@ fn put_further<O, S: Spells<O>>(
     Ok(())
 }
 
+fn is_negation<O>(condition: &Condition<O>) -> bool
+    ensures { (of : O → List ℕ) → result ≡ (spec.condition_spelling O of condition.now).is_negation }
+{
+    matches!(condition, Condition::Not(_))
+}
+
+// Puts what stands behind NOT, bare or in parentheses.
+#[cycle(condition)]
+fn put_part<O, S: Spells<O>>(
+    out: &mut String,
+    names: &S,
+    part: &Condition<O>,
+    is_bare: bool,
+) -> Result<(), AllocError>
+    ensures { OnOk result (string_bytes out.new ≡ string_bytes out.old ++ closed_unless is_bare (spec.condition_text O (S.text names.now) part.now)) }
+{
+    if is_bare {
+        return put_condition(out, names, part);
+    }
+    out.push_str("(")?;
+    put_condition(out, names, part)?;
+    out.push_str(")")
+}
+
 /// Puts a condition over operands behind a text.
 ///
 /// # Errors
@@ -287,8 +330,9 @@ pub fn put_condition<O, S: Spells<O>>(
             out.push_str(")")
         }
         Condition::Not(part) => {
+            let part = part.get();
             out.push_str("not ")?;
-            put_condition(out, names, part.get())
+            put_part(out, names, part, !is_negation(part))
         }
         Condition::Compare(op, a, b) => put_compare(out, names, *op, a, b),
         Condition::Between {

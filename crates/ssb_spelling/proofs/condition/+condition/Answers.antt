@@ -28,6 +28,7 @@ put_condition-returns-in_ok-put_further-in-All g t c =
 
 pub put_condition-returns-in_ok-push_str-in-Not : goal.put_condition-returns-in_ok-push_str-in-Not
 put_condition-returns-in_ok-push_str-in-Not g t c =
-    on-ok c.put_condition-in-Not.result
-    (not-grew _ (g.S.Spells.text c.args.names.now) c.args.condition.now c.in-Not.part c.get.result.now (string_bytes c.args.out.now) (string_bytes c.push_str-in-Not.new.self) (string_bytes c.put_condition-in-Not.new.out) c.in-Not.is c.get.ensures c.in_ok-push_str-in-Not.ensures.bytes)
-    c.put_condition-in-Not.ensures
+    let of = g.S.Spells.text c.args.names.now in
+    on-ok c.put_part.result
+    (not-grew _ of c.args.condition.now c.in-Not.part c.get-part.result.now c.is_negation.result (string_bytes c.args.out.now) (string_bytes c.push_str-in-Not.new.self) (string_bytes c.put_part.new.out) c.in-Not.is c.get-part.ensures (c.is_negation.ensures of) c.in_ok-push_str-in-Not.ensures.bytes)
+    c.put_part.ensures

@@ -1,10 +1,11 @@
 -- The text of a plan: a line a step, in the order in which they are done.
 -- Source: own; docs/SQL.md shows one.
-use Rattle.std.specs.Prelude.{◌≡◌, ◌++◌, ◌∷◌, [], ◌+◌, ℕ, Bool, true, false, if◌then◌else◌, List, Option, None, Some, codes, decimal, map, slice_get}
+use Rattle.std.specs.Prelude.{◌≡◌, ◌++◌, ◌∷◌, [], ◌+◌, ◌||◌, ℕ, Bool, true, false, if◌then◌else◌, List, Option, None, Some, codes, decimal, length, map, nat_eq, not, slice_get}
 use Rattle.std.specs.Bool.{beq}
 use Rattle.ssb_catalog.specs.Shapes.{TableShape}
 use Rattle.ssb_cells.specs.Tables.{Columns, rows_in}
 use Rattle.ssb_conditions.specs.Filters.{tests_rows}
+use Rattle.ssb_conditions.specs.Only.{only_at}
 use Rattle.ssb_conditions.specs.declared.column_filter.ColumnFilter.{ColumnFilter}
 use Rattle.ssb_conditions.specs.declared.table_filter.TableFilter.{TableFilter}
 use Rattle.ssb_job.specs.Build.{IsPlan}
@@ -24,7 +25,7 @@ use Rattle.ssb_spelling.specs.Titles.{Bytes, aggregate_title, column_name, item_
 use Rattle.ssb_trees.specs.Conditions.{Filter}
 use Rattle.ssb_trees.specs.Lists.{concat}
 use Rattle.ssb_trees.specs.declared.operand.Operand.{Operand}
-use Rattle.ssb_explain.specs.Members.{members, shown_or_nothing, table_or_none}
+use Rattle.ssb_explain.specs.Members.{members, parted_or_nothing, table_or_none}
 
 -- ---- lines
 
@@ -62,10 +63,14 @@ where_text c q = condition_text (Operand BoundColumn) (operand_text (named c q))
 
 -- the values of a column that pass
 abbrev pub column_line : List TableShape → JobShape → ℕ → ColumnFilter → Bytes
-column_line c j place f = line (table_name c j.query place) (named c j.query (column_of place f.column) ++ (codes " in " ++ shown_or_nothing (members (table_in j place) f)))
+column_line c j place f = line (table_name c j.query place) (named c j.query (column_of place f.column) ++ (codes " in " ++ parted_or_nothing (members (table_in j place) f)))
+
+-- a conjunct over no table, which is one that reads no column but of a place behind FROM, is tested by each table, and told of the fact table alone
+abbrev pub is_told : QueryParts → ℕ → Filter BoundColumn → Bool
+is_told q place c = nat_eq place q.fact || not (only_at (length q.from) c)
 
 abbrev pub other_line : List TableShape → JobShape → ℕ → Filter BoundColumn → Bytes
-other_line c j place other = line (table_name c j.query place) (where_text c j.query other)
+other_line c j place other = if is_told j.query place other then line (table_name c j.query place) (where_text c j.query other) else []
 
 -- the filters of columns, and then the conjuncts that are evaluated
 abbrev pub filter_text : List TableShape → JobShape → ℕ → TableFilter → Bytes

@@ -1,9 +1,8 @@
 -- The values that a filter of a column lets pass, as text.
 -- Source: own.
-use Rattle.std.specs.Prelude.{◌++◌, ◌∷◌, [], ◌^◌, ◌-ℤ◌, ◌-◌, ℕ, ℤ, pos, Bool, true, false, if◌then◌else◌, List, Option, None, Some, codes, decimal, int_le, length, map, nat_eq, option_to_list, slice_get, take, unwrap_or}
+use Rattle.std.specs.Prelude.{◌++◌, ◌∷◌, [], ◌^◌, ◌-ℤ◌, ◌-◌, ℕ, ℤ, pos, Bool, true, false, if◌then◌else◌, List, Option, None, Some, codes, decimal, length, map, nat_eq, slice_get, take, unwrap_or}
 use Rattle.std.specs.Fmt.{signed_decimal}
 use Rattle.std.specs.List.{filter, range_with_len}
-use Rattle.std.specs.Option.{option_map}
 use Rattle.std.specs.Ordering.{int_eq}
 use Rattle.ssb_cells.specs.Codes.{texts_of}
 use Rattle.ssb_cells.specs.Tables.{Columns, Filled}
@@ -72,15 +71,30 @@ code_text texts code = quoted (unwrap_or (slice_get texts code) [])
 
 -- ---- members
 
+-- so many are shown
+abbrev pub shown_count : ℕ
+shown_count = 8
+
+abbrev pub more_text : ℕ → Bytes
+more_text n = if nat_eq n 0 then [] else codes " and " ++ (decimal n ++ codes " more")
+
+-- the first values, and how many more there are; of none, nothing
+abbrev pub together : List Bytes → ℕ → List Bytes
+together [] more = []
+together (t ∷ ts) more = (parted (codes ", ") (t ∷ ts) ++ more_text more) ∷ []
+
+abbrev pub shown : {V : Type 0} → (V → Bytes) → List V → List Bytes
+shown text vs = together (map text (take shown_count vs)) (length vs - shown_count)
+
 abbrev pub value_texts : ColType → Filled → NumberSet → List Bytes
-value_texts kinds.Int f s = map interval_text (intervals_of s)
-value_texts kinds.Text f s = map (code_text (texts_of f.values)) (codes_in s (length (texts_of f.values)))
+value_texts kinds.Int f s = shown interval_text (intervals_of s)
+value_texts kinds.Text f s = shown (code_text (texts_of f.values)) (codes_in s (length (texts_of f.values)))
 
 abbrev pub null_texts : Bool → List Bytes
 null_texts true = codes "null" ∷ []
 null_texts false = []
 
--- the members of a set of a column's values: intervals of numbers, or texts, and null
+-- the members of a set of a column's values: intervals of numbers, or texts, and behind them null where it is one
 abbrev pub members_of : Filled → ValueSet → List Bytes
 members_of f s = value_texts f.kind f s.numbers ++ null_texts (is_true s.null)
 
@@ -97,17 +111,6 @@ table_or_none (Some t) = t
 abbrev pub members : Columns → ColumnFilter → List Bytes
 members t f = members_in (slice_get t f.column) f.set
 
--- so many are shown
-abbrev pub shown_count : ℕ
-shown_count = 8
-
-abbrev pub more_text : ℕ → Bytes
-more_text n = if nat_eq n 0 then [] else codes " and " ++ (decimal n ++ codes " more")
-
--- the first members, and how many more there are
-abbrev pub shown : List Bytes → Bytes
-shown texts = parted (codes ", ") (take shown_count texts) ++ more_text (length texts - shown_count)
-
-abbrev pub shown_or_nothing : List Bytes → Bytes
-shown_or_nothing [] = codes "nothing"
-shown_or_nothing (t ∷ ts) = shown (t ∷ ts)
+abbrev pub parted_or_nothing : List Bytes → Bytes
+parted_or_nothing [] = codes "nothing"
+parted_or_nothing (t ∷ ts) = parted (codes ", ") (t ∷ ts)

@@ -11,7 +11,7 @@ use crate::members::put_members;
 use itoa::Buffer;
 use ssb_catalog::{Catalog, TableDef};
 use ssb_cells::Table;
-use ssb_conditions::{ColumnFilter, TableFilter};
+use ssb_conditions::{ColumnFilter, TableFilter, only_at};
 use ssb_job::{Access, Dimension, Job, Join, Plan};
 use ssb_query::{BoundColumn, QueryParts};
 use ssb_spelling::{Names, put_condition, put_name};
@@ -146,7 +146,15 @@ impl<'a> Shown<'a> {
         out.push_str("\n")
     }
 
-    // Puts the line of a conjunct over one table that is evaluated.
+    // Whether a conjunct is told of the table at a place of FROM: one over no table is told of the fact table alone.
+    fn is_told(self, place: usize, conjunct: &Filter<BoundColumn>) -> bool
+        ensures { result ≡ spec.is_told self.entry.job.now.query place conjunct.now }
+    {
+        let query = self.query();
+        place == query.fact || !only_at(query.from.len(), conjunct)
+    }
+
+    // Puts the line of a conjunct that is evaluated.
     fn put_other(
         self,
         out: &mut String,
@@ -155,6 +163,9 @@ impl<'a> Shown<'a> {
     ) -> Result<(), AllocError>
         ensures { OnOk result (string_bytes out.new ≡ string_bytes out.old ++ spec.other_line self.entry.catalog.now self.entry.job.now place other.now) }
     {
+        if !self.is_told(place, other) {
+            return Ok(());
+        }
         self.put_head(out, place)?;
         self.put_where(out, other)?;
         out.push_str("\n")

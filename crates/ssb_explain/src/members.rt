@@ -1,6 +1,6 @@
 // The values that a filter of a column lets pass, as text.
 
-ghost use Rattle.std.specs.Prelude.{◌≡◌, ◌++◌, ◌<◌, ◌∷◌, ℤ, List, None, not, codes, IfOk, OnOk, length, map, string_bytes};
+ghost use Rattle.std.specs.Prelude.{◌≡◌, ◌++◌, ◌<◌, ◌∷◌, ℤ, List, None, not, codes, All, IfOk, OnOk, length, map, string_bytes};
 ghost use Rattle.ssb_cells.specs.Codes.{texts_of};
 ghost use Rattle.std.specs.Option.{option_copied};
 ghost use Rattle.ssb_explain.specs.Members as spec;
@@ -127,13 +127,6 @@ fn interval_texts(alloc: Global, intervals: &[Interval]) -> Result<Vec<String>, 
     Ok(texts)
 }
 
-fn number_texts(alloc: Global, set: &NumberSet) -> Result<Vec<String>, AllocError>
-    ensures { IfOk result (λ texts. map string_bytes texts.items ≡ map spec.interval_text (spec.intervals_of set.now)) }
-{
-    let intervals = intervals_of(alloc, set.first, &set.cuts)?;
-    interval_texts(alloc, &intervals)
-}
-
 fn code_text(alloc: Global, column: &Column, code: u32) -> Result<String, AllocError>
     requires kind { column.now.kind ≡ kinds.Text }
     requires code { code < length (texts_of column.now.values) }
@@ -144,17 +137,97 @@ fn code_text(alloc: Global, column: &Column, code: u32) -> Result<String, AllocE
     Ok(text)
 }
 
-fn letter_texts(alloc: Global, column: &Column, set: &NumberSet) -> Result<Vec<String>, AllocError>
-    requires { column.now.kind ≡ kinds.Text }
-    ensures { IfOk result (λ texts. map string_bytes texts.items ≡ map (spec.code_text (texts_of column.now.values)) (spec.codes_in set.now (length (texts_of column.now.values)))) }
+// The codes that a set has, of so many.
+fn codes_in(alloc: Global, set: &NumberSet, count: u32) -> Result<Vec<u32>, AllocError>
+    ensures { IfOk result (λ all. all.items ≡ spec.codes_in set.now count) }
 {
-    let mut texts = Vec::new(alloc);
-    for code in 0..column.text_count() {
+    let mut all = Vec::new(alloc);
+    for code in 0..count {
         if set.has(i64::from(code)) {
-            texts.push(code_text(alloc, column, code)?)?;
+            all.push(code)?;
         }
     }
+    Ok(all)
+}
+
+fn code_texts(alloc: Global, column: &Column, all: &[u32]) -> Result<Vec<String>, AllocError>
+    requires kind { column.now.kind ≡ kinds.Text }
+    requires there { All (λ code. code < length (texts_of column.now.values)) all.now }
+    ensures { IfOk result (λ texts. map string_bytes texts.items ≡ map (spec.code_text (texts_of column.now.values)) all.now) }
+{
+    let mut texts = Vec::with_capacity(alloc, all.len())?;
+    for code in all {
+        texts.push(code_text(alloc, column, *code)?)?;
+    }
     Ok(texts)
+}
+
+fn put_more(out: &mut String, count: usize) -> Result<(), AllocError>
+    ensures { OnOk result (string_bytes out.new ≡ string_bytes out.old ++ spec.more_text count) }
+{
+    if count == 0 {
+        return Ok(());
+    }
+    let mut buffer = Buffer::new();
+    out.push_str(" and ")?;
+    out.push_str(buffer.format(count))?;
+    out.push_str(" more")
+}
+
+// Puts texts, each behind a comma.
+fn put_further(out: &mut String, texts: &[String]) -> Result<(), AllocError>
+    ensures { OnOk result (string_bytes out.new ≡ string_bytes out.old ++ spelling.further (codes ", ") (map string_bytes texts.now)) }
+{
+    for text in texts {
+        out.push_str(", ")?;
+        out.push_str(text.as_str())?;
+    }
+    Ok(())
+}
+
+// Puts texts, parted by commas.
+pub(crate) fn put_parted(out: &mut String, texts: &[String]) -> Result<(), AllocError>
+    ensures { OnOk result (string_bytes out.new ≡ string_bytes out.old ++ spelling.parted (codes ", ") (map string_bytes texts.now)) }
+{
+    let Some((first, rest)) = texts.split_first() else {
+        return Ok(());
+    };
+    out.push_str(first.as_str())?;
+    put_further(out, rest)
+}
+
+// The first values as one text, with how many more there are; of none, nothing.
+fn together(alloc: Global, texts: &[String], more: usize) -> Result<Vec<String>, AllocError>
+    ensures { IfOk result (λ all. map string_bytes all.items ≡ spec.together (map string_bytes texts.now) more) }
+{
+    let mut all = Vec::new(alloc);
+    if texts.is_empty() {
+        return Ok(all);
+    }
+    let mut text = String::new(alloc);
+    put_parted(&mut text, texts)?;
+    put_more(&mut text, more)?;
+    all.push(text)?;
+    Ok(all)
+}
+
+fn number_texts(alloc: Global, set: &NumberSet) -> Result<Vec<String>, AllocError>
+    ensures { IfOk result (λ texts. map string_bytes texts.items ≡ spec.shown spec.interval_text (spec.intervals_of set.now)) }
+{
+    let intervals = intervals_of(alloc, set.first, &set.cuts)?;
+    let count = intervals.len().min(SHOWN);
+    let texts = interval_texts(alloc, &intervals[..count])?;
+    together(alloc, &texts, intervals.len() - count)
+}
+
+fn letter_texts(alloc: Global, column: &Column, set: &NumberSet) -> Result<Vec<String>, AllocError>
+    requires { column.now.kind ≡ kinds.Text }
+    ensures { IfOk result (λ texts. map string_bytes texts.items ≡ spec.shown (spec.code_text (texts_of column.now.values)) (spec.codes_in set.now (length (texts_of column.now.values)))) }
+{
+    let all = codes_in(alloc, set, column.text_count())?;
+    let count = all.len().min(SHOWN);
+    let texts = code_texts(alloc, column, &all[..count])?;
+    together(alloc, &texts, all.len() - count)
 }
 
 fn value_texts(alloc: Global, column: &Column, set: &NumberSet) -> Result<Vec<String>, AllocError>
@@ -192,49 +265,14 @@ fn members(
     }
 }
 
-fn put_more(out: &mut String, count: usize) -> Result<(), AllocError>
-    ensures { OnOk result (string_bytes out.new ≡ string_bytes out.old ++ spec.more_text count) }
-{
-    if count == 0 {
-        return Ok(());
-    }
-    let mut buffer = Buffer::new();
-    out.push_str(" and ")?;
-    out.push_str(buffer.format(count))?;
-    out.push_str(" more")
-}
-
-// Puts texts, each behind a comma.
-fn put_further(out: &mut String, texts: &[String]) -> Result<(), AllocError>
-    ensures { OnOk result (string_bytes out.new ≡ string_bytes out.old ++ spelling.further (codes ", ") (map string_bytes texts.now)) }
-{
-    for text in texts {
-        out.push_str(", ")?;
-        out.push_str(text.as_str())?;
-    }
-    Ok(())
-}
-
-// Puts texts, parted by commas.
-pub(crate) fn put_parted(out: &mut String, texts: &[String]) -> Result<(), AllocError>
-    ensures { OnOk result (string_bytes out.new ≡ string_bytes out.old ++ spelling.parted (codes ", ") (map string_bytes texts.now)) }
-{
-    let Some((first, rest)) = texts.split_first() else {
-        return Ok(());
-    };
-    out.push_str(first.as_str())?;
-    put_further(out, rest)
-}
-
-fn put_shown(out: &mut String, texts: &[String]) -> Result<(), AllocError>
-    ensures { OnOk result (string_bytes out.new ≡ string_bytes out.old ++ spec.shown_or_nothing (map string_bytes texts.now)) }
+// Puts texts, parted by commas; of none, that there is nothing.
+fn put_parted_or_nothing(out: &mut String, texts: &[String]) -> Result<(), AllocError>
+    ensures { OnOk result (string_bytes out.new ≡ string_bytes out.old ++ spec.parted_or_nothing (map string_bytes texts.now)) }
 {
     if texts.is_empty() {
         return out.push_str("nothing");
     }
-    let count = texts.len().min(SHOWN);
-    put_parted(out, &texts[..count])?;
-    put_more(out, texts.len() - count)
+    put_parted(out, texts)
 }
 
 // Puts the members of the set of a filter of a table's column.
@@ -244,8 +282,8 @@ pub(crate) fn put_members(
     table: Option<&Table>,
     filter: &ColumnFilter,
 ) -> Result<(), AllocError>
-    ensures { OnOk result (string_bytes out.new ≡ string_bytes out.old ++ spec.shown_or_nothing (spec.members (table_or_none (option_copied table.entry)) filter.now)) }
+    ensures { OnOk result (string_bytes out.new ≡ string_bytes out.old ++ spec.parted_or_nothing (spec.members (table_or_none (option_copied table.entry)) filter.now)) }
 {
     let texts = members(alloc, table, filter)?;
-    put_shown(out, &texts)
+    put_parted_or_nothing(out, &texts)
 }

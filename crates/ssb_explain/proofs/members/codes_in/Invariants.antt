@@ -1,7 +1,6 @@
-use Rattle.std.proofs.Common.{◌≡◌, map, string_bytes}
-use Rattle.ssb_cells.specs.Codes.{texts_of}
-use Rattle.ssb_explain.specs.Members.{code_text, codes_in}
-use Rattle.ssb_explain.proofs.members.letter_texts.Given as goal
+use Rattle.std.proofs.Common.{◌≡◌}
+use Rattle.ssb_explain.specs.Members.{codes_in}
+use Rattle.ssb_explain.proofs.members.codes_in.Given as goal
 
 abbrev pub invariant-loop-code : goal.invariant-loop-code
-invariant-loop-code l = map string_bytes l.texts.items ≡ map (code_text (texts_of l.column.values)) (codes_in l.set l.code)
+invariant-loop-code l = l.all.items ≡ codes_in l.set l.code

@@ -1,3 +1,4 @@
+pub mod Bindable
 pub mod Counting
 pub mod Finding
 pub mod Having

@@ -61,10 +61,7 @@ the_one (fit.One x) other = x
 the_one fit.Missing other = other
 the_one fit.Several other = other
 
--- The column that a name stands for: of a name that does not fit one alone, which no bound query has, the first of FROM.
-abbrev pub bound_name : List TableShape → List ℕ → ColumnName → BoundColumn
-bound_name c from name = the_one (fit_of (columns_for c from name)) (record { table = 0; column = 0 })
-
+-- a name that fits no column, or several
 abbrev pub is_wrong_fit : {A : Type 0} → Wrong → Fit A → Bool
 is_wrong_fit wrong.Unknown fit.Missing = true
 is_wrong_fit wrong.Unknown (fit.One x) = false
@@ -72,7 +69,3 @@ is_wrong_fit wrong.Unknown fit.Several = false
 is_wrong_fit wrong.Ambiguous fit.Missing = false
 is_wrong_fit wrong.Ambiguous (fit.One x) = false
 is_wrong_fit wrong.Ambiguous fit.Several = true
-
--- a name that fits no column, or several
-abbrev pub is_wrong : List TableShape → List ℕ → Wrong → ColumnName → Bool
-is_wrong c from w name = is_wrong_fit w (fit_of (columns_for c from name))

@@ -5,17 +5,18 @@ use Rattle.std.specs.Prelude.{◌≡◌, ◌⊎◌, ℕ, Bool, true, false, ◌+
 use Rattle.std.specs.List.{list_any}
 use Rattle.std.specs.Str.{bytes_eq}
 use Rattle.ssb_catalog.specs.Shapes.{TableShape}
-use Rattle.ssb_sql.specs.declared.named.ColumnName.{ColumnName}
 use Rattle.ssb_sql.specs.declared.select.Select.{Select}
-use Rattle.ssb_bind.specs.Bound.{bound_where, group_place, having_aggregates}
-use Rattle.ssb_bind.specs.Columns.{table_number, table_numbers, bound_name, is_wrong}
-use Rattle.ssb_bind.specs.Names.{column_names, plain_columns}
+use Rattle.ssb_bind.specs.Bound.{bound_where, having_aggregates, the_column}
+use Rattle.ssb_bind.specs.Columns.{table_number, table_numbers, is_wrong_fit}
+use Rattle.ssb_bind.specs.Names.{column_names, ungrouped_names}
+use Rattle.ssb_bind.specs.Resolved.{resolved_select}
+use Rattle.ssb_bind.specs.declared.resolved.Resolved.{Resolved}
+use Rattle.ssb_bind.specs.declared.resolved.ResolvedName.{ResolvedName}
 use Rattle.ssb_bind.specs.Orders.{bad_from}
 use Rattle.ssb_query.specs.Star.{unjoined_from}
 use Rattle.ssb_bind.specs.Rules.{rules_in}
 use Rattle.ssb_query.specs.Tables.{fact_place}
 use Rattle.ssb_bind.specs.Typing.{has_mismatch}
-use Rattle.ssb_query.specs.declared.column.BoundColumn.{BoundColumn}
 use Rattle.ssb_bind.specs.declared.fault.BindFault.{BindFault}
 use Rattle.ssb_bind.specs.declared.fault.BindFault.TheVariants as fault
 use Rattle.ssb_bind.specs.declared.fault.TooMany.{TooMany}
@@ -23,6 +24,7 @@ use Rattle.ssb_bind.specs.declared.fault.TooMany.TheVariants as many
 use Rattle.ssb_bind.specs.declared.fit.Wrong.{Wrong}
 use Rattle.ssb_bind.specs.declared.fit.Wrong.TheVariants as wrong
 use Rattle.ssb_query.specs.declared.query.QueryParts.{QueryParts}
+use Rattle.ssb_query.specs.declared.query.TableRules.{TableRules}
 
 -- ---- each by itself, with its detail: of the first place in the text
 
@@ -40,27 +42,20 @@ abbrev pub table_twice : Select → Option (List ℕ)
 table_twice s = repeated [] s.from
 
 -- a name without table that no table of FROM has, or one whose table is not in FROM or lacks it; a name without table that two tables have
-abbrev pub wrong_name : List TableShape → List ℕ → Wrong → Select → Option ColumnName
-wrong_name c from w s = find (is_wrong c from w) (column_names s)
+abbrev pub wrong_name : Wrong → Resolved → Option ResolvedName
+wrong_name w r = find (λ name. is_wrong_fit w name.fit) (column_names r)
 
 abbrev pub fault_of : Wrong → List ℕ → BindFault
 fault_of wrong.Unknown name = fault.UnknownColumn name
 fault_of wrong.Ambiguous name = fault.AmbiguousColumn name
 
-abbrev pub is_ungrouped : List TableShape → List ℕ → List BoundColumn → ColumnName → Bool
-is_ungrouped c from groups name = is_none (group_place groups (bound_name c from name))
-
 -- a column of the select list or of HAVING, in no aggregate, that is no group column
-abbrev pub not_grouped : List TableShape → List ℕ → List BoundColumn → Select → Option ColumnName
-not_grouped c from groups s = find (is_ungrouped c from groups) (plain_columns s)
+abbrev pub not_grouped : Resolved → Option ResolvedName
+not_grouped r = find (λ _. true) (ungrouped_names r)
 
 -- an order key that is not the name or the position of exactly one select column: its number from 1
 abbrev pub bad_order : Select → Option ℕ
 bad_order s = bad_from s.items 1 s.orders
-
--- FROM lacks the fact table
-abbrev pub lacks_fact : QueryParts → Bool
-lacks_fact q = is_none (fact_place q.tables q.from)
 
 -- another table of FROM that no conjunct of WHERE joins to the fact table by its key
 abbrev pub unjoined : QueryParts → Select → Option (List ℕ)
@@ -76,8 +71,8 @@ too_many_by having s =
     else (if nat_lt 32 having then Some many.Having
     else None))))
 
-abbrev pub too_many : List TableShape → List ℕ → Select → Option TooMany
-too_many c from s = too_many_by (length (having_aggregates c from s.having)) s
+abbrev pub too_many : Resolved → Select → Option TooMany
+too_many r s = too_many_by (length (having_aggregates r.having)) s
 
 -- ---- all of them
 
@@ -95,41 +90,55 @@ abbrev pub when : Bool → BindFault → Option BindFault
 when true f = Some f
 when false f = None
 
-abbrev pub wrong_names : List TableShape → List ℕ → Wrong → Select → Option BindFault
-wrong_names c from w s = with (λ name. fault_of w name.column) (wrong_name c from w s)
+abbrev pub wrong_names : Wrong → Resolved → Option BindFault
+wrong_names w r = with (λ name. fault_of w name.name) (wrong_name w r)
 
--- A select's FROM, WHERE and GROUP BY, with a column in the place of each name: of these, groups and joins are judged. The rest is judged as it is written.
-abbrev pub draft : List TableShape → List ℕ → Select → QueryParts
-draft c from s = record {
-  tables = rules_in c;
+-- A select's FROM, WHERE and GROUP BY, with a column in the place of each name: of these, joins are judged. The rest is judged as it is written.
+abbrev pub draft : List TableRules → List ℕ → Resolved → QueryParts
+draft tables from r = record {
+  tables = tables;
   from = from;
-  fact = unwrap_or (fact_place (rules_in c) from) 0;
-  condition = bound_where c from s.condition;
-  groups = map (bound_name c from) s.groups;
+  fact = unwrap_or (fact_place tables from) 0;
+  condition = bound_where r.condition;
+  groups = map the_column r.groups;
   having = None;
   aggregates = [];
   items = [];
   orders = [];
 }
 
--- the ten refusals of a select and of its draft, each with its fault where it applies
-abbrev pub faults : List TableShape → QueryParts → Select → List (Option BindFault)
-faults c q s =
-    with fault.UnknownTable (unknown_table c s.from)
-    ∷ with fault.TableTwice (table_twice s)
-    ∷ wrong_names c q.from wrong.Unknown s
-    ∷ wrong_names c q.from wrong.Ambiguous s
-    ∷ when (has_mismatch c q s) fault.TypeMismatch
-    ∷ with (λ name. fault.NotGrouped name.column) (not_grouped c q.from q.groups s)
-    ∷ with fault.BadOrderItem (bad_order s)
-    ∷ when (lacks_fact q) fault.NoFactTable
-    ∷ with fault.NotStar (unjoined q s)
-    ∷ with fault.TooMany (too_many c q.from s)
+-- the refusals that are judged of a select with its names resolved, each with its fault where it applies
+abbrev pub resolved_faults : List TableRules → List ℕ → Resolved → Select → List (Option BindFault)
+resolved_faults tables from r s =
+    with fault.TableTwice (table_twice s)
+    ∷ wrong_names wrong.Unknown r
+    ∷ wrong_names wrong.Ambiguous r
+    ∷ when (has_mismatch tables from r) fault.TypeMismatch
+    ∷ with (λ name. fault.NotGrouped name.name) (not_grouped r)
     ∷ []
+
+-- all that are judged before a query is made
+abbrev pub name_faults : List TableShape → List TableRules → List ℕ → Resolved → Select → List (Option BindFault)
+name_faults c tables from r s = with fault.UnknownTable (unknown_table c s.from) ∷ resolved_faults tables from r s
+
+-- those of ORDER BY and of the fact table
+abbrev pub part_faults : List TableRules → List ℕ → Select → List (Option BindFault)
+part_faults tables from s = with fault.BadOrderItem (bad_order s) ∷ when (is_none (fact_place tables from)) fault.NoFactTable ∷ []
+
+-- those that are judged of the query
+abbrev pub query_faults : QueryParts → Resolved → Select → List (Option BindFault)
+query_faults q r s = with fault.NotStar (unjoined q s) ∷ with fault.TooMany (too_many r s) ∷ []
+
+abbrev pub shape_faults : QueryParts → Resolved → Select → List (Option BindFault)
+shape_faults q r s = part_faults q.tables q.from s ++ query_faults q r s
+
+-- the ten refusals
+abbrev pub faults : List TableShape → List ℕ → Resolved → Select → List (Option BindFault)
+faults c from r s = let tables = rules_in c in name_faults c tables from r s ++ shape_faults (draft tables from r) r s
 
 -- the least that applies: a number is judged only where no lesser one applies
 unfoldable pub least_fault : List TableShape → Select → Option BindFault
-least_fault c s = first_of (faults c (draft c (table_numbers c s.from) s) s)
+least_fault c s = let from = table_numbers c s.from in first_of (faults c from (resolved_select c from s) s)
 
 -- ---- what is answered
 

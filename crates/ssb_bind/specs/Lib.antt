@@ -6,6 +6,7 @@ pub mod Meaning
 pub mod Names
 pub mod Orders
 pub mod Query
+pub mod Resolved
 pub mod Rules
 pub mod Titles
 pub mod Typing

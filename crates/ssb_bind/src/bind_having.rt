@@ -1,44 +1,42 @@
 // HAVING with the place of each column and the number of each aggregate.
 
-ghost use Rattle.std.specs.Prelude.{◌≡◌, ◌++◌, IfOk, length};
+ghost use Rattle.std.specs.Prelude.{◌≡◌, ◌++◌, true, IfOk, length};
+ghost use Rattle.std.specs.List.{list_all};
 ghost use Rattle.ssb_bind.specs.Binding as binding;
 ghost use Rattle.ssb_bind.specs.Bound.{having_aggregates};
 
 use crate::bind_select::{aggregate_of, origin_of};
-use crate::bind_trees::Scope;
+use crate::resolved::ResolvedOutput;
 use sqlite_items::Items;
 use ssb_query::{BoundColumn, Origin};
-use ssb_sql::Output;
 use ssb_trees::{Aggregate, Filter, LeavesInOrder, Operand};
 use std::alloc::{AllocError, Global};
 
-// Outputs that are bound one after the other: the aggregates so far, and where names are bound.
+// The aggregates so far: outputs are bound one after the other.
 #[derive(Drop)]
-struct Outputs<'a> {
-    scope: Scope<'a>,
-    groups: &'a [BoundColumn],
+struct Numbering {
     aggregates: Items<Aggregate<BoundColumn>>,
 }
 
-impl LeavesInOrder<Operand<Output>, Operand<Origin>> for Outputs<'_> {
-    ghost given = { λ outputs operand. binding.operand_of outputs.scope.catalog.now outputs.scope.from.now outputs.groups.now (length outputs.aggregates) operand };
+impl LeavesInOrder<Operand<ResolvedOutput>, Operand<Origin>> for Numbering {
+    ghost taken = { binding.is_bindable_operand };
 
-    ghost next = { λ outputs operand. record { scope = outputs.scope; groups = outputs.groups; aggregates = binding.and_aggregate outputs.scope.catalog.now outputs.scope.from.now outputs.aggregates operand } };
+    ghost given = { λ numbering operand. binding.operand_of (length numbering.aggregates) operand };
+
+    ghost next = { λ numbering operand. record { aggregates = binding.and_aggregate numbering.aggregates operand } };
 
     fn leaf(
         &mut self,
         alloc: Global,
-        operand: &Operand<Output>,
+        operand: &Operand<ResolvedOutput>,
     ) -> Result<Operand<Origin>, AllocError> {
-        let Scope { catalog, from, .. } = self.scope;
         match operand {
             Operand::Column(output) => {
                 let before = self.aggregates.len();
-                if let Some(aggregate) = aggregate_of(alloc, catalog, from, output)? {
+                if let Some(aggregate) = aggregate_of(alloc, output)? {
                     self.aggregates.push(aggregate)?;
                 }
-                let origin = origin_of(catalog, from, self.groups, before, output);
-                Ok(Operand::Column(origin))
+                Ok(Operand::Column(origin_of(before, output)))
             }
             Operand::Literal(literal) => Ok(Operand::Literal(literal.copy(alloc)?)),
         }
@@ -47,23 +45,19 @@ impl LeavesInOrder<Operand<Output>, Operand<Origin>> for Outputs<'_> {
 
 // HAVING, and the aggregates with those of HAVING behind them.
 pub(crate) fn bound_having(
-    scope: Scope<'_>,
-    groups: &[BoundColumn],
+    alloc: Global,
     aggregates: Items<Aggregate<BoundColumn>>,
-    having: &Option<Filter<Output>>,
+    having: &Option<Filter<ResolvedOutput>>,
 ) -> Result<(Option<Filter<Origin>>, Items<Aggregate<BoundColumn>>), AllocError>
-    ensures { let c = scope.entry.catalog.now in let from = scope.entry.from.now in IfOk result (λ r. binding.BindsHaving c from groups.now aggregates having.now r.0 × (r.1 ≡ aggregates ++ having_aggregates c from having.now)) }
+    requires { list_all binding.is_bindable_operand (binding.filter_operands having.now) ≡ true }
+    ensures { IfOk result (λ r. binding.BindsHaving aggregates having.now r.0 × (r.1 ≡ aggregates ++ having_aggregates having.now)) }
 {
     match having {
         None => Ok((None, aggregates)),
         Some(condition) => {
-            let mut outputs = Outputs {
-                scope,
-                groups,
-                aggregates,
-            };
-            let bound = condition.mapped_in_order(scope.alloc, &mut outputs)?;
-            let Outputs { aggregates, .. } = outputs;
+            let mut numbering = Numbering { aggregates };
+            let bound = condition.mapped_in_order(alloc, &mut numbering)?;
+            let Numbering { aggregates } = numbering;
             Ok((Some(bound), aggregates))
         }
     }

@@ -1,24 +1,23 @@
 // The query of a select whose names each stand for one column.
 
-ghost use Rattle.std.specs.Prelude.{◌≡◌, IfOk, map};
+ghost use Rattle.std.specs.Prelude.{◌≡◌, true, IfOk, length, map};
+ghost use Rattle.std.specs.List.{list_all};
 ghost use Rattle.ssb_bind.specs.Binding as binding;
 ghost use Rattle.ssb_bind.specs.Bound as spec;
-ghost use Rattle.ssb_bind.specs.Columns.{bound_name};
 ghost use Rattle.ssb_bind.specs.Orders.{name_of_item};
 ghost use Rattle.ssb_bind.specs.Rules.{rules_in};
 
 use crate::bind_having::bound_having;
-use crate::bind_trees::{Scope, bound_aggregate, bound_where};
-use crate::groups::group_place;
+use crate::binding::{Binding, the_column};
+use crate::fault::BindFault;
 use crate::orders::{bound_orders, name_of};
-use crate::output::is_aggregate;
-use crate::resolve::bound_name;
+use crate::resolved::{Resolved, ResolvedName, ResolvedOutput};
 use sqlite_items::Items;
 use ssb_catalog::{ColumnDef, TableDef};
 use ssb_query::{BoundColumn, BoundItem, Origin, QueryParts, TableRules, fact_place};
-use ssb_sql::{ColumnName, Item, Output, Select};
+use ssb_sql::{Item, Select};
 use ssb_terms::{Name, Rule};
-use ssb_trees::Aggregate;
+use ssb_trees::{Aggregate, mapped_filter};
 use std::alloc::{AllocError, Global};
 
 fn rules_of(alloc: Global, columns: &[ColumnDef]) -> Result<Items<Rule>, AllocError>
@@ -31,7 +30,8 @@ fn rules_of(alloc: Global, columns: &[ColumnDef]) -> Result<Items<Rule>, AllocEr
     Ok(rules)
 }
 
-fn rules_in(alloc: Global, catalog: &[TableDef]) -> Result<Items<TableRules>, AllocError>
+// What a query keeps of a catalog.
+pub(crate) fn rules_in(alloc: Global, catalog: &[TableDef]) -> Result<Items<TableRules>, AllocError>
     ensures { IfOk result (λ tables. tables ≡ rules_in catalog.now) }
 {
     let mut tables = Items::new(alloc);
@@ -42,17 +42,13 @@ fn rules_in(alloc: Global, catalog: &[TableDef]) -> Result<Items<TableRules>, Al
     Ok(tables)
 }
 
-fn bound_names(
-    alloc: Global,
-    catalog: &[TableDef],
-    from: &[usize],
-    names: &[ColumnName],
-) -> Result<Items<BoundColumn>, AllocError>
-    ensures { IfOk result (λ all. all ≡ map (bound_name catalog.now from.now) names.now) }
+fn bound_names(alloc: Global, names: &[ResolvedName]) -> Result<Items<BoundColumn>, AllocError>
+    requires { list_all binding.is_one names.now ≡ true }
+    ensures { IfOk result (λ all. all ≡ map spec.the_column names.now) }
 {
     let mut all = Items::new(alloc);
     for name in names {
-        all.push(bound_name(catalog, from, name))?;
+        all.push(the_column(name))?;
     }
     Ok(all)
 }
@@ -60,34 +56,27 @@ fn bound_names(
 // The aggregate of an output, where it is one.
 pub(crate) fn aggregate_of(
     alloc: Global,
-    catalog: &[TableDef],
-    from: &[usize],
-    output: &Output,
+    output: &ResolvedOutput,
 ) -> Result<Option<Aggregate<BoundColumn>>, AllocError>
-    ensures { IfOk result (λ a. a ≡ spec.aggregate_of catalog.now from.now output.now) }
+    requires { binding.is_bindable_output output.now ≡ true }
+    ensures { IfOk result (λ a. a ≡ spec.aggregate_of output.now) }
 {
-    let scope = Scope {
-        alloc,
-        catalog,
-        from,
-    };
     match output {
-        Output::Column(_) => Ok(None),
-        Output::Aggregate(aggregate) => Ok(Some(bound_aggregate(scope, aggregate)?)),
+        ResolvedOutput::Column { .. } => Ok(None),
+        ResolvedOutput::Aggregate(aggregate) => Ok(Some(aggregate.mapped(alloc, &Binding)?)),
     }
 }
 
 fn aggregates_of(
     alloc: Global,
-    catalog: &[TableDef],
-    from: &[usize],
-    items: &[Item],
+    outputs: &[ResolvedOutput],
 ) -> Result<Items<Aggregate<BoundColumn>>, AllocError>
-    ensures { IfOk result (λ all. all ≡ spec.aggregates_of catalog.now from.now items.now) }
+    requires { list_all binding.is_bindable_output outputs.now ≡ true }
+    ensures { IfOk result (λ all. all ≡ spec.aggregates_of outputs.now) }
 {
     let mut all = Items::new(alloc);
-    for item in items {
-        if let Some(aggregate) = aggregate_of(alloc, catalog, from, &item.output)? {
+    for output in outputs {
+        if let Some(aggregate) = aggregate_of(alloc, output)? {
             all.push(aggregate)?;
         }
     }
@@ -95,21 +84,17 @@ fn aggregates_of(
 }
 
 // Where an output's values come from, with so many aggregates before it.
-pub(crate) fn origin_of(
-    catalog: &[TableDef],
-    from: &[usize],
-    groups: &[BoundColumn],
-    before: usize,
-    output: &Output,
-) -> Origin
-    ensures { result ≡ binding.origin_of catalog.now from.now groups.now before output.now }
+pub(crate) fn origin_of(before: usize, output: &ResolvedOutput) -> Origin
+    requires { binding.is_bindable_output output.now ≡ true }
+    ensures { result ≡ binding.origin_of before output.now }
 {
     match output {
-        Output::Column(name) => {
-            let column = bound_name(catalog, from, name);
-            Origin::Group(group_place(groups, column).unwrap_or(0))
-        }
-        _ => Origin::Aggregate(before),
+        ResolvedOutput::Column {
+            group: Some(place),
+            ..
+        } => Origin::Group(*place),
+        ResolvedOutput::Column { .. } => unreachable!(),
+        ResolvedOutput::Aggregate(_) => Origin::Aggregate(before),
     }
 }
 
@@ -124,34 +109,33 @@ fn own_name(alloc: Global, item: &Item) -> Result<Option<Name>, AllocError>
 
 fn bound_item(
     alloc: Global,
-    catalog: &[TableDef],
-    from: &[usize],
-    groups: &[BoundColumn],
     before: usize,
+    output: &ResolvedOutput,
     item: &Item,
 ) -> Result<BoundItem, AllocError>
-    ensures { IfOk result (λ i. i ≡ binding.bound_item catalog.now from.now groups.now before item.now) }
+    requires { binding.is_bindable_output output.now ≡ true }
+    ensures { IfOk result (λ i. i ≡ binding.bound_item before output.now item.now) }
 {
     Ok(BoundItem {
-        origin: origin_of(catalog, from, groups, before, &item.output),
+        origin: origin_of(before, output),
         name: own_name(alloc, item)?,
     })
 }
 
 fn bound_items(
     alloc: Global,
-    catalog: &[TableDef],
-    from: &[usize],
-    groups: &[BoundColumn],
+    outputs: &[ResolvedOutput],
     items: &[Item],
 ) -> Result<Items<BoundItem>, AllocError>
-    ensures { IfOk result (λ all. all ≡ binding.bound_items catalog.now from.now groups.now 0 items.now) }
+    requires outputs { list_all binding.is_bindable_output outputs.now ≡ true }
+    requires items { length items.now ≡ length outputs.now }
+    ensures { IfOk result (λ all. all ≡ binding.bound_items 0 outputs.now items.now) }
 {
     let mut all = Items::new(alloc);
     let mut before = 0;
-    for item in items {
-        all.push(bound_item(alloc, catalog, from, groups, before, item)?)?;
-        if is_aggregate(&item.output) {
+    for (at, output) in outputs.iter().enumerate() {
+        all.push(bound_item(alloc, before, output, &items[at])?)?;
+        if output.is_aggregate() {
             before += 1;
         }
     }
@@ -162,34 +146,32 @@ fn bound_items(
 #[tactic(auto, unfolding(crate::specs::Binding::bound_from))]
 pub(crate) fn bound_query(
     alloc: Global,
-    catalog: &[TableDef],
+    tables: Items<TableRules>,
     from: Items<usize>,
+    resolved: &Resolved,
     select: &Select,
-) -> Result<QueryParts, AllocError>
-    ensures { IfOk result (λ q. binding.IsBound catalog.now from select.now q) }
+) -> Result<QueryParts, BindFault>
+    requires bindable { binding.IsBindable resolved.now }
+    requires items { length select.now.items ≡ length resolved.now.outputs }
+    ensures { binding.BindsParts tables from resolved.now select.now result }
 {
-    let numbers = from.as_slice();
-    let tables = rules_in(alloc, catalog)?;
-    let groups = bound_names(alloc, catalog, numbers, select.groups.as_slice())?;
-    let columns = groups.as_slice();
-    let items = bound_items(alloc, catalog, numbers, columns, select.items.as_slice())?;
     let orders = bound_orders(alloc, select.items.as_slice(), select.orders.as_slice())?;
-    let aggregates = aggregates_of(alloc, catalog, numbers, select.items.as_slice())?;
-    let scope = Scope {
-        alloc,
-        catalog,
-        from: numbers,
+    let Some(fact) = fact_place(tables.as_slice(), from.as_slice()) else {
+        return Err(BindFault::NoFactTable);
     };
-    let condition = bound_where(scope, &select.condition)?;
-    let (having, aggregates) = match bound_having(scope, columns, aggregates, &select.having) {
+    let outputs = resolved.outputs.as_slice();
+    let groups = bound_names(alloc, resolved.groups.as_slice())?;
+    let items = bound_items(alloc, outputs, select.items.as_slice())?;
+    let aggregates = aggregates_of(alloc, outputs)?;
+    let condition = mapped_filter(alloc, &resolved.condition, &Binding)?;
+    let (having, aggregates) = match bound_having(alloc, aggregates, &resolved.having) {
         Ok(bound) => bound,
-        Err(error) => {
+        Err(_) => {
             // By a call, since the prover writes out all that a condition may be where a scope's end lets go of it.
             drop(condition);
-            return Err(error);
+            return Err(BindFault::Memory);
         }
     };
-    let fact = fact_place(tables.as_slice(), numbers).unwrap_or(0);
     Ok(QueryParts {
         tables,
         from,

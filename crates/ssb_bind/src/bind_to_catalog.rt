@@ -1,39 +1,50 @@
 // Binding a select to a catalog.
 
-ghost use Rattle.std.specs.Prelude.{◌≡◌, IfOk};
+ghost use Rattle.std.specs.Prelude.{◌≡◌, length};
 ghost use Rattle.ssb_bind.specs.Binding as binding;
 ghost use Rattle.ssb_bind.specs.Meaning as spec;
 ghost use Rattle.ssb_query.specs.Star.{IsStar};
 
-use crate::bind_select::bound_query;
+use crate::bind_select::{bound_query, rules_in};
 use crate::fault::BindFault;
-use crate::judge::check;
-use crate::resolve::table_numbers;
+use crate::judge::{check_query, check_select};
+use crate::resolved::Resolved;
+use crate::scope::{Scope, table_numbers};
+use sqlite_items::Items;
 use ssb_catalog::{Catalog, TableDef};
-use ssb_query::{Query, QueryParts};
+use ssb_query::{Query, QueryParts, TableRules};
 use ssb_sql::Select;
 use std::alloc::Global;
 
-// The query, where nothing is wrong with it.
-fn keep(query: QueryParts, checked: Result<(), BindFault>) -> Result<QueryParts, BindFault>
-    ensures { binding.Keeps query checked result }
+// The query of a select with its names resolved, each to one column.
+fn bound(
+    alloc: Global,
+    tables: Items<TableRules>,
+    from: Items<usize>,
+    resolved: &Resolved,
+    select: &Select,
+) -> Result<QueryParts, BindFault>
+    requires bindable { binding.IsBindable resolved.now }
+    requires items { length select.now.items ≡ length resolved.now.outputs }
+    ensures { binding.BindsResolved tables from resolved.now select.now result }
 {
-    match checked {
-        Ok(()) => Ok(query),
-        Err(fault) => {
-            drop(query);
-            Err(fault)
-        }
-    }
+    let query = bound_query(alloc, tables, from, resolved, select)?;
+    check_query(alloc, &query, resolved, select)?;
+    Ok(query)
 }
 
 fn judged(alloc: Global, catalog: &[TableDef], select: &Select) -> Result<QueryParts, BindFault>
     ensures { spec.BindsTo catalog.now select.now result }
 {
     let from = table_numbers(alloc, catalog, select.from.as_slice())?;
-    let query = bound_query(alloc, catalog, from, select)?;
-    let checked = check(alloc, catalog, &query, select);
-    keep(query, checked)
+    let tables = rules_in(alloc, catalog)?;
+    let scope = Scope {
+        catalog,
+        from: from.as_slice(),
+    };
+    let resolved = Resolved::of(alloc, scope, select)?;
+    check_select(alloc, tables.as_slice(), from.as_slice(), &resolved, select)?;
+    bound(alloc, tables, from, &resolved, select)
 }
 
 /// The query that a select means over a catalog.

@@ -1,16 +1,15 @@
 // Group columns, and columns of the select list and of HAVING that are none.
 
-ghost use Rattle.std.specs.Prelude.{◌≡◌};
+ghost use Rattle.std.specs.Prelude.{◌≡◌, true};
 ghost use Rattle.std.specs.Option.{option_copied};
-ghost use Rattle.ssb_bind.specs.Bound.{is_same_column, group_place};
 ghost use Rattle.ssb_bind.specs.Faults as spec;
-ghost use Rattle.ssb_bind.specs.Names.{own_columns};
+ghost use Rattle.ssb_bind.specs.Names.{ungrouped};
+ghost use Rattle.ssb_bind.specs.Resolved.{group_place, is_same_column, is_same_fit};
 
-use crate::resolve::bound_name;
-use crate::search::{Search, in_filter, in_items};
-use ssb_catalog::TableDef;
+use crate::fit::Fit;
+use crate::resolved::{Resolved, ResolvedName, ResolvedOutput};
+use crate::search::{Search, in_filter, in_outputs};
 use ssb_query::BoundColumn;
-use ssb_sql::{ColumnName, Output, Select};
 
 fn is_same_column(x: BoundColumn, y: BoundColumn) -> bool
     ensures { result ≡ is_same_column x y }
@@ -18,39 +17,36 @@ fn is_same_column(x: BoundColumn, y: BoundColumn) -> bool
     x.table == y.table && x.column == y.column
 }
 
+// Whether both names stand for the same column.
+fn is_same_fit(a: &Fit<BoundColumn>, b: &Fit<BoundColumn>) -> bool
+    ensures { result ≡ is_same_fit a.now b.now }
+{
+    match (a, b) {
+        (Fit::One(x), Fit::One(y)) => is_same_column(*x, *y),
+        _ => false,
+    }
+}
+
 /// The place of a column among the group columns: the first that is the same.
-pub(crate) fn group_place(groups: &[BoundColumn], column: BoundColumn) -> Option<usize>
-    ensures { result ≡ group_place groups.now column }
+pub(crate) fn group_place(groups: &[ResolvedName], name: &ResolvedName) -> Option<usize>
+    ensures { result ≡ group_place groups.now name.now }
 {
     groups
         .iter()
-        .position(|group| is_same_column(column, *group))
-}
-
-// Which columns are group columns.
-#[derive(Clone, Copy)]
-struct Grouping<'a> {
-    catalog: &'a [TableDef],
-    from: &'a [usize],
-    groups: &'a [BoundColumn],
-}
-
-fn is_ungrouped(grouping: Grouping<'_>, name: &ColumnName) -> bool
-    ensures { result ≡ spec.is_ungrouped grouping.entry.catalog.now grouping.entry.from.now grouping.entry.groups.now name.now }
-{
-    let column = bound_name(grouping.catalog, grouping.from, name);
-    group_place(grouping.groups, column).is_none()
+        .position(|group| is_same_fit(&name.fit, &group.fit))
 }
 
 // An output that is a column, and no group column.
-impl Search<Output> for Grouping<'_> {
-    ghost names = { own_columns };
+struct Ungrouped;
 
-    ghost wanted = { λ grouping name. spec.is_ungrouped grouping.catalog.now grouping.from.now grouping.groups.now name };
+impl Search<ResolvedOutput> for Ungrouped {
+    ghost names = { ungrouped };
 
-    fn first_in<'a>(&self, output: &'a Output) -> Option<&'a ColumnName> {
+    ghost wanted = { λ _ _. true };
+
+    fn first_in<'a>(&self, output: &'a ResolvedOutput) -> Option<&'a ResolvedName> {
         match output {
-            Output::Column(name) if is_ungrouped(*self, name) => Some(name),
+            ResolvedOutput::Column { name, group: None } => Some(name),
             _ => None,
         }
     }
@@ -58,21 +54,11 @@ impl Search<Output> for Grouping<'_> {
 
 // The first column of the select list and then of HAVING that is no group column.
 #[tactic(auto, using(ssb_trees::proofs::Finding::find_front, ssb_trees::proofs::Finding::find_back))]
-pub(crate) fn not_grouped<'a>(
-    catalog: &[TableDef],
-    from: &[usize],
-    groups: &[BoundColumn],
-    select: &'a Select,
-) -> Option<&'a ColumnName>
-    ensures { option_copied result ≡ spec.not_grouped catalog.now from.now groups.now select.now }
+pub(crate) fn not_grouped(resolved: &Resolved) -> Option<&ResolvedName>
+    ensures { option_copied result ≡ spec.not_grouped resolved.now }
 {
-    let grouping = Grouping {
-        catalog,
-        from,
-        groups,
-    };
-    if let Some(name) = in_items(&grouping, select.items.as_slice()) {
+    if let Some(name) = in_outputs(&Ungrouped, resolved.outputs.as_slice()) {
         return Some(name);
     }
-    in_filter(&grouping, &select.having)
+    in_filter(&Ungrouped, &resolved.having)
 }

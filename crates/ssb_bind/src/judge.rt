@@ -1,4 +1,4 @@
-// The ten refusals, least number first.
+// The refusals that are judged of a select, least number first.
 
 ghost use Rattle.std.specs.Prelude.{◌≡◌, ◌++◌, []};
 ghost use Rattle.std.specs.List.{list_any};
@@ -12,26 +12,13 @@ use crate::fault::BindFault;
 use crate::fit::Wrong;
 use crate::groups::not_grouped;
 use crate::limits::{having_aggregates, too_many};
-use crate::names::{Sought, first_wrong};
-use crate::orders::bad_order;
-use crate::resolve::table_number;
+use crate::names::first_wrong;
+use crate::resolved::Resolved;
 use crate::typing::has_mismatch;
-use ssb_catalog::TableDef;
-use ssb_query::{QueryParts, fact_place, unjoined};
+use ssb_query::{QueryParts, TableRules, unjoined};
 use ssb_sql::Select;
 use ssb_terms::Name;
 use std::alloc::Global;
-
-fn unknown_table<'a>(catalog: &[TableDef], from: &'a [Name]) -> Option<&'a Name>
-    ensures { option_copied result ≡ spec.unknown_table catalog.now from.now }
-{
-    for name in from {
-        if table_number(catalog, name).is_none() {
-            return Some(name);
-        }
-    }
-    None
-}
 
 fn is_same_name(name: &Name, other: &Name) -> bool
     ensures { result ≡ bytes_eq name.now other.now }
@@ -56,15 +43,6 @@ fn repeated(from: &[Name]) -> Option<&Name>
     None
 }
 
-fn check_known(alloc: Global, catalog: &[TableDef], select: &Select) -> Result<(), BindFault>
-    ensures { spec.Judges (spec.with BindFault.UnknownTable (spec.unknown_table catalog.now select.now.from)) result }
-{
-    match unknown_table(catalog, select.from.as_slice()) {
-        None => Ok(()),
-        Some(name) => Err(BindFault::UnknownTable(name.copy(alloc)?)),
-    }
-}
-
 fn check_once(alloc: Global, select: &Select) -> Result<(), BindFault>
     ensures { spec.Judges (spec.with BindFault.TableTwice (spec.table_twice select.now)) result }
 {
@@ -83,67 +61,30 @@ fn fault_of(wrong: Wrong, name: Name) -> BindFault
     }
 }
 
-fn check_names(
-    alloc: Global,
-    catalog: &[TableDef],
-    from: &[usize],
-    wrong: Wrong,
-    select: &Select,
-) -> Result<(), BindFault>
-    ensures { spec.Judges (spec.wrong_names catalog.now from.now wrong select.now) result }
+fn check_names(alloc: Global, wrong: Wrong, resolved: &Resolved) -> Result<(), BindFault>
+    ensures { spec.Judges (spec.wrong_names wrong resolved.now) result }
 {
-    match first_wrong(
-        Sought {
-            catalog,
-            from,
-            wrong,
-        },
-        select,
-    ) {
+    match first_wrong(wrong, resolved) {
         None => Ok(()),
-        Some(name) => Err(fault_of(wrong, name.column.copy(alloc)?)),
+        Some(name) => Err(fault_of(wrong, name.name.copy(alloc)?)),
     }
 }
 
-fn check_types(catalog: &[TableDef], query: &QueryParts, select: &Select) -> Result<(), BindFault>
-    ensures { spec.Judges (spec.when (has_mismatch catalog.now query.now select.now) BindFault.TypeMismatch) result }
+fn check_types(tables: &[TableRules], from: &[usize], resolved: &Resolved) -> Result<(), BindFault>
+    ensures { spec.Judges (spec.when (has_mismatch tables.now from.now resolved.now) BindFault.TypeMismatch) result }
 {
-    if has_mismatch(catalog, query, select) {
+    if has_mismatch(tables, from, resolved) {
         return Err(BindFault::TypeMismatch);
     }
     Ok(())
 }
 
-fn check_groups(
-    alloc: Global,
-    catalog: &[TableDef],
-    query: &QueryParts,
-    select: &Select,
-) -> Result<(), BindFault>
-    ensures { spec.Judges (spec.with (λ name. BindFault.NotGrouped name.column) (spec.not_grouped catalog.now query.now.from query.now.groups select.now)) result }
+fn check_groups(alloc: Global, resolved: &Resolved) -> Result<(), BindFault>
+    ensures { spec.Judges (spec.with (λ name. BindFault.NotGrouped name.name) (spec.not_grouped resolved.now)) result }
 {
-    let from = query.from.as_slice();
-    match not_grouped(catalog, from, query.groups.as_slice(), select) {
+    match not_grouped(resolved) {
         None => Ok(()),
-        Some(name) => Err(BindFault::NotGrouped(name.column.copy(alloc)?)),
-    }
-}
-
-fn check_orders(select: &Select) -> Result<(), BindFault>
-    ensures { spec.Judges (spec.with BindFault.BadOrderItem (spec.bad_order select.now)) result }
-{
-    match bad_order(select.items.as_slice(), select.orders.as_slice()) {
-        None => Ok(()),
-        Some(number) => Err(BindFault::BadOrderItem(number)),
-    }
-}
-
-fn check_fact(query: &QueryParts) -> Result<(), BindFault>
-    ensures { spec.Judges (spec.when (spec.lacks_fact query.now) BindFault.NoFactTable) result }
-{
-    match fact_place(query.tables.as_slice(), query.from.as_slice()) {
-        None => Err(BindFault::NoFactTable),
-        Some(_) => Ok(()),
+        Some(name) => Err(BindFault::NotGrouped(name.name.copy(alloc)?)),
     }
 }
 
@@ -165,32 +106,44 @@ fn check_limits(select: &Select, having: usize) -> Result<(), BindFault>
     }
 }
 
-/// Judges a select by its bound query, which has the aggregates of its select list and then those of
-/// its HAVING.
+/// Judges a select by its names.
 ///
 /// # Errors
 ///
 /// The least fault that applies, for the first place in the text: the select list, FROM, WHERE,
-/// GROUP BY, HAVING and ORDER BY, each from left to right. `Memory` where a growth was refused.
+/// GROUP BY and HAVING, each from left to right. `Memory` where a growth was refused.
 #[tactic(auto, using(crate::proofs::Least::hit, crate::proofs::Least::skip, crate::proofs::Least::done))]
-pub(crate) fn check(
+pub(crate) fn check_select(
     alloc: Global,
-    catalog: &[TableDef],
-    query: &QueryParts,
+    tables: &[TableRules],
+    from: &[usize],
+    resolved: &Resolved,
     select: &Select,
 ) -> Result<(), BindFault>
-    requires { query.now.aggregates ≡ aggregates_of catalog.now query.now.from select.now.items ++ having_aggregates catalog.now query.now.from select.now.having }
-    ensures { spec.Judges (spec.first_of (spec.faults catalog.now query.now select.now)) result }
+    ensures { spec.Judges (spec.first_of (spec.resolved_faults tables.now from.now resolved.now select.now)) result }
 {
-    let from = query.from.as_slice();
-    check_known(alloc, catalog, select)?;
     check_once(alloc, select)?;
-    check_names(alloc, catalog, from, Wrong::Unknown, select)?;
-    check_names(alloc, catalog, from, Wrong::Ambiguous, select)?;
-    check_types(catalog, query, select)?;
-    check_groups(alloc, catalog, query, select)?;
-    check_orders(select)?;
-    check_fact(query)?;
+    check_names(alloc, Wrong::Unknown, resolved)?;
+    check_names(alloc, Wrong::Ambiguous, resolved)?;
+    check_types(tables, from, resolved)?;
+    check_groups(alloc, resolved)
+}
+
+/// Judges a select by its bound query.
+///
+/// # Errors
+///
+/// The least fault that applies, for the first place in FROM. `Memory` where a growth was refused.
+#[tactic(auto, using(crate::proofs::Least::hit, crate::proofs::Least::skip, crate::proofs::Least::done))]
+pub(crate) fn check_query(
+    alloc: Global,
+    query: &QueryParts,
+    resolved: &Resolved,
+    select: &Select,
+) -> Result<(), BindFault>
+    requires { query.now.aggregates ≡ aggregates_of resolved.now.outputs ++ having_aggregates resolved.now.having }
+    ensures { spec.Judges (spec.first_of (spec.query_faults query.now resolved.now select.now)) result }
+{
     check_star(alloc, query, select)?;
-    check_limits(select, having_aggregates(query, select))
+    check_limits(select, having_aggregates(query, resolved))
 }

@@ -2,17 +2,18 @@
 //!
 //! - Offers: [`bind`], which gives a [`Query`] or a [`BindFault`].
 //! - Callers: `ssb_reply`, whose reply it is part of; `ssb_answer`; embedders.
-//! - Files: `bind_to_catalog`, `bind_select`, `bind_trees`, `bind_having`, `law`: the query; `judge`,
-//!   `resolve`, `search`, `names`, `fit`, `typing`, `groups`, `orders`, `limits`, `output`, `fault`: what
-//!   is wrong with it.
-//! - Definitions: `Meaning`, `Query`, `Faults`, `Columns`, `Orders`, `Names`, `Typing`, `Rules`,
-//!   `Titles`: what a select means, and each refusal; `Binding`, `Bound`: the query as the code makes it.
+//! - Files: `scope`, `resolved`, `resolve_output`: the select with its names resolved, each once;
+//!   `bind_to_catalog`, `bind_select`, `binding`, `bind_having`, `law`: the query; `judge`, `search`,
+//!   `names`, `fit`, `typing`, `groups`, `orders`, `limits`, `fault`: what is wrong with either.
+//! - Definitions: `Meaning`, `Resolved`, `Query`, `Faults`, `Columns`, `Bound`, `Orders`, `Names`,
+//!   `Typing`, `Rules`, `Titles`: what a select means, and each refusal; `Binding`: the query as the code
+//!   makes it.
 #![tactic(auto)]
 
 mod bind_having;
 mod bind_select;
 mod bind_to_catalog;
-mod bind_trees;
+mod binding;
 pub mod fault;
 pub mod fit;
 mod groups;
@@ -21,8 +22,9 @@ pub mod law;
 mod limits;
 mod names;
 mod orders;
-mod output;
-mod resolve;
+mod resolve_output;
+pub mod resolved;
+mod scope;
 mod search;
 mod typing;
 

@@ -1,14 +1,13 @@
 // How much a query may have.
 
-ghost use Rattle.std.specs.Prelude.{◌≡◌, ◌++◌, ℕ, List, length};
+ghost use Rattle.std.specs.Prelude.{◌≡◌, ◌++◌, length};
 ghost use Rattle.ssb_bind.specs.Bound.{aggregates_of, having_aggregates};
 ghost use Rattle.ssb_bind.specs.Faults as spec;
-ghost use Rattle.ssb_catalog.specs.Shapes.{TableShape};
 
 use crate::fault::TooMany;
-use crate::output::is_aggregate;
+use crate::resolved::{Resolved, ResolvedOutput};
 use ssb_query::QueryParts;
-use ssb_sql::{Item, Select};
+use ssb_sql::Select;
 
 const MAX_TABLES: usize = 8;
 
@@ -21,12 +20,12 @@ const MAX_ORDERS: usize = 32;
 const MAX_HAVING: usize = 32;
 
 // How many aggregates the select list has.
-fn item_aggregates(items: &[Item]) -> usize
-    ensures { (c : List TableShape) (from : List ℕ) → result ≡ length (aggregates_of c from items.now) }
+fn item_aggregates(outputs: &[ResolvedOutput]) -> usize
+    ensures { result ≡ length (aggregates_of outputs.now) }
 {
     let mut count = 0;
-    for item in items {
-        if is_aggregate(&item.output) {
+    for output in outputs {
+        if output.is_aggregate() {
             count += 1;
         }
     }
@@ -34,13 +33,11 @@ fn item_aggregates(items: &[Item]) -> usize
 }
 
 // How many aggregates HAVING has: those of the query behind the select list's.
-pub(crate) fn having_aggregates(query: &QueryParts, select: &Select) -> usize
-    ensures { (c : List TableShape) (from : List ℕ) → query.now.aggregates ≡ aggregates_of c from select.now.items ++ having_aggregates c from select.now.having → result ≡ length (having_aggregates c from select.now.having) }
+pub(crate) fn having_aggregates(query: &QueryParts, resolved: &Resolved) -> usize
+    requires { query.now.aggregates ≡ aggregates_of resolved.now.outputs ++ having_aggregates resolved.now.having }
+    ensures { result ≡ length (having_aggregates resolved.now.having) }
 {
-    query
-        .aggregates
-        .len()
-        .saturating_sub(item_aggregates(select.items.as_slice()))
+    query.aggregates.len() - item_aggregates(resolved.outputs.as_slice())
 }
 
 // The first of which the query has too many, with so many aggregates in HAVING.

@@ -1,86 +1,67 @@
 // The first name of a column that fits none, or several.
 
-ghost use Rattle.std.specs.Prelude.{◌≡◌, ◌∷◌, [], find};
+ghost use Rattle.std.specs.Prelude.{◌≡◌, find};
 ghost use Rattle.std.specs.Option.{option_copied};
-ghost use Rattle.ssb_bind.specs.Columns.{is_wrong};
+ghost use Rattle.ssb_bind.specs.Columns.{is_wrong_fit};
 ghost use Rattle.ssb_bind.specs.Faults.{wrong_name};
 ghost use Rattle.ssb_bind.specs.Names as names;
 
 use crate::fit::{Fit, Wrong};
-use crate::resolve::fit_of;
-use crate::search::{Search, in_filter, in_items};
-use ssb_catalog::TableDef;
-use ssb_sql::{ColumnName, Output, Select};
+use crate::resolved::{Resolved, ResolvedName, ResolvedOutput};
+use crate::search::{Search, in_filter, in_outputs};
 use ssb_trees::{Aggregate, Test};
 
-/// Which names are looked for.
-#[derive(Clone, Copy)]
-pub(crate) struct Sought<'a> {
-    /// The catalog's tables.
-    pub catalog: &'a [TableDef],
-    /// The tables of FROM, by their numbers in the catalog.
-    pub from: &'a [usize],
-    /// What is wrong with a name that is looked for.
-    pub wrong: Wrong,
-}
-
-fn is_wrong(sought: Sought<'_>, name: &ColumnName) -> bool
-    ensures { result ≡ is_wrong sought.entry.catalog.now sought.entry.from.now sought.entry.wrong name.now }
+fn is_wrong(wrong: Wrong, name: &ResolvedName) -> bool
+    ensures { result ≡ is_wrong_fit wrong name.now.fit }
 {
-    match (sought.wrong, fit_of(sought.catalog, sought.from, name)) {
+    match (wrong, &name.fit) {
         (Wrong::Unknown, Fit::Missing) => true,
         (Wrong::Ambiguous, Fit::Several) => true,
         _ => false,
     }
 }
 
-fn in_name<'a>(sought: Sought<'_>, name: &'a ColumnName) -> Option<&'a ColumnName>
-    ensures { option_copied result ≡ find (is_wrong sought.entry.catalog.now sought.entry.from.now sought.entry.wrong) (name.now ∷ []) }
-{
-    if is_wrong(sought, name) {
-        Some(name)
-    } else {
-        None
-    }
-}
+impl Test<ResolvedName> for Wrong {
+    ghost passed = { λ wrong name. is_wrong_fit wrong name.fit };
 
-impl Test<ColumnName> for Sought<'_> {
-    ghost passed = { λ sought name. is_wrong sought.catalog.now sought.from.now sought.wrong name };
-
-    fn passes(&self, name: &ColumnName) -> bool {
+    fn passes(&self, name: &ResolvedName) -> bool {
         is_wrong(*self, name)
     }
 }
 
-impl Search<ColumnName> for Sought<'_> {
+impl Search<ResolvedName> for Wrong {
     ghost names = { names.itself };
 
-    ghost wanted = { λ sought name. is_wrong sought.catalog.now sought.from.now sought.wrong name };
+    ghost wanted = { λ wrong name. is_wrong_fit wrong name.fit };
 
-    fn first_in<'a>(&self, name: &'a ColumnName) -> Option<&'a ColumnName> {
-        in_name(*self, name)
-    }
-}
-
-impl Search<Output> for Sought<'_> {
-    ghost names = { names.output_names };
-
-    ghost wanted = { λ sought name. is_wrong sought.catalog.now sought.from.now sought.wrong name };
-
-    fn first_in<'a>(&self, output: &'a Output) -> Option<&'a ColumnName> {
-        match output {
-            Output::Column(name) => in_name(*self, name),
-            Output::Aggregate(Aggregate::Rows) => None,
-            Output::Aggregate(Aggregate::Of(_, expr)) => expr.find(self),
+    fn first_in<'a>(&self, name: &'a ResolvedName) -> Option<&'a ResolvedName> {
+        if is_wrong(*self, name) {
+            Some(name)
+        } else {
+            None
         }
     }
 }
 
-fn in_names<'a>(sought: Sought<'_>, all: &'a [ColumnName]) -> Option<&'a ColumnName>
-    ensures { option_copied result ≡ find (is_wrong sought.entry.catalog.now sought.entry.from.now sought.entry.wrong) all.now }
+impl Search<ResolvedOutput> for Wrong {
+    ghost names = { names.output_names };
+
+    ghost wanted = { λ wrong name. is_wrong_fit wrong name.fit };
+
+    fn first_in<'a>(&self, output: &'a ResolvedOutput) -> Option<&'a ResolvedName> {
+        match output {
+            ResolvedOutput::Column { name, .. } => self.first_in(name),
+            ResolvedOutput::Aggregate(Aggregate::Rows) => None,
+            ResolvedOutput::Aggregate(Aggregate::Of(_, expr)) => expr.find(self),
+        }
+    }
+}
+
+fn in_names(wrong: Wrong, all: &[ResolvedName]) -> Option<&ResolvedName>
+    ensures { option_copied result ≡ find (λ n. is_wrong_fit wrong n.fit) all.now }
 {
     for name in all {
-        if is_wrong(sought, name) {
+        if is_wrong(wrong, name) {
             return Some(name);
         }
     }
@@ -89,17 +70,17 @@ fn in_names<'a>(sought: Sought<'_>, all: &'a [ColumnName]) -> Option<&'a ColumnN
 
 // The first wrong name of a query.
 #[tactic(auto, using(ssb_trees::proofs::Finding::find_front, ssb_trees::proofs::Finding::find_back))]
-pub(crate) fn first_wrong<'a>(sought: Sought<'_>, select: &'a Select) -> Option<&'a ColumnName>
-    ensures { option_copied result ≡ wrong_name sought.entry.catalog.now sought.entry.from.now sought.entry.wrong select.now }
+pub(crate) fn first_wrong(wrong: Wrong, resolved: &Resolved) -> Option<&ResolvedName>
+    ensures { option_copied result ≡ wrong_name wrong resolved.now }
 {
-    if let Some(name) = in_items(&sought, select.items.as_slice()) {
+    if let Some(name) = in_outputs(&wrong, resolved.outputs.as_slice()) {
         return Some(name);
     }
-    if let Some(name) = in_filter(&sought, &select.condition) {
+    if let Some(name) = in_filter(&wrong, &resolved.condition) {
         return Some(name);
     }
-    if let Some(name) = in_names(sought, select.groups.as_slice()) {
+    if let Some(name) = in_names(wrong, resolved.groups.as_slice()) {
         return Some(name);
     }
-    in_filter(&sought, &select.having)
+    in_filter(&wrong, &resolved.having)
 }

@@ -1,16 +1,18 @@
 // Keys of ORDER BY.
 
-ghost use Rattle.std.specs.Prelude.{◌≡◌, IfOk, fold, map};
+ghost use Rattle.std.specs.Prelude.{◌≡◌, None, IfErr, IfOk, fold, map};
 ghost use Rattle.ssb_bind.specs.Columns.{fit_of};
 ghost use Rattle.std.specs.Option.{option_copied};
+ghost use Rattle.ssb_bind.specs.Faults.{Says, with};
 ghost use Rattle.ssb_bind.specs.Orders as spec;
 
+use crate::fault::BindFault;
 use crate::fit::Fit;
 use sqlite_items::Items;
 use ssb_query::BoundOrder;
 use ssb_sql::{Item, Key, Order, Output};
 use ssb_terms::Name;
-use std::alloc::{AllocError, Global};
+use std::alloc::Global;
 
 /// A select column's AS name, or else the name of its column; an aggregate without AS has none.
 pub(crate) fn name_of(item: &Item) -> Option<&Name>
@@ -54,53 +56,30 @@ fn fit_of(items: &[Item], key: &Key) -> Fit<usize>
     found
 }
 
-fn bound_order(items: &[Item], order: &Order) -> BoundOrder
-    ensures { result ≡ spec.bound_order items.now order.now }
-{
-    let item = match fit_of(items, &order.key) {
-        Fit::One(place) => place,
-        _ => 0,
-    };
-    BoundOrder {
-        item,
-        descending: order.descending,
-    }
-}
-
 /// For each key of ORDER BY the place of the select column that it stands for, and whether it descends.
-/// A key that `check` refuses stands for the first.
 ///
 /// # Errors
 ///
-/// `AllocError` where a growth was refused.
+/// `BadOrderItem` with the number of the first key, from 1, that does not fit one select column alone, and
+/// `Memory` where a growth was refused.
 pub(crate) fn bound_orders(
     alloc: Global,
     items: &[Item],
     orders: &[Order],
-) -> Result<Items<BoundOrder>, AllocError>
-    ensures { IfOk result (λ all. all ≡ map (spec.bound_order items.now) orders.now) }
+) -> Result<Items<BoundOrder>, BindFault>
+    ensures bound { IfOk result (λ all. all ≡ map (spec.bound_order items.now) orders.now) }
+    ensures right { IfOk result (λ _. spec.bad_from items.now 1 orders.now ≡ None) }
+    ensures bad { IfErr result (Says (with BindFault.BadOrderItem (spec.bad_from items.now 1 orders.now))) }
 {
     let mut all = Items::new(alloc);
-    for order in orders {
-        all.push(bound_order(items, order))?;
+    for (place, order) in orders.iter().enumerate() {
+        let Fit::One(item) = fit_of(items, &order.key) else {
+            return Err(BindFault::BadOrderItem(place as u64 + 1));
+        };
+        all.push(BoundOrder {
+            item,
+            descending: order.descending,
+        })?;
     }
     Ok(all)
-}
-
-fn fits_one(found: Fit<usize>) -> bool
-    ensures { result ≡ spec.fits_one found }
-{
-    matches!(found, Fit::One(_))
-}
-
-// The number of the first key, from 1, that does not fit one select column alone.
-pub(crate) fn bad_order(items: &[Item], orders: &[Order]) -> Option<u64>
-    ensures { result ≡ spec.bad_from items.now 1 orders.now }
-{
-    for (place, order) in orders.iter().enumerate() {
-        if !fits_one(fit_of(items, &order.key)) {
-            return Some(place as u64 + 1);
-        }
-    }
-    None
 }

@@ -6,7 +6,7 @@ ghost use Rattle.std.specs.Option.{option_copied};
 ghost use Rattle.ssb_bind.specs.Names as spec;
 ghost use Rattle.ssb_trees.specs.Lists.{concat};
 
-use ssb_sql::{ColumnName, Item, Output};
+use crate::resolved::{ResolvedName, ResolvedOutput};
 use ssb_trees::{Filter, Operand, Test};
 
 /// A search for a name in what may stand beside literals: a column, and in HAVING an output.
@@ -18,11 +18,11 @@ pub(crate) trait Search<C> {
     ghost wanted: { Self → spec.IsWanted };
 
     /// The first that is.
-    fn first_in<'a>(&self, place: &'a C) -> Option<&'a ColumnName>
+    fn first_in<'a>(&self, place: &'a C) -> Option<&'a ResolvedName>
         ensures { option_copied result ≡ find (wanted self.now) (names place.now) };
 }
 
-fn in_operand<'a, C, S: Search<C>>(search: &S, operand: &'a Operand<C>) -> Option<&'a ColumnName>
+fn in_operand<'a, C, S: Search<C>>(search: &S, operand: &'a Operand<C>) -> Option<&'a ResolvedName>
     ensures { option_copied result ≡ find (S.wanted search.now) (spec.operand_names S.names operand.now) }
 {
     match operand {
@@ -49,7 +49,7 @@ impl<C, S: Search<C>> Test<Operand<C>> for Within<'_, S> {
 pub(crate) fn in_filter<'a, C, S: Search<C>>(
     search: &S,
     filter: &'a Option<Filter<C>>,
-) -> Option<&'a ColumnName>
+) -> Option<&'a ResolvedName>
     ensures { option_copied result ≡ find (S.wanted search.now) (spec.filter_names S.names filter.now) }
 {
     match filter {
@@ -58,7 +58,10 @@ pub(crate) fn in_filter<'a, C, S: Search<C>>(
     }
 }
 
-fn in_condition<'a, C, S: Search<C>>(search: &S, condition: &'a Filter<C>) -> Option<&'a ColumnName>
+fn in_condition<'a, C, S: Search<C>>(
+    search: &S,
+    condition: &'a Filter<C>,
+) -> Option<&'a ResolvedName>
     ensures { option_copied result ≡ find (S.wanted search.now) (spec.condition_names S.names condition.now) }
 {
     match condition.find(&Within { search }) {
@@ -68,14 +71,14 @@ fn in_condition<'a, C, S: Search<C>>(search: &S, condition: &'a Filter<C>) -> Op
 }
 
 // The first in the select list.
-pub(crate) fn in_items<'a, S: Search<Output>>(
+pub(crate) fn in_outputs<'a, S: Search<ResolvedOutput>>(
     search: &S,
-    items: &'a [Item],
-) -> Option<&'a ColumnName>
-    ensures { option_copied result ≡ find (S.wanted search.now) (concat (map (λ item. S.names item.output) items.now)) }
+    outputs: &'a [ResolvedOutput],
+) -> Option<&'a ResolvedName>
+    ensures { option_copied result ≡ find (S.wanted search.now) (concat (map S.names outputs.now)) }
 {
-    for item in items {
-        if let Some(name) = search.first_in(&item.output) {
+    for output in outputs {
+        if let Some(name) = search.first_in(output) {
             return Some(name);
         }
     }

@@ -1,8 +1,8 @@
 // Columns of a query's tables, and copies of conditions over them.
 
-ghost use Rattle.std.specs.Prelude.{◌≡◌, IfOk};
+ghost use Rattle.std.specs.Prelude.{◌≡◌, true, IfOk};
 
-use ssb_trees::{Filter, Leaves, Operand};
+use ssb_trees::{Filter, Leaves, Operand, mapped_columns};
 use std::alloc::{AllocError, Global};
 
 /// A column of a table of FROM.
@@ -17,22 +17,16 @@ pub struct BoundColumn {
 /// What a test of WHERE compares, once its names are bound.
 pub type BoundOperand = Operand<BoundColumn>;
 
-// Each operand becomes a copy of it.
+// Each column becomes a copy of it.
 struct Copying;
 
 impl Leaves<BoundColumn, BoundColumn> for Copying {
+    ghost taken = { λ _. true };
+
     ghost given = { λ _ c. c };
 
     fn leaf(&self, _alloc: Global, column: &BoundColumn) -> Result<BoundColumn, AllocError> {
         Ok(*column)
-    }
-}
-
-impl Leaves<BoundOperand, BoundOperand> for Copying {
-    ghost given = { λ _ o. o };
-
-    fn leaf(&self, alloc: Global, operand: &BoundOperand) -> Result<BoundOperand, AllocError> {
-        operand.mapped(alloc, self)
     }
 }
 
@@ -47,5 +41,5 @@ pub fn copy_condition(
 ) -> Result<Filter<BoundColumn>, AllocError>
     ensures { IfOk result (λ c. c ≡ condition.now) }
 {
-    condition.mapped(alloc, &Copying)
+    mapped_columns(alloc, condition, &Copying)
 }

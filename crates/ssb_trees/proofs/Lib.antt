@@ -6,6 +6,7 @@ pub mod InOrder
 pub mod Mapping
 mod MixedForms
 pub mod Sizes
+pub mod Taken
 pub mod TextColumns
 pub mod Turns
 pub mod TypeFacts

@@ -2,7 +2,7 @@
 use Rattle.std.proofs.Common.{◌≡◌, ℕ, ◌+◌, ◌<◌, List, [], ◌∷◌, ◌++◌, length, get_or, take, map, Result, Ok, Err, refl, sym, ap, ◌∙◌, subst}
 use Rattle.std.specs.Result.{IfOk, IsOkAnd, MatchResult}
 use Rattle.std.proofs.lemmas.List.{take_more, map-append}
-use Rattle.ssb_trees.specs.Conditions.{mapped, mapped_layer}
+use Rattle.ssb_trees.specs.Conditions.{Filter, mapped, mapped_columns, mapped_layer, mapped_operand}
 use Rattle.ssb_trees.specs.Expressions as expressions
 use Rattle.ssb_trees.specs.Expressions.{mapped_step, mapped_step_layer}
 use Rattle.ssb_trees.specs.declared.condition.Condition.{Condition}
@@ -11,6 +11,8 @@ use Rattle.ssb_trees.specs.declared.condition.Condition.TheVariants.{rolls-Any, 
 use Rattle.ssb_trees.specs.declared.condition.Condition.TheOpen.{Condition-F}
 use Rattle.ssb_trees.specs.declared.condition.Condition.TheFolds.{fold-roll-Condition, ind-Condition, map-Condition}
 use Rattle.ssb_trees.specs.declared.condition.Condition.TheViews.{roll-Condition}
+use Rattle.ssb_trees.specs.declared.operand.Operand.{Operand}
+use Rattle.ssb_trees.specs.declared.operand.Operand.TheVariants as operand
 use Rattle.ssb_trees.specs.declared.expr.Expr.{Expr}
 use Rattle.ssb_trees.specs.declared.expr.Expr.TheFolds.{fold_out-Step}
 use Rattle.ssb_trees.specs.declared.expr.Step.{Step}
@@ -74,6 +76,14 @@ module _ (O : Type 0) where
 
   pub mapped_same : (c : Condition O) → mapped O O same c ≡ c
   mapped_same = ind-Condition O Stays (λ x y is. subst (λ z. Stays (roll-Condition O z)) is (cases y))
+
+-- where each column becomes itself, so does each operand
+same_operand : (C : Type 0) (o : Operand C) → mapped_operand C C (same C) o ≡ o
+same_operand C (operand.Column x) = refl
+same_operand C (operand.Literal l) = refl
+
+pub mapped_same_columns : (C : Type 0) (c : Filter C) → mapped_columns (same C) c ≡ c
+mapped_same_columns C c = ap (λ f. mapped (Operand C) (Operand C) f c) (λ j o. same_operand C o j) ∙ mapped_same (Operand C) c
 
 -- ---- a step becomes a step
 

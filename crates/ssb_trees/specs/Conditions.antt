@@ -1,6 +1,6 @@
 -- Conditions over any operands: the same condition over others, and the operands that it has.
 -- Source: own; the forms are those of SQL-92, 8.12 <search condition>.
-use Rattle.std.specs.Prelude.{List, [], ◌∷◌}
+use Rattle.std.specs.Prelude.{List, [], ◌∷◌, map, Option, Some, None}
 use Rattle.ssb_trees.specs.Lists.{concat}
 use Rattle.ssb_trees.specs.declared.condition.Condition.{Condition}
 use Rattle.ssb_trees.specs.declared.condition.Condition.TheVariants as condition
@@ -17,6 +17,11 @@ Filter C = Condition (Operand C)
 abbrev pub mapped_operand : (C D : Type 0) → (C → D) → Operand C → Operand D
 mapped_operand C D f (operand.Column c) = operand.Column (f c)
 mapped_operand C D f (operand.Literal l) = operand.Literal l
+
+-- the column of an operand, where it is one
+abbrev pub operand_columns : {C : Type 0} → Operand C → List C
+operand_columns (operand.Column c) = c ∷ []
+operand_columns (operand.Literal l) = []
 
 -- one form of condition, with f of each operand
 abbrev pub mapped_layer : (O P : Type 0) → (O → P) → Condition-F O (Condition P) → Condition P
@@ -66,3 +71,21 @@ operands_layer O (Condition-F.IsNull x negated) = x ∷ []
 -- the operands of a condition, in the order of its text, without the literals of IN
 abbrev pub operands : (O : Type 0) → Condition O → List O
 operands O = fold-Condition O (List O) (operands_layer O)
+
+-- ---- columns
+
+abbrev pub condition_columns : {C : Type 0} → Filter C → List C
+condition_columns {C} c = concat (map operand_columns (operands (Operand C) c))
+
+-- the columns of a condition, in the order of its text, where there is one
+abbrev pub filter_columns : {C : Type 0} → Option (Filter C) → List C
+filter_columns None = []
+filter_columns (Some c) = condition_columns c
+
+-- the same condition with f of each column
+abbrev pub mapped_columns : {C D : Type 0} → (C → D) → Filter C → Filter D
+mapped_columns {C} {D} f = mapped (Operand C) (Operand D) (mapped_operand C D f)
+
+abbrev pub mapped_filter : {C D : Type 0} → (C → D) → Option (Filter C) → Option (Filter D)
+mapped_filter f None = None
+mapped_filter f (Some c) = Some (mapped_columns f c)

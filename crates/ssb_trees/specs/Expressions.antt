@@ -1,7 +1,9 @@
--- Expressions over any columns: the same expression over others, and the columns that it has.
+-- Expressions and aggregates over any columns: the same over others, and the columns that they have.
 -- Source: own; the forms are those of SQL-92, 6.12 <numeric value expression>.
 use Rattle.std.specs.Prelude.{List, [], ◌∷◌, ◌++◌}
 use Rattle.ssb_trees.specs.Lists.{concat}
+use Rattle.ssb_trees.specs.declared.aggregate.Aggregate.{Aggregate}
+use Rattle.ssb_trees.specs.declared.aggregate.Aggregate.TheVariants as aggregate
 use Rattle.ssb_trees.specs.declared.expr.Expr.{Expr}
 use Rattle.ssb_trees.specs.declared.expr.Expr.TheVariants as expr
 use Rattle.ssb_trees.specs.declared.expr.Expr.TheOpen.{Expr-F, Step-F}
@@ -45,3 +47,14 @@ columns C = fold-Expr C (List C) (List C) (columns_layer C) (step_columns_layer 
 
 abbrev pub step_columns : (C : Type 0) → Step C → List C
 step_columns C = fold-Step C (List C) (List C) (columns_layer C) (step_columns_layer C)
+
+-- ---- aggregates
+
+abbrev pub aggregate_columns : {C : Type 0} → Aggregate C → List C
+aggregate_columns aggregate.Rows = []
+aggregate_columns {C} (aggregate.Of function e) = columns C e
+
+-- the same aggregate with f of each column
+abbrev pub mapped_aggregate : {C D : Type 0} → (C → D) → Aggregate C → Aggregate D
+mapped_aggregate f aggregate.Rows = aggregate.Rows
+mapped_aggregate {C} {D} f (aggregate.Of function e) = aggregate.Of function (mapped C D f e)

@@ -1,6 +1,6 @@
 // The leaves of a tree: the operands of a condition, the columns of an expression.
 
-ghost use Rattle.std.specs.Prelude.{◌≡◌, ◌++◌, ◌∷◌, [], Bool, IfOk, IsOkAnd, find};
+ghost use Rattle.std.specs.Prelude.{◌≡◌, ◌++◌, ◌∷◌, [], Bool, true, IfOk, IsOkAnd, find};
 ghost use Rattle.std.specs.Option.{option_copied};
 
 use sqlite_items::Items;
@@ -11,6 +11,9 @@ pub type Made<B> = Result<B, AllocError>;
 
 /// What each leaf of a tree becomes.
 pub trait Leaves<A, B> {
+    /// Which leaves become something.
+    ghost taken: { A → Bool };
+
     /// What a leaf becomes.
     ghost given: { Self → A → B };
 
@@ -20,11 +23,15 @@ pub trait Leaves<A, B> {
     ///
     /// Only where a growth was refused.
     fn leaf(&self, alloc: Global, leaf: &A) -> Made<B>
+        requires { taken leaf.now ≡ true }
         ensures { IfOk result (λ b. b ≡ given self.now leaf.now) };
 }
 
 /// What each leaf of a tree becomes in its turn, in the order of the text.
 pub trait LeavesInOrder<A, B> {
+    /// Which leaves become something.
+    ghost taken: { A → Bool };
+
     /// What a leaf becomes.
     ghost given: { Self → A → B };
 
@@ -37,6 +44,7 @@ pub trait LeavesInOrder<A, B> {
     ///
     /// Only where a growth was refused.
     fn leaf(&mut self, alloc: Global, leaf: &A) -> Made<B>
+        requires { taken leaf.now ≡ true }
         ensures { IfOk result (λ b. (b ≡ given self.old leaf.now) × (self.new ≡ next self.old leaf.now)) };
 }
 
@@ -47,6 +55,8 @@ pub(crate) struct Whatever<'a, M> {
 }
 
 impl<A, B, M: Leaves<A, B>> LeavesInOrder<A, B> for Whatever<'_, M> {
+    ghost taken = { M.taken };
+
     ghost given = { λ whatever a. M.given whatever.leaves.now a };
 
     ghost next = { λ whatever a. whatever };

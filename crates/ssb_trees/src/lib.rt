@@ -27,5 +27,5 @@ pub use aggregate::{Aggregate, SetFunction};
 pub use condition::Condition;
 pub use expr::{Expr, Step};
 pub use leaf::{Leaves, LeavesInOrder, Made, Test};
-pub use operand::{Filter, Operand};
+pub use operand::{Filter, Operand, mapped_columns, mapped_filter};
 pub use types::{Kinds, aggregate_type, has_mixed, texts_are_columns};

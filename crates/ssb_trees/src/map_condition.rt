@@ -1,7 +1,10 @@
 // The same condition over other operands.
 
-ghost use Rattle.std.specs.Prelude.{◌≡◌, IfOk, map};
+ghost use Rattle.std.specs.Prelude.{◌≡◌, true, IfOk, map};
+ghost use Rattle.std.specs.List.{list_all};
 ghost use Rattle.ssb_trees.specs.Conditions.{each_in_order, in_order, mapped};
+ghost use Rattle.ssb_trees.specs.Conditions as spec;
+ghost use Rattle.ssb_trees.specs.Lists.{concat};
 ghost use Rattle.ssb_trees.specs.declared.condition.Condition.TheVariants as condition;
 
 use crate::condition::Condition;
@@ -17,6 +20,8 @@ fn mapped_compare<O, P: Drop, M: LeavesInOrder<O, P>>(
     left: &O,
     right: &O,
 ) -> Made<Condition<P>>
+    requires left { M.taken left.now ≡ true }
+    requires right { M.taken right.now ≡ true }
     ensures { let t = M.next operands.old left.now in IfOk result (λ c. (c ≡ condition.Compare op (M.given operands.old left.now) (M.given t right.now)) × (operands.new ≡ M.next t right.now)) }
 {
     let left = operands.leaf(alloc, left)?;
@@ -32,6 +37,9 @@ fn mapped_between<O, P: Drop, M: LeavesInOrder<O, P>>(
     high: &O,
     negated: bool,
 ) -> Made<Condition<P>>
+    requires operand { M.taken operand.now ≡ true }
+    requires low { M.taken low.now ≡ true }
+    requires high { M.taken high.now ≡ true }
     ensures { let t = M.next operands.old operand.now in let u = M.next t low.now in IfOk result (λ c. (c ≡ condition.Between (M.given operands.old operand.now) (M.given t low.now) (M.given u high.now) negated) × (operands.new ≡ M.next u high.now)) }
 {
     let operand = operands.leaf(alloc, operand)?;
@@ -52,6 +60,7 @@ fn mapped_in<O, P: Drop, M: LeavesInOrder<O, P>>(
     literals: &[Literal],
     negated: bool,
 ) -> Made<Condition<P>>
+    requires { M.taken operand.now ≡ true }
     ensures { IfOk result (λ c. (c ≡ condition.In (M.given operands.old operand.now) literals.now negated) × (operands.new ≡ M.next operands.old operand.now)) }
 {
     let literals = copy_literals(alloc, literals)?;
@@ -69,6 +78,7 @@ fn mapped_null<O, P: Drop, M: LeavesInOrder<O, P>>(
     operand: &O,
     negated: bool,
 ) -> Made<Condition<P>>
+    requires { M.taken operand.now ≡ true }
     ensures { IfOk result (λ c. (c ≡ condition.IsNull (M.given operands.old operand.now) negated) × (operands.new ≡ M.next operands.old operand.now)) }
 {
     let operand = operands.leaf(alloc, operand)?;
@@ -81,6 +91,7 @@ fn mapped_parts<O, P: Drop, M: LeavesInOrder<O, P>>(
     operands: &mut M,
     parts: &[Condition<O>],
 ) -> Made<Items<Condition<P>>>
+    requires { list_all M.taken (concat (map (spec.operands _) parts.now)) ≡ true }
     ensures { let r = each_in_order (map (in_order _ _ _ M.given M.next) parts.now) operands.old in IfOk result (λ all. (all ≡ r.0) × (operands.new ≡ r.1)) }
 {
     let mut all = Items::new(alloc);
@@ -96,6 +107,7 @@ fn mapped_condition<O, P: Drop, M: LeavesInOrder<O, P>>(
     operands: &mut M,
     condition: &Condition<O>,
 ) -> Made<Condition<P>>
+    requires { list_all M.taken (spec.operands _ condition.now) ≡ true }
     ensures { let r = in_order _ _ _ M.given M.next condition.now operands.old in IfOk result (λ c. (c ≡ r.0) × (operands.new ≡ r.1)) }
 {
     match condition {
@@ -136,6 +148,7 @@ impl<O> Condition<O> {
         alloc: Global,
         operands: &M,
     ) -> Made<Condition<P>>
+        requires { list_all M.taken (spec.operands _ self.now) ≡ true }
         ensures { IfOk result (λ c. c ≡ mapped _ _ (M.given operands.now) self.now) }
     {
         mapped_condition(alloc, &mut Whatever { leaves: operands }, self)
@@ -151,6 +164,7 @@ impl<O> Condition<O> {
         alloc: Global,
         operands: &mut M,
     ) -> Made<Condition<P>>
+        requires { list_all M.taken (spec.operands _ self.now) ≡ true }
         ensures { let r = in_order _ _ _ M.given M.next self.now operands.old in IfOk result (λ c. (c ≡ r.0) × (operands.new ≡ r.1)) }
     {
         mapped_condition(alloc, operands, self)

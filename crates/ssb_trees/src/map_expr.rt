@@ -1,7 +1,10 @@
 // The same expression over other columns.
 
-ghost use Rattle.std.specs.Prelude.{◌≡◌, IfOk, IsOkAnd, map};
-ghost use Rattle.ssb_trees.specs.Expressions.{mapped, mapped_step};
+ghost use Rattle.std.specs.Prelude.{◌≡◌, true, IfOk, IsOkAnd, map};
+ghost use Rattle.std.specs.List.{list_all};
+ghost use Rattle.ssb_trees.specs.Expressions.{mapped, mapped_step, step_columns};
+ghost use Rattle.ssb_trees.specs.Expressions as spec;
+ghost use Rattle.ssb_trees.specs.Lists.{concat};
 
 use crate::expr::{Expr, Step};
 use crate::leaf::{Leaves, Made, with_made};
@@ -22,6 +25,7 @@ fn mapped_steps<C, D: Drop, M: Leaves<C, D>>(
     columns: &M,
     steps: &[Step<C>],
 ) -> Made<Items<Step<D>>>
+    requires { list_all M.taken (concat (map (step_columns _) steps.now)) ≡ true }
     ensures { IfOk result (λ all. all ≡ map (mapped_step _ _ (M.given columns.now)) steps.now) }
 {
     let mut all = Items::new(alloc);
@@ -40,6 +44,7 @@ fn mapped_factors<C, D: Drop, M: Leaves<C, D>>(
     columns: &M,
     factors: &[Expr<C>],
 ) -> Made<Items<Expr<D>>>
+    requires { list_all M.taken (concat (map (spec.columns _) factors.now)) ≡ true }
     ensures { IfOk result (λ all. all ≡ map (mapped _ _ (M.given columns.now)) factors.now) }
 {
     let mut all = Items::new(alloc);
@@ -56,6 +61,7 @@ fn mapped_part<C, D: Drop, M: Leaves<C, D>>(
     columns: &M,
     part: &Expr<C>,
 ) -> Made<Boxed<Expr<D>>>
+    requires { list_all M.taken (spec.columns _ part.now) ≡ true }
     ensures { IfOk result (λ e. e ≡ mapped _ _ (M.given columns.now) part.now) }
 {
     let part = mapped_expr(alloc, columns, part)?;
@@ -68,6 +74,7 @@ fn mapped_expr<C, D: Drop, M: Leaves<C, D>>(
     columns: &M,
     expr: &Expr<C>,
 ) -> Made<Expr<D>>
+    requires { list_all M.taken (spec.columns _ expr.now) ≡ true }
     ensures { IfOk result (λ e. e ≡ mapped _ _ (M.given columns.now) expr.now) }
 {
     match expr {
@@ -91,6 +98,7 @@ impl<C> Expr<C> {
     ///
     /// Only where a growth was refused.
     pub fn mapped<D: Drop, M: Leaves<C, D>>(&self, alloc: Global, columns: &M) -> Made<Expr<D>>
+        requires { list_all M.taken (spec.columns _ self.now) ≡ true }
         ensures { IfOk result (λ e. e ≡ mapped _ _ (M.given columns.now) self.now) }
     {
         mapped_expr(alloc, columns, self)

@@ -1,9 +1,14 @@
-use Rattle.std.proofs.Common.{◌≡◌, ◌∙◌, ap, arith, subst, sym}
+use Rattle.std.proofs.Common.{◌≡◌, ◌∙◌, ap, arith, map, subst, sym, true}
+use Rattle.std.specs.List.{list_all}
+use Rattle.ssb_trees.specs.Lists.{concat}
 use Rattle.ssb_trees.proofs.Forms.{is_due}
 use Rattle.ssb_trees.specs.declared.condition.Condition.TheOpen.{Condition-F}
 use Rattle.ssb_trees.specs.declared.condition.Condition.TheVariants as condition
+use Rattle.ssb_trees.specs.declared.condition.Condition.TheVariants.{rolls-Any, rolls-All}
 use Rattle.ssb_trees.proofs.InOrder.{all_is, any_is, all_made, next_part}
 use Rattle.ssb_trees.proofs.Mapping.{if_made, made_of}
+use Rattle.ssb_trees.proofs.Taken.{both, in_part, of_condition}
+use Rattle.ssb_trees.specs.Conditions.{operands}
 use Rattle.ssb_trees.proofs.Sizes.{all_size, any_size, item_size, not_size}
 use Rattle.ssb_trees.specs.declared.condition.Condition.TheViews.{size-Condition}
 use Rattle.ssb_trees.proofs.map_condition.+condition.Goals as goal
@@ -51,13 +56,16 @@ pub mapped_condition-returns-in-IsNull : goal.mapped_condition-returns-in-IsNull
 mapped_condition-returns-in-IsNull g t c = is_due _ _ _ g.M.LeavesInOrder.given g.M.LeavesInOrder.next c.args.condition.now (Condition-F.IsNull c.in-IsNull.operand c.in-IsNull.negated) c.args.operands.now c.mapped_null.result _ c.in-IsNull.is c.mapped_null.ensures
 
 pub mapped_condition-mapped_parts-requires-in-All : goal.mapped_condition-mapped_parts-requires-in-All
-mapped_condition-mapped_parts-requires-in-All g t c = let e = all_size _ c.args.condition.now c.as_slice-in-All.result.now (c.in-All.is ∙ ap condition.All (sym c.as_slice-in-All.ensures)) in λ κs h. (omega arith, h)
+mapped_condition-mapped_parts-requires-in-All g t c = let e = all_size _ c.args.condition.now c.as_slice-in-All.result.now (c.in-All.is ∙ ap condition.All (sym c.as_slice-in-All.ensures)) in λ κs h. (omega arith, (h.0, (h.1.0, (h.1.1, subst (λ ps. list_all g.M.LeavesInOrder.taken (concat (map (operands _) ps)) ≡ true) (sym c.as_slice-in-All.ensures) (of_condition _ g.M.LeavesInOrder.taken c.args.condition.now c.requires (Condition-F.All c.in-All.parts) (c.in-All.is ∙ sym (rolls-All c.in-All.parts)))))))
 
 pub mapped_parts-mapped_condition-requires : goal.mapped_parts-mapped_condition-requires
-mapped_parts-mapped_condition-requires g t c = let e = item_size (size-Condition _) c.args.parts.now c.loop-part.part-index c.part-item.result c.loop-part-test.true c.part-item.is in λ κs h. (omega arith, h)
+mapped_parts-mapped_condition-requires g t c = let e = item_size (size-Condition _) c.args.parts.now c.loop-part.part-index c.part-item.result c.loop-part-test.true c.part-item.is in λ κs h. (omega arith, (h.0, (h.1.0, (h.1.1, in_part g.M.LeavesInOrder.taken (operands _) c.args.parts.now c.loop-part.part-index c.part-item.result c.loop-part-test.true c.part-item.is c.requires))))
 
 pub mapped_condition-mapped_parts-requires : goal.mapped_condition-mapped_parts-requires
-mapped_condition-mapped_parts-requires g t c = let e = any_size _ c.args.condition.now c.as_slice.result.now (c.in-Any.is ∙ ap condition.Any (sym c.as_slice.ensures)) in λ κs h. (omega arith, h)
+mapped_condition-mapped_parts-requires g t c = let e = any_size _ c.args.condition.now c.as_slice.result.now (c.in-Any.is ∙ ap condition.Any (sym c.as_slice.ensures)) in λ κs h. (omega arith, (h.0, (h.1.0, (h.1.1, subst (λ ps. list_all g.M.LeavesInOrder.taken (concat (map (operands _) ps)) ≡ true) (sym c.as_slice.ensures) (of_condition _ g.M.LeavesInOrder.taken c.args.condition.now c.requires (Condition-F.Any c.in-Any.parts) (c.in-Any.is ∙ sym (rolls-Any c.in-Any.parts)))))))
 
 pub mapped_condition-mapped_condition-requires : goal.mapped_condition-mapped_condition-requires
-mapped_condition-mapped_condition-requires g t c = let e = not_size _ c.args.condition.now c.get.result.now (c.in-Not.is ∙ ap condition.Not (sym c.get.ensures)) in λ κs h. (omega arith, h)
+mapped_condition-mapped_condition-requires g t c = let e = not_size _ c.args.condition.now c.get.result.now (c.in-Not.is ∙ ap condition.Not (sym c.get.ensures)) in λ κs h. (omega arith, (h.0, (h.1.0, (h.1.1, subst (λ part. list_all g.M.LeavesInOrder.taken (operands _ part) ≡ true) (sym c.get.ensures) (of_condition _ g.M.LeavesInOrder.taken c.args.condition.now c.requires (Condition-F.Not c.in-Not.part) c.in-Not.is)))))
+
+pub mapped_condition-mapped_compare-requires-clause-left : goal.mapped_condition-mapped_compare-requires-clause-left
+mapped_condition-mapped_compare-requires-clause-left g t c = (both _ _ (of_condition _ g.M.LeavesInOrder.taken c.args.condition.now c.requires (Condition-F.Compare c.in-Compare.op c.in-Compare.a c.in-Compare.b) c.in-Compare.is)).0

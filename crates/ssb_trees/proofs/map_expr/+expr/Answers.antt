@@ -1,9 +1,13 @@
-use Rattle.std.proofs.Common.{◌≡◌, map, take, ◌∷◌, ◌++◌, [], sym, ap, ap₂, ◌∙◌, arith}
+use Rattle.std.proofs.Common.{◌≡◌, map, take, ◌∷◌, ◌++◌, [], sym, ap, ap₂, ◌∙◌, arith, subst, true}
+use Rattle.std.specs.List.{list_all}
+use Rattle.ssb_trees.specs.Lists.{concat}
 use Rattle.ssb_trees.specs.Expressions.{mapped, mapped_step}
 use Rattle.ssb_trees.specs.declared.expr.Expr.TheOpen.{Expr-F}
 use Rattle.ssb_trees.specs.declared.expr.Expr.TheVariants as expr
 use Rattle.ssb_trees.proofs.ExprForms.{mapped_of}
 use Rattle.ssb_trees.proofs.Mapping.{if_made, made_of, ok_of_ok, map_more, mapped_of_step, with_term}
+use Rattle.ssb_trees.proofs.Taken.{in_both, in_part, of_expr, of_step}
+use Rattle.ssb_trees.specs.Expressions.{columns, step_columns}
 use Rattle.ssb_trees.proofs.Sizes.{chain_size, item_size, negative_size, positive_size, step_size, times_size}
 use Rattle.ssb_trees.specs.declared.expr.Expr.TheViews.{size-Expr, size-Step}
 use Rattle.ssb_trees.proofs.map_expr.+expr.Goals as goal
@@ -53,25 +57,25 @@ mapped_expr-returns-in-Times g t c =
     (λ factors h. ap expr.Times h ∙ sym (mapped_of _ _ (g.M.Leaves.given c.args.columns.now) c.args.expr.now (Expr-F.Times c.in-Times.factors) c.in-Times.is))
 
 pub mapped_expr-mapped_part-requires : goal.mapped_expr-mapped_part-requires
-mapped_expr-mapped_part-requires g t c = let e = positive_size _ c.args.expr.now c.get.result.now (c.in-Positive.is ∙ ap expr.Positive (sym c.get.ensures)) in λ κs h. (omega arith, h)
+mapped_expr-mapped_part-requires g t c = let e = positive_size _ c.args.expr.now c.get.result.now (c.in-Positive.is ∙ ap expr.Positive (sym c.get.ensures)) in λ κs h. (omega arith, (h.0, (h.1.0, (h.1.1, subst (λ part. list_all g.M.Leaves.taken (columns _ part) ≡ true) (sym c.get.ensures) (of_expr _ g.M.Leaves.taken c.args.expr.now c.requires (Expr-F.Positive c.in-Positive.part) c.in-Positive.is)))))
 
 pub mapped_expr-mapped_part-requires-in-Negative : goal.mapped_expr-mapped_part-requires-in-Negative
-mapped_expr-mapped_part-requires-in-Negative g t c = let e = negative_size _ c.args.expr.now c.get-in-Negative.result.now (c.in-Negative.is ∙ ap expr.Negative (sym c.get-in-Negative.ensures)) in λ κs h. (omega arith, h)
+mapped_expr-mapped_part-requires-in-Negative g t c = let e = negative_size _ c.args.expr.now c.get-in-Negative.result.now (c.in-Negative.is ∙ ap expr.Negative (sym c.get-in-Negative.ensures)) in λ κs h. (omega arith, (h.0, (h.1.0, (h.1.1, subst (λ part. list_all g.M.Leaves.taken (columns _ part) ≡ true) (sym c.get-in-Negative.ensures) (of_expr _ g.M.Leaves.taken c.args.expr.now c.requires (Expr-F.Negative c.in-Negative.part) c.in-Negative.is)))))
 
 pub mapped_expr-mapped_factors-requires : goal.mapped_expr-mapped_factors-requires
-mapped_expr-mapped_factors-requires g t c = let e = times_size _ c.args.expr.now c.as_slice-in-Times.result.now (c.in-Times.is ∙ ap expr.Times (sym c.as_slice-in-Times.ensures)) in λ κs h. (omega arith, h)
+mapped_expr-mapped_factors-requires g t c = let e = times_size _ c.args.expr.now c.as_slice-in-Times.result.now (c.in-Times.is ∙ ap expr.Times (sym c.as_slice-in-Times.ensures)) in λ κs h. (omega arith, (h.0, (h.1.0, (h.1.1, subst (λ es. list_all g.M.Leaves.taken (concat (map (columns _) es)) ≡ true) (sym c.as_slice-in-Times.ensures) (of_expr _ g.M.Leaves.taken c.args.expr.now c.requires (Expr-F.Times c.in-Times.factors) c.in-Times.is)))))
 
 pub mapped_factors-mapped_expr-requires : goal.mapped_factors-mapped_expr-requires
-mapped_factors-mapped_expr-requires g t c = let e = item_size (size-Expr _) c.args.factors.now c.loop-factor.factor-index c.factor-item.result c.loop-factor-test.true c.factor-item.is in λ κs h. (omega arith, h)
+mapped_factors-mapped_expr-requires g t c = let e = item_size (size-Expr _) c.args.factors.now c.loop-factor.factor-index c.factor-item.result c.loop-factor-test.true c.factor-item.is in λ κs h. (omega arith, (h.0, (h.1.0, (h.1.1, in_part g.M.Leaves.taken (columns _) c.args.factors.now c.loop-factor.factor-index c.factor-item.result c.loop-factor-test.true c.factor-item.is c.requires))))
 
 pub mapped_expr-mapped_part-requires-in-Chain : goal.mapped_expr-mapped_part-requires-in-Chain
-mapped_expr-mapped_part-requires-in-Chain g t c = let e = chain_size _ c.args.expr.now c.get-in-Chain.result.now c.in-Chain.steps (c.in-Chain.is ∙ ap (λ first. expr.Chain first c.in-Chain.steps) (sym c.get-in-Chain.ensures)) in λ κs h. (omega arith, h)
+mapped_expr-mapped_part-requires-in-Chain g t c = let e = chain_size _ c.args.expr.now c.get-in-Chain.result.now c.in-Chain.steps (c.in-Chain.is ∙ ap (λ first. expr.Chain first c.in-Chain.steps) (sym c.get-in-Chain.ensures)) in λ κs h. (omega arith, (h.0, (h.1.0, (h.1.1, rw (sym c.get-in-Chain.ensures) at (in_both g.M.Leaves.taken (columns _ c.in-Chain.first) _ (of_expr _ g.M.Leaves.taken c.args.expr.now c.requires (Expr-F.Chain c.in-Chain.first c.in-Chain.steps) c.in-Chain.is)).0))))
 
 pub mapped_expr-mapped_steps-requires : goal.mapped_expr-mapped_steps-requires
-mapped_expr-mapped_steps-requires g t c = let e = chain_size _ c.args.expr.now c.in-Chain.first c.as_slice.result.now (c.in-Chain.is ∙ ap (expr.Chain c.in-Chain.first) (sym c.as_slice.ensures)) in λ κs h. (omega arith, h)
+mapped_expr-mapped_steps-requires g t c = let e = chain_size _ c.args.expr.now c.in-Chain.first c.as_slice.result.now (c.in-Chain.is ∙ ap (expr.Chain c.in-Chain.first) (sym c.as_slice.ensures)) in λ κs h. (omega arith, (h.0, (h.1.0, (h.1.1, rw (sym c.as_slice.ensures) at (in_both g.M.Leaves.taken (columns _ c.in-Chain.first) _ (of_expr _ g.M.Leaves.taken c.args.expr.now c.requires (Expr-F.Chain c.in-Chain.first c.in-Chain.steps) c.in-Chain.is)).1))))
 
 pub mapped_steps-mapped_expr-requires : goal.mapped_steps-mapped_expr-requires
-mapped_steps-mapped_expr-requires g t c = let e = item_size (size-Step _) c.args.steps.now c.loop-step.step-index c.step-item.result c.loop-step-test.true c.step-item.is in let f = step_size _ c.step-item.result in λ κs h. (omega arith, h)
+mapped_steps-mapped_expr-requires g t c = let e = item_size (size-Step _) c.args.steps.now c.loop-step.step-index c.step-item.result c.loop-step-test.true c.step-item.is in let f = step_size _ c.step-item.result in λ κs h. (omega arith, (h.0, (h.1.0, (h.1.1, of_step _ g.M.Leaves.taken c.step-item.result (in_part g.M.Leaves.taken (step_columns _) c.args.steps.now c.loop-step.step-index c.step-item.result c.loop-step-test.true c.step-item.is c.requires)))))
 
 pub mapped_part-mapped_expr-requires : goal.mapped_part-mapped_expr-requires
-mapped_part-mapped_expr-requires g t c = λ κs h. (omega arith, h)
+mapped_part-mapped_expr-requires g t c = λ κs h. (omega arith, (h.0, (h.1.0, (h.1.1, c.requires))))

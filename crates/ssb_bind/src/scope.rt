@@ -1,39 +1,48 @@
-// Names of tables and columns: which table of the catalog, and which column of FROM's tables.
+// Names of tables and columns: which table of the catalog, and which columns of FROM's tables.
 
-ghost use Rattle.std.specs.Prelude.{◌≡◌, IfOk, fold, slice_get};
+ghost use Rattle.std.specs.Prelude.{◌≡◌, None, true, IfErr, IfOk, fold, slice_get};
 ghost use Rattle.ssb_bind.specs.Columns.{and_one};
 ghost use Rattle.ssb_bind.specs.Columns as columns;
+ghost use Rattle.ssb_bind.specs.Faults.{Says, unknown_table, with};
+ghost use Rattle.ssb_bind.specs.Resolved.{resolved};
 
+use crate::fault::BindFault;
 use crate::fit::Fit;
+use crate::resolved::ResolvedName;
 use sqlite_items::Items;
 use ssb_catalog::{ColumnDef, TableDef};
 use ssb_query::BoundColumn;
 use ssb_sql::ColumnName;
 use ssb_terms::Name;
+use ssb_trees::Leaves;
 use std::alloc::{AllocError, Global};
 
-pub(crate) fn table_number(catalog: &[TableDef], name: &Name) -> Option<usize>
+fn table_number(catalog: &[TableDef], name: &Name) -> Option<usize>
     ensures { result ≡ columns.table_number catalog.now name.now }
 {
     catalog.iter().position(|table| table.is_named(name))
 }
 
-/// The numbers of FROM's tables in the catalog: 0 for a name of no table, which `check`
-/// refuses.
+/// The numbers of FROM's tables in the catalog.
 ///
 /// # Errors
 ///
-/// `AllocError` where a growth was refused.
+/// `UnknownTable` for the first name that is no table, and `Memory` where a growth was refused.
 pub(crate) fn table_numbers(
     alloc: Global,
     catalog: &[TableDef],
     from: &[Name],
-) -> Result<Items<usize>, AllocError>
-    ensures { IfOk result (λ numbers. numbers ≡ columns.table_numbers catalog.now from.now) }
+) -> Result<Items<usize>, BindFault>
+    ensures numbers { IfOk result (λ numbers. numbers ≡ columns.table_numbers catalog.now from.now) }
+    ensures known { IfOk result (λ _. unknown_table catalog.now from.now ≡ None) }
+    ensures unknown { IfErr result (Says (with BindFault.UnknownTable (unknown_table catalog.now from.now))) }
 {
     let mut numbers = Items::new(alloc);
     for name in from {
-        numbers.push(table_number(catalog, name).unwrap_or(0))?;
+        let Some(number) = table_number(catalog, name) else {
+            return Err(BindFault::UnknownTable(name.copy(alloc)?));
+        };
+        numbers.push(number)?;
     }
     Ok(numbers)
 }
@@ -85,9 +94,18 @@ fn and_fitting_in(
     }
 }
 
+/// Where names are resolved: in these tables of a catalog.
+#[derive(Clone, Copy)]
+pub(crate) struct Scope<'a> {
+    /// The catalog's tables.
+    pub catalog: &'a [TableDef],
+    /// The tables of FROM, by their numbers in the catalog.
+    pub from: &'a [usize],
+}
+
 // How many columns of FROM's tables a name fits.
 #[tactic(auto, using(crate::proofs::Counting::next_table))]
-pub(crate) fn fit_of(catalog: &[TableDef], from: &[usize], name: &ColumnName) -> Fit<BoundColumn>
+fn fit_of(catalog: &[TableDef], from: &[usize], name: &ColumnName) -> Fit<BoundColumn>
     ensures { result ≡ columns.fit_of (columns.columns_for catalog.now from.now name.now) }
 {
     let mut found = Fit::Missing;
@@ -97,16 +115,16 @@ pub(crate) fn fit_of(catalog: &[TableDef], from: &[usize], name: &ColumnName) ->
     found
 }
 
-/// The column that a name stands for: the first of FROM for a name that fits none or several, which
-/// `check` refuses.
-pub(crate) fn bound_name(catalog: &[TableDef], from: &[usize], name: &ColumnName) -> BoundColumn
-    ensures { result ≡ columns.bound_name catalog.now from.now name.now }
-{
-    match fit_of(catalog, from, name) {
-        Fit::One(column) => column,
-        _ => BoundColumn {
-            table: 0,
-            column: 0,
-        },
+// Each name becomes itself, with which columns it fits.
+impl Leaves<ColumnName, ResolvedName> for Scope<'_> {
+    ghost taken = { λ _. true };
+
+    ghost given = { λ scope name. resolved scope.catalog.now scope.from.now name };
+
+    fn leaf(&self, alloc: Global, name: &ColumnName) -> Result<ResolvedName, AllocError> {
+        Ok(ResolvedName {
+            name: name.column.copy(alloc)?,
+            fit: fit_of(self.catalog, self.from, name),
+        })
     }
 }

@@ -25,7 +25,7 @@ BOXES = [
     (220, 120, 170, 64, STAGE, ["read the catalog", "ssb_catalog", "gives a Catalog"]),
     (220, 200, 170, 64, STAGE, ["load the tables", "ssb_lanes, ssb_load", "gives Tables"]),
     (440, 60, 170, 84, STAGE, ["bind names", "ssb_bind", "refusals, or the meaning", "gives a Query"]),
-    (440, 180, 170, 84, STAGE, ["plan", "ssb_conditions, ssb_job", "indexes, filters of columns", "gives a Job"]),
+    (440, 180, 170, 84, STAGE, ["plan", "ssb_plan, ssb_job", "indexes, filters of columns", "gives a Job"]),
     (660, 180, 210, 84, STAGE, ["group", "ssb_pipeline, ssb_groups", "workers take morsels of fact rows", "gives Groups"]),
     (660, 60, 210, 84, STAGE, ["order and write", "ssb_rows", "HAVING, ORDER BY, text", "to the output"]),
     (40, 400, 200, 84, VALUE, ["Parts", "a queue for each section", "each holds its Part:", "what is out, what is back, groups"]),

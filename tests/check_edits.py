@@ -27,7 +27,7 @@ WRONG_BODIES = {
     "ssb_query": ("nested_conjunct_does_not_join", "not_star_for_reversed_key"),
     "ssb_load": ("later_key_kept",),
     "ssb_lanes": ("joined_read_always_fails", "lane_always_told_as_a_failed_read"),
-    "ssb_job": ("dangling_key_joined", "null_key_joins"),
+    "ssb_plan": ("dangling_key_joined", "null_key_joins"),
     "ssb_groups": (
         "equal_lines_counted_once", "first_met_overflow", "first_met_overflow_by_merge", "null_before_over",
         "null_group_dropped", "running_sum_refused", "sum_over_a_null_is_zero", "sum_over_no_row_is_zero",

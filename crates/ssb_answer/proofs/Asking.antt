@@ -7,9 +7,9 @@ use Rattle.ssb_sql.specs.declared.fault.SqlFault.TheVariants as sql
 use Rattle.ssb_query.specs.Star.{IsStar}
 use Rattle.ssb_query.specs.declared.query.QueryParts.{QueryParts}
 use Rattle.ssb_cells.specs.Tables.{Columns}
-use Rattle.ssb_job.specs.Kept.{JobShape}
+use Rattle.ssb_plan.specs.JobShape.{JobShape}
 use Rattle.ssb_load.specs.Files.{AreLawful, Bytes}
-use Rattle.ssb_job.specs.Loaded.{AreLoaded}
+use Rattle.ssb_plan.specs.Loaded.{AreLoaded}
 use Rattle.ssb_reply.proofs.Loading.{query_loaded}
 use Rattle.ssb_answer.specs.Asking.{Asked, AnswersText}
 use Rattle.ssb_reply.specs.Told.{told_answer}

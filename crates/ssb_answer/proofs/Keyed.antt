@@ -1,7 +1,7 @@
 -- The keys of a job's groups.
 use Rattle.std.proofs.Common.{◌∷◌, [], ℕ, zero, suc, List, map, arith}
 use Rattle.std.proofs.lemmas.List.{length-map}
-use Rattle.ssb_job.specs.Kept.{JobShape}
+use Rattle.ssb_plan.specs.JobShape.{JobShape}
 use Rattle.ssb_groups.specs.Seen.{seen}
 use Rattle.ssb_rows.specs.Result.{AreKeyed}
 

@@ -2,7 +2,7 @@
 use Rattle.std.proofs.Common.{◌≡◌, ◌<◌, inl, inr, ℕ, List, Option, Result, Ok, Err, OnOk, IfErr, map, string_bytes, ap, refl}
 use Rattle.ssb_catalog.specs.Shapes.{TableShape}
 use Rattle.ssb_cells.specs.Tables.{Columns}
-use Rattle.ssb_job.specs.Kept.{JobShape}
+use Rattle.ssb_plan.specs.JobShape.{JobShape}
 use Rattle.ssb_load.specs.Files.{Bytes, loaded}
 use Rattle.ssb_rows.specs.Order.{Row}
 use Rattle.ssb_rows.specs.Taking.{GrewAlike}

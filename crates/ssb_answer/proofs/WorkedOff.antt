@@ -1,6 +1,6 @@
 -- One part of all of a job's morsels, worked off.
 use Rattle.std.proofs.Common.{◌≡◌, ◌∙◌, ◌<◌, ℕ, length, sym, ap, subst, false, true≢false}
-use Rattle.ssb_job.specs.Kept.{JobShape}
+use Rattle.ssb_plan.specs.JobShape.{JobShape}
 use Rattle.ssb_groups.specs.Stands.{Stands}
 use Rattle.ssb_pipeline.specs.Part.{Grows, IsBack, IsLawfulPart, IsOpening, IsWhole, OneSectionIsAll, PartState, has}
 use Rattle.ssb_reply.specs.Reply.{seen_rows}

@@ -10,6 +10,7 @@ pub mod Writing
 pub use Rattle.ssb_catalog.specs.Catalog
 pub use Rattle.ssb_groups.specs.Stands
 pub use Rattle.ssb_job.specs.Kept
+pub use Rattle.ssb_plan.specs.JobShape
 pub use Rattle.ssb_lanes.specs.Joined
 pub use Rattle.ssb_lanes.specs.Sections
 pub use Rattle.ssb_load.specs.Files

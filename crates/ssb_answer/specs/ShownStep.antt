@@ -8,7 +8,7 @@ use Rattle.ssb_reply.specs.declared.run_fault.RunFault.{RunFault}
 use Rattle.ssb_reply.specs.declared.run_fault.RunFault.TheVariants as run
 use Rattle.ssb_reply.specs.Reply.{seen_rows}
 use Rattle.ssb_reply.specs.Told.{told_answer}
-use Rattle.ssb_job.specs.Kept.{JobShape}
+use Rattle.ssb_plan.specs.JobShape.{JobShape}
 use Rattle.ssb_rows.specs.Result.{Answers}
 use Rattle.ssb_rows.specs.declared.fault.AnswerFault.{AnswerFault}
 use Rattle.ssb_spelling.specs.Titles.{column_titles}

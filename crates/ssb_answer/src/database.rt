@@ -6,7 +6,7 @@ ghost use Rattle.ssb_answer.specs.Asking.{Asked, AnswersText};
 ghost use Rattle.ssb_answer.specs.Explaining.{Analyzes, Explains};
 ghost use Rattle.ssb_catalog.specs.Catalog.{IsCatalog};
 ghost use Rattle.ssb_lanes.specs.JoinedSource.{joined_source};
-ghost use Rattle.ssb_job.specs.Loaded.{AreLoaded};
+ghost use Rattle.ssb_plan.specs.Loaded.{AreLoaded};
 ghost use Rattle.ssb_load.specs.Files.{AreLawful, Bytes, GrewEach, RoseEach, given_each};
 ghost use Rattle.ssb_load.specs.Runs.{FailedRead};
 ghost use Rattle.ssb_reply.specs.Reply.{Asks};

@@ -3,8 +3,8 @@
 //! - Offers: [`Value`], [`Truth`], [`compare`], [`sort_cmp`], [`Op`], [`ColType`], [`Column`], [`Table`];
 //!   [`OwnedValue`], which is kept; [`ColumnBuilder`] and [`ColumnParts`], columns that grow by values
 //!   and by parts.
-//! - Callers: `ssb_load` and `ssb_lanes`, which fill columns; `ssb_conditions`, `ssb_job`, `ssb_groups`
-//!   and `ssb_rows`, which read them.
+//! - Callers: `ssb_load` and `ssb_lanes`, which fill columns; `ssb_conditions`, `ssb_plan`, `ssb_job`,
+//!   `ssb_groups` and `ssb_rows`, which read them.
 //! - Files: `value`, `owned`, `truth`, `order`: values; `column`, over `texts` and their `dictionary`;
 //!   `builder`, `parts`; `table`.
 //! - Definitions: `Cell`, `Values`, `Truth`, `Compare`, `Order`: values; `Tables`, `Codes`, `Lent`,

@@ -1,8 +1,6 @@
-pub mod Filters
 pub mod Holds
-pub mod Only
+pub mod Met
 pub mod Rows
-pub mod Sets
 pub mod Together
 pub use Rattle.ssb_cells.specs.Cell
 pub use Rattle.ssb_cells.specs.Tables

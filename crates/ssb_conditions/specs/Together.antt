@@ -1,5 +1,5 @@
 -- What several conditions say, joined by OR or by AND.
--- For the contracts inside this crate.
+-- For the contracts inside this crate and ssb_plan.
 use Rattle.std.specs.Prelude.{List}
 use Rattle.ssb_cells.specs.Truth.{all_of, and, any_of, or}
 use Rattle.ssb_cells.specs.declared.truth.Truth.{Truth}

@@ -4,17 +4,17 @@ use Rattle.std.specs.Prelude.{◌≡◌, ◌++◌, ◌∷◌, [], ◌+◌, ◌||
 use Rattle.std.specs.Bool.{beq}
 use Rattle.ssb_catalog.specs.Shapes.{TableShape}
 use Rattle.ssb_cells.specs.Tables.{Columns, rows_in}
-use Rattle.ssb_conditions.specs.Filters.{tests_rows}
-use Rattle.ssb_conditions.specs.Only.{only_at}
-use Rattle.ssb_conditions.specs.declared.column_filter.ColumnFilter.{ColumnFilter}
-use Rattle.ssb_conditions.specs.declared.table_filter.TableFilter.{TableFilter}
-use Rattle.ssb_job.specs.Build.{IsPlan}
-use Rattle.ssb_job.specs.Kept.{JobShape, from_tables}
-use Rattle.ssb_job.specs.declared.dimension.Dimension.{Dimension as AnyDimension}
-use Rattle.ssb_job.specs.declared.join.Join.{Join}
-use Rattle.ssb_job.specs.declared.plan.Access.{Access}
-use Rattle.ssb_job.specs.declared.plan.Access.TheVariants.{Fact, Dimension}
-use Rattle.ssb_job.specs.declared.plan.Plan.{Plan}
+use Rattle.ssb_plan.specs.Filters.{tests_rows}
+use Rattle.ssb_plan.specs.Only.{only_at}
+use Rattle.ssb_plan.specs.declared.column_filter.ColumnFilter.{ColumnFilter}
+use Rattle.ssb_plan.specs.declared.table_filter.TableFilter.{TableFilter}
+use Rattle.ssb_plan.specs.Build.{IsPlan}
+use Rattle.ssb_plan.specs.JobShape.{JobShape, from_tables}
+use Rattle.ssb_plan.specs.declared.dimension.Dimension.{Dimension as AnyDimension}
+use Rattle.ssb_plan.specs.declared.join.Join.{Join}
+use Rattle.ssb_plan.specs.declared.plan.Access.{Access}
+use Rattle.ssb_plan.specs.declared.plan.Access.TheVariants.{Fact, Dimension}
+use Rattle.ssb_plan.specs.declared.plan.Plan.{Plan}
 use Rattle.ssb_query.specs.declared.column.BoundColumn.{BoundColumn}
 use Rattle.ssb_query.specs.declared.query.BoundItem.{BoundItem}
 use Rattle.ssb_query.specs.declared.query.BoundOrder.{BoundOrder}

@@ -7,8 +7,8 @@ use Rattle.std.specs.Ordering.{int_eq}
 use Rattle.ssb_cells.specs.Codes.{texts_of}
 use Rattle.ssb_cells.specs.Tables.{Columns, Filled}
 use Rattle.ssb_cells.specs.Truth.{is_true}
-use Rattle.ssb_conditions.specs.declared.column_filter.ColumnFilter.{ColumnFilter}
-use Rattle.ssb_conditions.specs.declared.sets.ValueSet.{ValueSet}
+use Rattle.ssb_plan.specs.declared.column_filter.ColumnFilter.{ColumnFilter}
+use Rattle.ssb_plan.specs.declared.sets.ValueSet.{ValueSet}
 use Rattle.ssb_sets.specs.NumberSets.{has}
 use Rattle.ssb_sets.specs.declared.set.NumberSet.{NumberSet}
 use Rattle.ssb_spelling.specs.Conditions.{parted, quoted}

@@ -10,7 +10,7 @@ ghost use Rattle.ssb_terms.specs.declared.rule.ColType.TheVariants as kinds;
 
 use itoa::Buffer;
 use ssb_cells::{Column, Table};
-use ssb_conditions::{ColumnFilter, ValueSet};
+use ssb_plan::{ColumnFilter, ValueSet};
 use ssb_sets::NumberSet;
 use ssb_spelling::{put_number, put_quoted};
 use ssb_terms::ColType;

@@ -11,7 +11,8 @@ use Rattle.ssb_trees.specs.declared.aggregate.Aggregate.{Aggregate}
 use Rattle.ssb_cells.specs.Cell.{Cell, null}
 use Rattle.ssb_cells.specs.Tables.{rows_in, Columns}
 use Rattle.ssb_conditions.specs.Rows.{IsCombination}
-use Rattle.ssb_job.specs.Kept.{JobShape, from_tables, rows_of}
+use Rattle.ssb_plan.specs.JobShape.{JobShape, from_tables}
+use Rattle.ssb_job.specs.Kept.{rows_of}
 use Rattle.ssb_job.proofs.Found.{length-combination}
 use Rattle.ssb_groups.specs.Aggregates.{agg, totals, totals_from}
 use Rattle.ssb_groups.specs.Gathering.{alone}

@@ -11,7 +11,7 @@ use Rattle.std.proofs.lemmas.List.{map-append}
 use Rattle.ssb_cells.specs.Cell.{Cell, null, number, text}
 use Rattle.ssb_cells.specs.Order.{cell_cmp}
 use Rattle.ssb_cells.proofs.OrderLaws.{cell-same, cell_total}
-use Rattle.ssb_job.specs.Kept.{JobShape}
+use Rattle.ssb_plan.specs.JobShape.{JobShape}
 use Rattle.ssb_query.specs.declared.column.BoundColumn.{BoundColumn}
 use Rattle.ssb_trees.specs.declared.aggregate.Aggregate.{Aggregate}
 use Rattle.ssb_trees.specs.declared.aggregate.Aggregate.TheVariants as aggregate

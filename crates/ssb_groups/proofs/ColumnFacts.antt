@@ -12,7 +12,7 @@ use Rattle.ssb_cells.specs.Codes.{code_of, texts_of}
 use Rattle.ssb_cells.specs.Tables.{Filled, rows_in, cell_in_column, Columns}
 use Rattle.ssb_cells.proofs.CodeFacts.{among, place-known}
 use Rattle.ssb_conditions.specs.Rows.{IsCombination, cell_by, column_value}
-use Rattle.ssb_job.specs.Kept.{JobShape, from_tables}
+use Rattle.ssb_plan.specs.JobShape.{JobShape, from_tables}
 use Rattle.ssb_groups.specs.Keys.{AreKept, IsKept, column_in, column_values, key_cell, key_columns, key_of, kept_cell, spelt, spelt_cell, values_in}
 use Rattle.ssb_groups.specs.Places.{HasSomeRow, IsSomePlace, cell_at_place, place_in, place_of, table_at, values_at}
 use Rattle.ssb_groups.specs.declared.place.Place.{Place}

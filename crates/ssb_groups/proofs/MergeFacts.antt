@@ -14,7 +14,7 @@ use Rattle.ssb_cells.specs.Cell.{Cell}
 use Rattle.ssb_groups.specs.Aggregates.{totals}
 use Rattle.ssb_groups.specs.Entries.{AreEntries, AreTotals, Entry, entries_of, entry_of, totals_in}
 use Rattle.ssb_groups.specs.Keys.{IsKey, cells_in, key_columns}
-use Rattle.ssb_job.specs.Kept.{JobShape}
+use Rattle.ssb_plan.specs.JobShape.{JobShape}
 use Rattle.ssb_groups.proofs.Bounds.{fit_rows, summary_is}
 use Rattle.ssb_groups.proofs.KeyFacts.{key_eq_laws, keys_equal}
 use Rattle.ssb_groups.proofs.TableFacts.{keys_distinct, option_joined-none}

@@ -10,7 +10,7 @@ use Rattle.std.proofs.lemmas.Map.{lookup-set_value}
 use Rattle.std.proofs.lemmas.Option.{same_Some}
 use Rattle.indexmap.specs.IndexMap.{insert_entry}
 use Rattle.ssb_cells.specs.Cell.{Cell}
-use Rattle.ssb_job.specs.Kept.{JobShape}
+use Rattle.ssb_plan.specs.JobShape.{JobShape}
 use Rattle.ssb_groups.specs.Entries.{AreEntries, AreTotals, Entry, entries_of, entry_of, totals_in}
 use Rattle.ssb_groups.specs.Joining.{joined_each, option_joined}
 use Rattle.ssb_groups.specs.Keys.{IsKey, cells_in, key_columns}

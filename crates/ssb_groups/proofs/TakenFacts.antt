@@ -11,7 +11,7 @@ use Rattle.ssb_trees.specs.declared.aggregate.SetFunction.{SetFunction}
 use Rattle.ssb_trees.specs.declared.aggregate.SetFunction.TheVariants as function
 use Rattle.ssb_trees.specs.declared.expr.Expr.{Expr}
 use Rattle.ssb_conditions.specs.Rows.{column_value}
-use Rattle.ssb_job.specs.Kept.{JobShape, from_tables}
+use Rattle.ssb_plan.specs.JobShape.{JobShape, from_tables}
 use Rattle.ssb_groups.specs.Aggregates.{agg}
 use Rattle.ssb_groups.specs.Gathering.{IsGathered, IsTaken, alone, texts_by}
 use Rattle.ssb_groups.specs.Joining.{joining_of, place_alone, values_by}

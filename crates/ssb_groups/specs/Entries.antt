@@ -2,7 +2,7 @@
 -- For the contracts inside this crate.
 use Rattle.std.specs.Prelude.{⊤, List, [], ◌∷◌, map}
 use Rattle.ssb_cells.specs.Cell.{Cell}
-use Rattle.ssb_job.specs.Kept.{JobShape}
+use Rattle.ssb_plan.specs.JobShape.{JobShape}
 use Rattle.ssb_groups.specs.Joining.{JoinsAt, JoinsEach, joinings_of, values_by}
 use Rattle.ssb_groups.specs.Keys.{AreKept, IsKey, cells_in, key_columns, spelt}
 use Rattle.ssb_groups.specs.Rows.{Key}

@@ -6,7 +6,7 @@ use Rattle.ssb_cells.specs.Cell.{Cell, null, number, text}
 use Rattle.ssb_cells.specs.Codes.{code_of, texts_of}
 use Rattle.ssb_cells.specs.Tables.{Filled, Columns}
 use Rattle.ssb_conditions.specs.Rows.{column_value}
-use Rattle.ssb_job.specs.Kept.{JobShape, from_tables}
+use Rattle.ssb_plan.specs.JobShape.{JobShape, from_tables}
 use Rattle.ssb_groups.specs.Rows.{Key}
 use Rattle.ssb_groups.specs.declared.key.GroupKey.{GroupKey}
 use Rattle.ssb_groups.specs.declared.kept.Kept.{Kept}

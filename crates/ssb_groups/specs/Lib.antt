@@ -13,3 +13,4 @@ pub mod Value
 pub use Rattle.ssb_cells.specs.Values
 pub use Rattle.ssb_conditions.specs.Rows as CellRows
 pub use Rattle.ssb_job.specs.Kept
+pub use Rattle.ssb_plan.specs.JobShape

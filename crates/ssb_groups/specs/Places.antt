@@ -4,7 +4,7 @@ use Rattle.std.specs.Prelude.{ℕ, ◌<◌, List, [], length, Option, None, Some
 use Rattle.ssb_query.specs.declared.column.BoundColumn.{BoundColumn}
 use Rattle.ssb_cells.specs.Cell.{Cell, null}
 use Rattle.ssb_cells.specs.Tables.{rows_in, Columns}
-use Rattle.ssb_job.specs.Kept.{JobShape}
+use Rattle.ssb_plan.specs.JobShape.{JobShape}
 use Rattle.ssb_groups.specs.Keys.{kept_cell, values_in}
 use Rattle.ssb_groups.specs.declared.place.Place.{Place}
 use Rattle.ssb_groups.specs.declared.kept.Kept.{Kept}

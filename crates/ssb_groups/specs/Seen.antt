@@ -5,7 +5,7 @@ use Rattle.ssb_cells.specs.Cell.{Cell, number}
 use Rattle.ssb_query.specs.declared.column.BoundColumn.{BoundColumn}
 use Rattle.ssb_trees.specs.declared.aggregate.Aggregate.TheVariants as aggregate
 use Rattle.ssb_conditions.specs.Rows.{column_value}
-use Rattle.ssb_job.specs.Kept.{JobShape, from_tables}
+use Rattle.ssb_plan.specs.JobShape.{JobShape, from_tables}
 use Rattle.ssb_groups.specs.Rows.{SeenRow}
 use Rattle.ssb_groups.specs.Value.{Outcome, known, value}
 use Rattle.ssb_trees.specs.declared.aggregate.Aggregate.{Aggregate}

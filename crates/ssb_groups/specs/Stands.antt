@@ -6,7 +6,7 @@ use Rattle.std.specs.Map.{lookup}
 use Rattle.ssb_cells.specs.Cell.{Cell, number}
 use Rattle.ssb_query.specs.declared.column.BoundColumn.{BoundColumn}
 use Rattle.ssb_trees.specs.declared.aggregate.Aggregate.{Aggregate}
-use Rattle.ssb_job.specs.Kept.{JobShape}
+use Rattle.ssb_plan.specs.JobShape.{JobShape}
 use Rattle.ssb_groups.specs.Aggregates.{totals}
 use Rattle.ssb_groups.specs.Rows.{Key, key_eq, SeenRow}
 use Rattle.ssb_groups.specs.Value.{Outcome, over, known, in_range}

@@ -4,7 +4,7 @@
 ghost use Rattle.std.specs.Prelude.{◌≡◌, map, IfOk, OnOk};
 ghost use Rattle.ssb_cells.specs.Values.{cell_of};
 ghost use Rattle.ssb_conditions.specs.Rows.{IsCombination};
-ghost use Rattle.ssb_job.specs.Kept.{from_tables};
+ghost use Rattle.ssb_plan.specs.JobShape.{from_tables};
 ghost use Rattle.ssb_groups.specs.Entries.{AreTotals, totals_in};
 ghost use Rattle.ssb_groups.specs.Joining.{IsJoining, JoinsTotals, joinings_of, values_by};
 ghost use Rattle.ssb_groups.specs.Keys.{IsKept, IsKey, cells_in, kept_total, key_columns, key_of, spelt_cell};
@@ -53,7 +53,7 @@ impl Drop for Columns {
 impl Model for Columns {
     ghost use Rattle.std.specs.Prelude.{◌≡◌};
     ghost use Rattle.std.specs.Arc.{arc_value};
-    ghost use Rattle.ssb_job.specs.Kept.{JobShape};
+    ghost use Rattle.ssb_plan.specs.JobShape.{JobShape};
     ghost use Rattle.ssb_groups.specs.Joining.{joinings_of};
     ghost use Rattle.ssb_groups.specs.Places.{places_of};
 

@@ -2,7 +2,7 @@
 
 ghost use Rattle.std.specs.Prelude.{◌≡◌, fold, map};
 ghost use Rattle.ssb_conditions.specs.Rows.{column_value};
-ghost use Rattle.ssb_job.specs.Kept.{from_tables};
+ghost use Rattle.ssb_plan.specs.JobShape.{from_tables};
 ghost use Rattle.ssb_groups.specs.Outcomes.{outcome_of};
 ghost use Rattle.ssb_groups.specs.Value.{add_step, column_of, number_of, product, step_number};
 

@@ -6,7 +6,7 @@ ghost use Rattle.ssb_query.specs.declared.column.BoundColumn.{BoundColumn as Any
 ghost use Rattle.ssb_trees.specs.declared.aggregate.Aggregate.TheVariants as aggregates;
 ghost use Rattle.ssb_trees.specs.declared.expr.Expr.{Expr as AnyExpr};
 ghost use Rattle.ssb_conditions.specs.Rows.{IsCombination, column_value};
-ghost use Rattle.ssb_job.specs.Kept.{from_tables};
+ghost use Rattle.ssb_plan.specs.JobShape.{from_tables};
 ghost use Rattle.ssb_groups.specs.Aggregates.{agg};
 ghost use Rattle.ssb_groups.specs.Gathering.{IsGathered, IsTaken, texts_by};
 ghost use Rattle.ssb_groups.specs.Joining.{place_alone};

@@ -3,7 +3,8 @@
 ghost use Rattle.std.specs.Prelude.{◌≡◌, ◌+◌, ◌<◌, ◌^◌, ◌∷◌, ◌++◌, [], List, length, map, Some, slice_get, IfErr, IfOk, OnOk, OnErr};
 ghost use Rattle.ssb_cells.specs.Values.{cell_of};
 ghost use Rattle.ssb_conditions.specs.Rows.{IsCombination};
-ghost use Rattle.ssb_job.specs.Kept.{AreOneJob, from_tables};
+ghost use Rattle.ssb_job.specs.Kept.{AreOneJob};
+ghost use Rattle.ssb_plan.specs.JobShape.{from_tables};
 ghost use Rattle.ssb_groups.specs.Aggregates.{totals};
 ghost use Rattle.ssb_groups.specs.Rows.{SeenRow};
 ghost use Rattle.ssb_groups.specs.Seen.{seen};

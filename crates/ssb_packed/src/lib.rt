@@ -3,7 +3,7 @@
 //! - Offers: [`Numbers`], [`Codes`] and [`Nulls`], seen in contracts as lists; [`NumbersBuilder`] and
 //!   [`CodesBuilder`], which take many, one at a time; [`NumberSlice`], [`CodeSlice`] and
 //!   [`flag_at`], by which code that goes over many rows reads them.
-//! - Callers: `ssb_cells`, which keeps columns in them; `ssb_conditions` and `ssb_job`, which read the
+//! - Callers: `ssb_cells`, which keeps columns in them; `ssb_plan` and `ssb_job`, which read the
 //!   slices.
 //! - Apart: how many bytes a value takes is nobody else's matter, and its edits are tried over this
 //!   little alone.

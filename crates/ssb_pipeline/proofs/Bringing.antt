@@ -2,7 +2,8 @@
 use Rattle.std.proofs.Common.{◌≡◌, ◌∙◌, ◌∷◌, [], false, true, List, map, sym, ap, subst}
 use Rattle.std.specs.List.{All, list_all, list_any}
 use Rattle.std.proofs.lemmas.List.Elements.{All-cons, All-nil}
-use Rattle.ssb_job.specs.Kept.{AreOneJob, JobShape}
+use Rattle.ssb_job.specs.Kept.{AreOneJob}
+use Rattle.ssb_plan.specs.JobShape.{JobShape}
 use Rattle.ssb_pipeline.specs.Part as event
 use Rattle.ssb_pipeline.specs.Part.{AreHandedOut, HaveComeBack, IsTaken, PartState, Returns, Runs, has, is_handed_out}
 use Rattle.ssb_pipeline.specs.State.{PartialState}

@@ -3,7 +3,8 @@ use Rattle.std.proofs.Common.{◌≡◌, ◌∙◌, ◌<◌, ℕ, map, sym, ap, 
 use Rattle.std.specs.List.{range_with_len}
 use Rattle.std.proofs.lemmas.List.{append-nil}
 use Rattle.std.proofs.lemmas.List.Sorted.{IsPermutation-map, IsPermutation-sym}
-use Rattle.ssb_job.specs.Kept.{JobShape, fact_rows, joined}
+use Rattle.ssb_plan.specs.JobShape.{JobShape}
+use Rattle.ssb_job.specs.Kept.{fact_rows, joined}
 use Rattle.ssb_job.proofs.Whole as all_kept
 use Rattle.ssb_groups.specs.Seen.{seen}
 use Rattle.ssb_groups.specs.Stands.{Stands}

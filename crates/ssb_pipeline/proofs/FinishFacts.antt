@@ -5,7 +5,8 @@ use Rattle.std.proofs.lemmas.Bool.{cases_lt, false_from_ne_true}
 use Rattle.std.proofs.lemmas.List.{get_or-set_other}
 use Rattle.std.proofs.lemmas.List.FromFn.{length-range_with_len}
 use Rattle.std.proofs.lemmas.List.Sorted.{IsPermutation-map, IsPermutation-sym, length_permutation}
-use Rattle.ssb_job.specs.Kept.{JobShape, fact_rows, kept}
+use Rattle.ssb_plan.specs.JobShape.{JobShape}
+use Rattle.ssb_job.specs.Kept.{fact_rows, kept}
 use Rattle.ssb_job.proofs.Whole as all_kept
 use Rattle.ssb_groups.specs.Seen.{seen}
 use Rattle.ssb_groups.specs.Stands.{GroupMap, Stands}

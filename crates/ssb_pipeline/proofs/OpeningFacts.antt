@@ -4,7 +4,8 @@ use Rattle.std.specs.Prelude.{min, slice_get}
 use Rattle.std.specs.List.{range_with_len}
 use lib.ListN.{replicate}
 use Rattle.std.proofs.lemmas.List.FromFn.{length-range_with_len}
-use Rattle.ssb_job.specs.Kept.{AreOneJob, JobShape, fact_rows}
+use Rattle.ssb_job.specs.Kept.{AreOneJob, fact_rows}
+use Rattle.ssb_plan.specs.JobShape.{JobShape}
 use Rattle.ssb_groups.specs.Stands.{GroupMap, Stands}
 use Rattle.ssb_pipeline.specs.Joined.{morsel_rows, seen_in}
 use Rattle.ssb_pipeline.specs.Marks.{IsKept, marked}

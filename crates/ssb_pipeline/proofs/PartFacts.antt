@@ -6,7 +6,8 @@ use Rattle.std.specs.List.Sorted.{IsPermutation}
 use Rattle.std.proofs.lemmas.List.FromFn.{length-range_with_len}
 use Rattle.std.proofs.lemmas.List.Elements.{All-head}
 use Rattle.std.proofs.lemmas.List.Sorted.{length_permutation}
-use Rattle.ssb_job.specs.Kept.{AreOneJob, JobShape, fact_rows}
+use Rattle.ssb_job.specs.Kept.{AreOneJob, fact_rows}
+use Rattle.ssb_plan.specs.JobShape.{JobShape}
 use Rattle.ssb_groups.specs.Rows.{SeenRow}
 use Rattle.ssb_groups.specs.Stands.{GroupMap, Stands}
 use Rattle.ssb_groups.proofs.Permuted.{any_order}

@@ -4,7 +4,8 @@ use Rattle.std.specs.List.{All, IsDistinct, range_with_len}
 use Rattle.std.proofs.lemmas.List.{append-nil}
 use Rattle.std.proofs.lemmas.List.Elements.{All-head}
 use Rattle.std.proofs.lemmas.Bool.{eqb-true}
-use Rattle.ssb_job.specs.Kept.{AreOneJob, JobShape, fact_rows, joined}
+use Rattle.ssb_job.specs.Kept.{AreOneJob, fact_rows, joined}
+use Rattle.ssb_plan.specs.JobShape.{JobShape}
 use Rattle.ssb_groups.specs.Seen.{seen}
 use Rattle.ssb_groups.specs.Stands.{GroupMap, Stands}
 use Rattle.ssb_pipeline.specs.Joined.{morsel_rows, seen_in}

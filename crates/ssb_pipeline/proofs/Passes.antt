@@ -8,7 +8,7 @@ use Rattle.std.proofs.Math.Seq.{map-set_same}
 use Rattle.std.specs.List.{All}
 use Rattle.atomic_table.specs.Seated.{TableId}
 use Rattle.crossbeam_queue.specs.Passes.{Pass, view}
-use Rattle.ssb_job.specs.Kept.{JobShape}
+use Rattle.ssb_plan.specs.JobShape.{JobShape}
 use Rattle.ssb_pipeline.specs.Part.{Follows, IsOpening, PartState}
 use Rattle.ssb_pipeline.specs.Rule.{Knows, knows, fresh, newcomer}
 use Rattle.ssb_pipeline.specs.Pass.{AllSections, HoldsNone, IsAtRest, IsPartOf, IsPassOfParts, IsUnused, IsViewOf, KnowsNothing, PartsState, PassState, known, knowing, newcomers, pass_name, pass_view}

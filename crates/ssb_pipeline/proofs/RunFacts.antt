@@ -6,7 +6,8 @@ use Rattle.std.proofs.lemmas.Bool.{eqb-true, false_from_ne_true}
 use Rattle.std.specs.List.Sorted.{IsPermutation}
 use Rattle.std.proofs.lemmas.List.Sorted.{IsPermutation-refl, list_any-IsPermutation}
 use Rattle.std.proofs.lemmas.Map.Keys.{IsDistinct-IsPermutation}
-use Rattle.ssb_job.specs.Kept.{AreOneJob, JobShape}
+use Rattle.ssb_job.specs.Kept.{AreOneJob}
+use Rattle.ssb_plan.specs.JobShape.{JobShape}
 use Rattle.ssb_groups.specs.Rows.{SeenRow}
 use Rattle.ssb_groups.specs.Stands.{AreRanged, Stands}
 use Rattle.ssb_groups.proofs.AnyRows.{stands_for_any}

@@ -4,7 +4,8 @@ use Rattle.std.specs.Prelude.{◌≡◌, ◌<◌, ◌∷◌, [], ℕ, true, fals
 use mathlib.Core.Option.{some}
 use lib.ListN.{get_elem?}
 use Rattle.std.specs.List.{IsDistinct}
-use Rattle.ssb_job.specs.Kept.{JobShape, fact_rows}
+use Rattle.ssb_plan.specs.JobShape.{JobShape}
+use Rattle.ssb_job.specs.Kept.{fact_rows}
 use Rattle.ssb_groups.specs.Stands.{Stands}
 use Rattle.ssb_pipeline.specs.Joined.{morsel_rows, seen_in}
 use Rattle.ssb_pipeline.specs.Morsels.{morsel, morsel_count, section}

@@ -16,3 +16,4 @@ pub mod Replay
 pub use Rattle.ssb_groups.specs.Seen
 pub use Rattle.ssb_groups.specs.Stands
 pub use Rattle.ssb_job.specs.Kept
+pub use Rattle.ssb_plan.specs.JobShape

@@ -2,7 +2,8 @@
 -- For the contracts inside this crate.
 use Rattle.std.specs.Prelude.{◌≡◌, ◌≤◌, ◌<◌, ◌+◌, ◌-◌, ◌^◌, ℕ, Bool, true, false, List, [], ◌∷◌, length, slice_get, slice_set, Some}
 use Rattle.std.specs.List.{range_with_len}
-use Rattle.ssb_job.specs.Kept.{AreOneJob, JobShape, fact_rows}
+use Rattle.ssb_job.specs.Kept.{AreOneJob, fact_rows}
+use Rattle.ssb_plan.specs.JobShape.{JobShape}
 use Rattle.ssb_groups.specs.Stands.{GroupMap, Stands}
 use Rattle.ssb_pipeline.specs.Joined.{morsel_rows, seen_in}
 use Rattle.ssb_pipeline.specs.Morsels.{morsel_count, morsel_cut}

@@ -3,7 +3,8 @@
 use Rattle.std.specs.Prelude.{◌≡◌, ◌≤◌, ◌<◌, ◌++◌, ◌∷◌, [], ◌⊎◌, ◌&&◌, ◌||◌, ℕ, Bool, true, false, not, nat_eq, List, length, map, Option, None, Some, Result, Ok, Err, ⊤}
 use Rattle.std.specs.List.{IsDistinct, filter, list_all, list_any}
 use Rattle.std.specs.List.Sorted.{IsPermutation}
-use Rattle.ssb_job.specs.Kept.{AreOneJob, JobShape, fact_rows, kept}
+use Rattle.ssb_job.specs.Kept.{AreOneJob, fact_rows, kept}
+use Rattle.ssb_plan.specs.JobShape.{JobShape}
 use Rattle.ssb_groups.specs.Seen.{seen}
 use Rattle.ssb_groups.specs.Stands.{GroupMap, Stands}
 use Rattle.ssb_pipeline.specs.Joined.{seen_in}

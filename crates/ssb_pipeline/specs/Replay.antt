@@ -2,7 +2,8 @@
 -- Source: own.
 use Rattle.std.specs.Prelude.{◌≡◌, ℕ, true, false, List, [], ◌∷◌, ◌++◌, ◌⊎◌, Option, None, Some, IfSome, slice_get, slice_set}
 use Rattle.std.specs.List.{All}
-use Rattle.ssb_job.specs.Kept.{AreOneJob, JobShape}
+use Rattle.ssb_job.specs.Kept.{AreOneJob}
+use Rattle.ssb_plan.specs.JobShape.{JobShape}
 use Rattle.ssb_pipeline.specs.Part.{GivesUp, Grows, HandsNext, HandsNone, IsLawfulPart, IsOpening, IsWhole, PartState, Ran, Returns, has, is_handed_out}
 use Rattle.ssb_pipeline.specs.Tickets.{TicketState}
 use Rattle.ssb_pipeline.specs.declared.calls.Call.{Call}

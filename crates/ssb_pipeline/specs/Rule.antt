@@ -5,7 +5,7 @@ use Rattle.std.specs.Prelude.{◌≡◌, ℕ, Bool, true, false, List, [], ◌�
 use mathlib.Core.Option.{some}
 use lib.ListN.{get_elem?}
 use Rattle.std.specs.List.{filter}
-use Rattle.ssb_job.specs.Kept.{JobShape}
+use Rattle.ssb_plan.specs.JobShape.{JobShape}
 use Rattle.ssb_pipeline.specs.Part.{AreOut, IsLawfulPart, IsReached, PartState, Ran, handed_between, has, is_open}
 
 -- What a pass knows of a part: whether the queue is in use, whether the pass holds the part, the part at its last take or put, the numbers that were

@@ -2,7 +2,8 @@
 -- Source: own.
 use Rattle.std.specs.Prelude.{◌≡◌, ℕ, ◌≤◌, List, ◌∷◌, length, None, Some, Result, Ok, Err, Vec}
 use Rattle.std.specs.List.{All}
-use Rattle.ssb_job.specs.Kept.{AreOneJob, JobShape}
+use Rattle.ssb_job.specs.Kept.{AreOneJob}
+use Rattle.ssb_plan.specs.JobShape.{JobShape}
 use Rattle.ssb_groups.specs.Stands.{GroupMap, Stands}
 use Rattle.ssb_pipeline.specs.Joined.{morsel_rows, seen_in}
 use Rattle.ssb_pipeline.specs.Tickets.{TicketState, batch_fault, morsels_of}

@@ -2,7 +2,7 @@
 -- Source: morsels are those of Leis and others, Morsel-Driven Parallelism, SIGMOD 2014; that work is handed out by tickets is this project's own.
 use Rattle.std.specs.Prelude.{ℕ, Bool, false, not, nat_eq, ◌&&◌, ◌||◌, if◌then◌else◌, List, [], ◌∷◌, map, Option, None, Some}
 use Rattle.std.specs.List.{list_all, list_any}
-use Rattle.ssb_job.specs.Kept.{JobShape}
+use Rattle.ssb_plan.specs.JobShape.{JobShape}
 use Rattle.ssb_pipeline.specs.declared.batch.BatchFault.{BatchFault}
 use Rattle.ssb_pipeline.specs.declared.batch.BatchFault.TheVariants as fault
 

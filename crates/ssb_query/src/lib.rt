@@ -2,7 +2,7 @@
 //!
 //! - Offers: [`Query`] and its parts, of which the tables form a star; [`BoundColumn`] and what is over
 //!   it.
-//! - Callers: `ssb_bind`, which makes queries; `ssb_conditions`, `ssb_job`, `ssb_groups` and `ssb_rows`,
+//! - Callers: `ssb_bind`, which makes queries; `ssb_conditions`, `ssb_plan`, `ssb_job`, `ssb_groups` and `ssb_rows`,
 //!   which answer them; embedders through `ssb_bind`.
 //! - Apart: those that answer a query need not wait for the proofs of reading and binding one.
 //! - Files: `query`, `column`, `star`.

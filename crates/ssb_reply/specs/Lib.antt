@@ -8,7 +8,7 @@ pub use Rattle.ssb_bind.specs.Meaning
 pub use Rattle.ssb_catalog.specs.Catalog
 pub use Rattle.ssb_catalog.specs.Shapes
 pub use Rattle.ssb_cells.specs.Tables
-pub use Rattle.ssb_job.specs.Loaded
+pub use Rattle.ssb_plan.specs.Loaded
 pub use Rattle.ssb_load.specs.Files
 pub use Rattle.ssb_query.specs.declared.query.QueryParts
 pub use Rattle.ssb_sql.specs.declared.select.Select

@@ -12,7 +12,8 @@ use Rattle.ssb_bind.specs.Faults.{least_fault}
 use Rattle.ssb_bind.specs.Meaning.{Means}
 use Rattle.ssb_bind.specs.declared.fault.BindFault.{BindFault}
 use Rattle.ssb_query.specs.declared.query.QueryParts.{QueryParts}
-use Rattle.ssb_job.specs.Kept.{JobShape, kept}
+use Rattle.ssb_plan.specs.JobShape.{JobShape}
+use Rattle.ssb_job.specs.Kept.{kept}
 use Rattle.ssb_groups.specs.Rows.{SeenRow}
 use Rattle.ssb_groups.specs.Seen.{seen}
 use Rattle.ssb_rows.specs.Order.{Row}

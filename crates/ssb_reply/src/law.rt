@@ -8,7 +8,7 @@ ghost use Rattle.ssb_sql.specs.declared.select.Select.{Select};
 ghost use Rattle.ssb_query.specs.declared.query.QueryParts.{QueryParts};
 ghost use Rattle.ssb_bind.specs.Meaning.{Means};
 ghost use Rattle.ssb_cells.specs.Tables.{Columns};
-ghost use Rattle.ssb_job.specs.Loaded.{AreLoaded};
+ghost use Rattle.ssb_plan.specs.Loaded.{AreLoaded};
 ghost use Rattle.ssb_reply.specs.Settled.{OneReply};
 
 /// A law: files and a text have one reply. Two runs over them that no refused growth, no failed read

@@ -4,7 +4,7 @@
 //!   [`Join`]; [`Check`], which stands for a set where many numbers between [`Bounds`] are tested, by
 //!   [`Flags`] or otherwise; [`ValueSlice`], the values of a column as numbers, and its rows that pass what
 //!   is asked ([`Asks`]); [`Marks`], a bit for each row of a batch, by which ranges are tested.
-//! - Callers: `ssb_conditions` and `ssb_job`; `ssb_pipeline`, for the size of a batch.
+//! - Callers: `ssb_conditions`, `ssb_plan` and `ssb_job`; `ssb_pipeline`, for the size of a batch.
 //! - Apart: what a set has is said without a condition.
 //! - Files: `set`; `join`; `merge`, of two sets; `halves`, of many; `runs`, between two cuts; `values`;
 //!   `asks`; `kernel`, the loop; `rows`, of a range, and by which loop; `nulls`; `check`; `asked`, what checks ask; `choice`,

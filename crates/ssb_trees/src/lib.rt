@@ -5,7 +5,7 @@
 //!   [`LeavesInOrder`], by which each leaf becomes another; [`Test`], by which a leaf is found;
 //!   [`Kinds`], by which trees have types.
 //! - Callers: `ssb_sql`, which reads them; `ssb_bind`, which puts columns in the place of names;
-//!   `ssb_conditions` and `ssb_groups`, which evaluate them.
+//!   `ssb_conditions` and `ssb_groups`, which evaluate them; `ssb_plan`, which tests them by column.
 //! - Apart: text and meaning share the forms, and nothing else.
 //! - Files: `condition`, `operand`, `expr`, `aggregate`; `leaf`, `map_condition`, `map_expr`,
 //!   `find_operand`, `find_column`; `types`.

@@ -1,6 +1,7 @@
 use Rattle.std.proofs.Common.{◌∙◌, IfOk, arith, subst}
 use Rattle.ssb_groups.specs.Stands.{Stands}
-use Rattle.ssb_job.specs.Kept.{AreOneJob, JobShape}
+use Rattle.ssb_job.specs.Kept.{AreOneJob}
+use Rattle.ssb_plan.specs.JobShape.{JobShape}
 use Rattle.ssb_reply.specs.Reply.{seen_rows}
 use Rattle.ssb_answer.proofs.WrittenBack.{first-worked}
 use Rattle.ssb_answer.proofs.grouping.group_shared.Goals as goal

@@ -8,7 +8,7 @@ use Rattle.ssb_trees.specs.declared.expr.Expr.TheVariants as expr
 use Rattle.ssb_trees.specs.declared.expr.Expr.TheViews.{size-Expr, size-Step}
 use Rattle.ssb_trees.specs.declared.expr.Step.{Step}
 use Rattle.ssb_conditions.specs.Rows.{column_value}
-use Rattle.ssb_job.specs.Kept.{from_tables}
+use Rattle.ssb_plan.specs.JobShape.{from_tables}
 use Rattle.ssb_groups.specs.Outcomes.{outcome_of}
 use Rattle.ssb_groups.specs.Value.{Outcome, add_step, number_layer, number_of, step_layer, step_number, times}
 use Rattle.ssb_groups.proofs.ColumnFacts.{folded, folded-more}

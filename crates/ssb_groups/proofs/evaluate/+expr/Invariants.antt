@@ -1,6 +1,6 @@
 use Rattle.std.proofs.Common.{◌≡◌, drop, fold, map}
 use Rattle.ssb_conditions.specs.Rows.{column_value}
-use Rattle.ssb_job.specs.Kept.{from_tables}
+use Rattle.ssb_plan.specs.JobShape.{from_tables}
 use Rattle.ssb_groups.specs.Outcomes.{outcome_of}
 use Rattle.ssb_groups.specs.Value.{add_step, number_of, product, step_number, times}
 use Rattle.ssb_groups.proofs.evaluate.+expr.Given as goal

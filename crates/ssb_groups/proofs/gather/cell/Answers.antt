@@ -1,6 +1,6 @@
 use Rattle.std.proofs.Common.{◌≡◌, ◌∙◌, sym, ap, ap₂, subst}
 use Rattle.std.specs.Prelude.{slice_get}
-use Rattle.ssb_job.specs.Kept.{from_tables}
+use Rattle.ssb_plan.specs.JobShape.{from_tables}
 use Rattle.ssb_groups.specs.Keys.{IsKept, column_values, key_cell, spelt_cell}
 use Rattle.ssb_groups.specs.Places.{HasSomeRow, IsSomePlace, cell_at_place}
 use Rattle.ssb_groups.proofs.ColumnFacts.{place-cell, place-row, place-there, place-values, respells-by}

@@ -1,5 +1,5 @@
 use Rattle.std.proofs.Common.{arith}
-use Rattle.ssb_job.specs.Kept.{from_tables}
+use Rattle.ssb_plan.specs.JobShape.{from_tables}
 use Rattle.ssb_groups.proofs.AddFacts.{fact_there, number_below}
 use Rattle.ssb_groups.proofs.gather.fact_of.Goals as goal
 

@@ -2,7 +2,7 @@ use Rattle.std.proofs.Common.{◌≡◌, ◌∙◌, ◌≤◌, ◌+◌, ◌∷�
 use Rattle.std.proofs.lemmas.List.{drop_more}
 use Rattle.ssb_trees.specs.declared.aggregate.Aggregate.{Aggregate}
 use Rattle.ssb_query.specs.declared.column.BoundColumn.{BoundColumn}
-use Rattle.ssb_job.specs.Kept.{JobShape}
+use Rattle.ssb_plan.specs.JobShape.{JobShape}
 use Rattle.ssb_groups.proofs.TakenFacts.{Gathers, gathers-more, gathered}
 use Rattle.std.proofs.lemmas.Grind.{common_steps}
 use Rattle.ssb_groups.proofs.gather.gather.Goals as goal

@@ -7,7 +7,7 @@ use Rattle.ssb_groups.specs.Joining.{joinings_of, option_joined}
 use Rattle.ssb_groups.specs.Rows.{key_eq}
 use Rattle.ssb_groups.specs.Keys.{AreKept, IsKey, cells_in, key_columns, spelt}
 use Rattle.ssb_groups.specs.declared.key.GroupKey.{GroupKey}
-use Rattle.ssb_job.specs.Kept.{JobShape}
+use Rattle.ssb_plan.specs.JobShape.{JobShape}
 use Rattle.ssb_groups.proofs.KeyFacts.{keys_equal}
 use Rattle.ssb_groups.proofs.TableFacts.{found, lookup-entries_of, lookup-same, set_value-same, set_value-entries, insert-same, insert-entries, put_present, put_absent, table_eq}
 use Rattle.ssb_groups.proofs.table.put.Goals as goal

@@ -2,7 +2,8 @@ use Rattle.std.proofs.Common.{◌∙◌, [], IfSome, List, get_or, refl, sym, su
 use Rattle.std.specs.Arc.{arc_value}
 use Rattle.std.proofs.lemmas.List.{take_all, take_more}
 use Rattle.std.proofs.lemmas.List.Elements.{All-nil}
-use Rattle.ssb_job.specs.Kept.{AreOneJob, JobShape}
+use Rattle.ssb_job.specs.Kept.{AreOneJob}
+use Rattle.ssb_plan.specs.JobShape.{JobShape}
 use Rattle.ssb_pipeline.specs.Part.{IsOpening}
 use Rattle.ssb_pipeline.specs.Replay.{Answers, AreOf, Replays}
 use Rattle.ssb_pipeline.specs.Replay.Replays.{over}

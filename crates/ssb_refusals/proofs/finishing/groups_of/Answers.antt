@@ -1,6 +1,7 @@
 use Rattle.std.proofs.Common.{◌∙◌, IfOk, subst}
 use Rattle.ssb_groups.specs.Stands.{Stands}
-use Rattle.ssb_job.specs.Kept.{AreOneJob, JobShape}
+use Rattle.ssb_job.specs.Kept.{AreOneJob}
+use Rattle.ssb_plan.specs.JobShape.{JobShape}
 use Rattle.ssb_answer.specs.Reply.{seen_rows}
 use Rattle.ssb_refusals.proofs.finishing.groups_of.Goals as goal
 

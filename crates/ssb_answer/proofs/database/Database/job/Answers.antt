@@ -1,6 +1,6 @@
 use Rattle.std.proofs.Common.{◌∙◌, Err, ap, subst}
 use Rattle.std.proofs.lemmas.Result.{err_from_is_err_and}
-use Rattle.ssb_job.specs.Kept.{JobShape}
+use Rattle.ssb_plan.specs.JobShape.{JobShape}
 use Rattle.ssb_answer.specs.Asking.{Asked}
 use Rattle.ssb_answer.specs.Database.{Loaded}
 use Rattle.ssb_answer.proofs.Asking.{fits}

@@ -1,7 +1,7 @@
 use Rattle.std.proofs.Common.{◌≡◌, ◌∙◌, None, get_or, map, slice_get, sym, ap, subst}
 use Rattle.std.proofs.lemmas.Option.{get_or_from_slice_get, slice_get-get_or}
 use Rattle.ssb_conditions.specs.Rows.{IsCombination}
-use Rattle.ssb_job.specs.Kept.{JobShape, from_tables}
+use Rattle.ssb_plan.specs.JobShape.{JobShape, from_tables}
 use Rattle.ssb_groups.specs.Keys.{key_of}
 use Rattle.ssb_groups.specs.Places.{HasSomeRow, IsSomePlace, cell_at_place, place_of}
 use Rattle.ssb_groups.proofs.ColumnFacts.{each-place, mapped, mapped-more, place-cells, place-row, place-there}

@@ -1,5 +1,5 @@
 use Rattle.std.proofs.Common.{◌≡◌, ◌∙◌, sym, ap, subst}
-use Rattle.ssb_job.specs.Kept.{JobShape}
+use Rattle.ssb_plan.specs.JobShape.{JobShape}
 use Rattle.ssb_groups.specs.Joining.{AreJoinings, joinings_of}
 use Rattle.ssb_groups.proofs.JoiningFacts.{joinings-there}
 use Rattle.ssb_groups.proofs.columns.Columns.join.Goals as goal

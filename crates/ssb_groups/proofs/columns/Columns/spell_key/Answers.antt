@@ -1,7 +1,7 @@
 use Rattle.std.proofs.Common.{◌∙◌, ◌+◌, ◌++◌, [], ◌∷◌, drop, map, slice_get, refl, sym, ap, subst, arith, append_assoc}
 use Rattle.std.proofs.lemmas.List.{map-append}
 use Rattle.ssb_cells.specs.Values.{cell_of}
-use Rattle.ssb_job.specs.Kept.{JobShape}
+use Rattle.ssb_plan.specs.JobShape.{JobShape}
 use Rattle.ssb_groups.specs.Keys.{AreKept, key_columns, spelt}
 use Rattle.ssb_groups.proofs.ColumnFacts.{is-at, kept-at, spelt-at}
 use Rattle.ssb_groups.proofs.columns.Columns.spell_key.Goals as goal

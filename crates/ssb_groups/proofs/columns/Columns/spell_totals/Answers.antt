@@ -1,7 +1,7 @@
 use Rattle.std.proofs.Common.{◌≡◌, ◌∙◌, ◌<◌, ◌+◌, ◌++◌, [], ◌∷◌, List, ℕ, Some, drop, get_or, length, map, slice_get, refl, sym, ap, subst, arith, append_assoc, append-nil}
 use Rattle.std.proofs.lemmas.List.{length-map, map-append}
 use Rattle.ssb_cells.specs.Tables.{Columns}
-use Rattle.ssb_job.specs.Kept.{JobShape}
+use Rattle.ssb_plan.specs.JobShape.{JobShape}
 use Rattle.ssb_groups.specs.Entries.{AreTotals, total_columns}
 use Rattle.ssb_groups.specs.Joining.{AreJoinings, IsJoining, joinings_of, values_by}
 use Rattle.ssb_groups.specs.Keys.{AreKept, IsKept, kept_total, spelt}

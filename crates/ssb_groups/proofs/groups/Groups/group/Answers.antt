@@ -1,5 +1,5 @@
 use Rattle.std.proofs.Common.{◌∙◌, ap, slice_get, subst, sym, arith}
-use Rattle.ssb_job.specs.Kept.{JobShape}
+use Rattle.ssb_plan.specs.JobShape.{JobShape}
 use Rattle.ssb_groups.specs.Entries.{AreTotals, totals_in}
 use Rattle.ssb_groups.specs.Keys.{cells_in, key_columns}
 use Rattle.ssb_groups.specs.Stands.{GroupMap}

@@ -3,7 +3,7 @@ use Rattle.std.specs.Prelude.{option_map, IfSome}
 use Rattle.std.specs.Option.{IsSome}
 use Rattle.std.proofs.lemmas.List.{length-map}
 use Rattle.std.proofs.lemmas.Option.{same_Some, slice_get-map}
-use Rattle.ssb_job.specs.Kept.{JobShape}
+use Rattle.ssb_plan.specs.JobShape.{JobShape}
 use Rattle.ssb_groups.specs.Entries.{AreEntries, AreTotals, Entry, entries_of, entry_of}
 use Rattle.ssb_groups.specs.Keys.{IsKey, key_columns}
 use Rattle.ssb_groups.specs.declared.kept.Kept.{Kept}

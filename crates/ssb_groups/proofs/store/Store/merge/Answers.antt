@@ -2,7 +2,7 @@ use Rattle.std.proofs.Common.{◌≡◌, ◌+◌, ◌^◌, ◌<◌, map, None, s
 use Rattle.std.specs.List.{IsDistinct}
 use Rattle.std.specs.Map.{lookup}
 use Rattle.ssb_groups.specs.Joining.{joinings_of, option_joined}
-use Rattle.ssb_job.specs.Kept.{JobShape}
+use Rattle.ssb_plan.specs.JobShape.{JobShape}
 use Rattle.ssb_groups.specs.Entries.{AreEntries, entries_of}
 use Rattle.ssb_groups.specs.Rows.{key_eq}
 use Rattle.ssb_groups.specs.Stands.{GroupMap, Stands, least_of}

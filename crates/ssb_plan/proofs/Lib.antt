@@ -1,0 +1,14 @@
+pub mod Accesses
+pub mod ColumnFacts
+pub mod ColumnRows
+pub mod Conjoined
+pub mod Dimensions
+pub mod Encodings
+pub mod Indexing
+pub mod Joins
+pub mod Keys
+pub mod MarkedRows
+pub mod OneTable
+pub mod Own
+pub mod SetFacts
+pub mod TableRows

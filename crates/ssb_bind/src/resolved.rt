@@ -29,6 +29,7 @@ pub struct ResolvedName {
 pub enum ResolvedOutput {
     /// A column's value.
     Column {
+        /// The column's name.
         name: ResolvedName,
         /// Its place among the group columns, if it is one.
         group: Option<usize>,

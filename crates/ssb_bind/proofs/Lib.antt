@@ -1,5 +1,6 @@
 pub mod Bindable
 pub mod Counting
+pub mod Existing
 pub mod Finding
 pub mod Having
 pub mod Least

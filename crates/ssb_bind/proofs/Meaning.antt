@@ -9,7 +9,9 @@ use Rattle.ssb_catalog.specs.Catalog.{IsCatalog, is_table_named}
 use Rattle.ssb_catalog.specs.Shapes.{TableShape, rules_of}
 use Rattle.ssb_sql.specs.declared.select.Select.{Select}
 use Rattle.ssb_trees.specs.Conditions.{Filter}
-use Rattle.ssb_query.specs.Star.{IsStar, is_joined, unjoined_from}
+use Rattle.ssb_trees.specs.Expressions.{aggregate_columns}
+use Rattle.ssb_trees.specs.Lists.{concat}
+use Rattle.ssb_query.specs.Star.{IsStar, are_there, is_joined, is_there, unjoined_from}
 use Rattle.ssb_query.specs.Tables.{fact_place}
 use Rattle.ssb_query.specs.declared.query.Origin.{Origin}
 use Rattle.ssb_query.specs.declared.query.QueryParts.{QueryParts}
@@ -30,6 +32,7 @@ use Rattle.ssb_bind.specs.declared.fault.TooMany.TheVariants as many
 use Rattle.ssb_bind.specs.declared.fit.Wrong.TheVariants as wrong
 use Rattle.ssb_bind.specs.declared.resolved.Resolved.{Resolved}
 use Rattle.ssb_bind.proofs.Bindable.{all_one, bindable, each_one}
+use Rattle.ssb_bind.proofs.Existing.{columns_there}
 use Rattle.ssb_bind.proofs.Least.{hit, skip}
 use Rattle.ssb_bind.proofs.Relation.{all_numbers, each_item, each_order, each_table, having_is}
 
@@ -232,8 +235,8 @@ all_joined q [] from k place e below at = absurd (omega arith)
 all_joined q (name ∷ names) from zero place e below at = let here : place ≡ from = omega arith in rw here (cond-passes (is_joined q from) name (unjoined_from q (from + 1) names) e).0
 all_joined q (name ∷ names) from (suc k) place e below at = all_joined q names (from + 1) k place (cond-passes (is_joined q from) name (unjoined_from q (from + 1) names) e).1 (omega arith) (omega arith)
 
-star_of : (c : List TableShape) (r : Resolved) (s : Select) (q : QueryParts) → IsCatalog c → q.from ≡ table_numbers c s.from → q.tables ≡ rules_in c → fact_place q.tables q.from ≡ Some q.fact → first_of (shape_faults q r s) ≡ None → IsStar q
-star_of c r s q lawful from tables fact n =
+star_of : (c : List TableShape) (r : Resolved) (s : Select) (q : QueryParts) → IsCatalog c → q.from ≡ table_numbers c s.from → q.tables ≡ rules_in c → fact_place q.tables q.from ≡ Some q.fact → first_of (shape_faults q r s) ≡ None → are_there q ≡ true → IsStar q
+star_of c r s q lawful from tables fact n there =
     let same : length q.from ≡ length s.from = rw from (length-map s.from (λ name. unwrap_or (table_number c name) 0)) in
     let count : length q.tables ≡ length c = rw tables (length-map c (λ t. record { rules = rules_of t })) in
     let limits : too_many r s ≡ None = no_detail fault.TooMany _ (each_none (shape_faults q r s) 3 n) in
@@ -243,6 +246,7 @@ star_of c r s q lawful from tables fact n =
       known = rw count (rw from (known c s.from lawful.some));
       fact = fact;
       joined = λ p below. all_joined q s.from 0 p p joined (rw (← same) below) (omega arith);
+      there = there;
     }
 
 numbers_are : (c : List TableShape) (names : List (List ℕ)) (ns : List ℕ) → map (table_number c) names ≡ map Some ns → ns ≡ table_numbers c names
@@ -276,6 +280,25 @@ none_of c s q m =
     ap (λ x. first_of (shape_faults x r s)) (λ j. draft_of (record { tables = m.query.tables j; from = from j; fact = fact j; condition = condition j; groups = groups j; having = q.having; aggregates = q.aggregates; items = q.items; orders = q.orders }))
     ∙ shape_none c (rules_in c) numbers s r (draft (rules_in c) numbers r) m.no_fault
 
+front_none : (fs gs : List (Option BindFault)) → first_of (fs ++ gs) ≡ None → first_of fs ≡ None
+front_none [] gs e = refl
+front_none (Some f ∷ fs) gs e = absurd cc
+front_none (None ∷ fs) gs e = front_none fs gs e
+
+-- its names can be bound
+bindable_of : (c : List TableShape) (s : Select) (q : QueryParts) → Means c s q → IsBindable (resolved_select c q.from s)
+unfolding least_fault
+bindable_of c s q m =
+    let numbers = table_numbers c s.from in
+    let r = resolved_select c numbers s in
+    let names = front_none (name_faults c (rules_in c) numbers r s) (shape_faults (draft (rules_in c) numbers r) r s) m.no_fault in
+    let found = rest_none (with fault.UnknownTable (unknown_table c s.from)) (resolved_faults (rules_in c) numbers r s) names in
+    subst (λ f. IsBindable (resolved_select c f s)) (sym (numbers_are c s.from q.from m.query.from)) (is_bindable (rules_in c) numbers r s found).1
+
+-- the columns that it has are there
+there_of : (c : List TableShape) (s : Select) (q : QueryParts) → Means c s q → are_there q ≡ true
+there_of c s q m = (λ j. list_all (is_there (m.query.tables j) q.from) (m.query.groups j ++ concat (map aggregate_columns (m.query.aggregates j)))) ∙ columns_there c q.from s (bindable_of c s q m)
+
 -- what every query keeps
 pub star : (c : List TableShape) (s : Select) (q : QueryParts) → IsCatalog c → Means c s q → IsStar q
-star c s q lawful m = star_of c (resolved_select c (table_numbers c s.from) s) s q lawful (numbers_are c s.from q.from m.query.from) m.query.tables m.query.fact (none_of c s q m)
+star c s q lawful m = star_of c (resolved_select c (table_numbers c s.from) s) s q lawful (numbers_are c s.from q.from m.query.from) m.query.tables m.query.fact (none_of c s q m) (there_of c s q m)

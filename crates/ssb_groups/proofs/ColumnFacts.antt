@@ -1,21 +1,26 @@
 -- How the key of a combination is read in the group columns, and spelt again.
-use Rattle.std.proofs.Common.{◌≡◌, ◌∙◌, ◌<◌, ◌≤◌, ◌+◌, ◌++◌, ℕ, zero, suc, Bool, true, false, nat_lt, bytes_eq, cond, get_or, List, [], ◌∷◌, Option, None, Some, Contains, length, drop, fold, map, slice_get, refl, sym, ap, ap₂, subst, arith, append-nil, append_assoc}
-use Rattle.std.specs.Prelude.{unwrap_or, option_map, if◌then◌else◌}
-use Rattle.std.specs.List.{position_or_len}
+use Rattle.std.proofs.Common.{◌≡◌, ◌∙◌, ◌<◌, ◌≤◌, ◌+◌, ◌++◌, ℕ, zero, suc, Bool, true, true≢false, bytes_eq, cond, get_or, List, [], ◌∷◌, Option, None, Some, Contains, length, drop, fold, map, slice_get, refl, sym, ap, ap₂, subst, arith, append-nil, append_assoc}
+use Rattle.std.specs.Prelude.{unwrap_or, option_map}
+use Rattle.std.specs.List.{list_all, position_or_len}
 use Rattle.std.proofs.Math.Dec.{ltb}
-use Rattle.std.proofs.lemmas.Bool.{ltb-true, ltb-false, lt-ltb, le-ltb}
-use Rattle.std.proofs.lemmas.Option.{same_Some, slice_get-map, slice_get_read, slice_get_within, slice_get_past, get_or_from_slice_get, slice_get-get_or}
+use Rattle.std.proofs.lemmas.Bool.{eqb-true, ltb-true, lt-ltb}
+use Rattle.std.proofs.lemmas.Option.{same_Some, slice_get-map, slice_get_read, slice_get_within, get_or_from_slice_get, slice_get-get_or}
+use Rattle.ssb_terms.specs.declared.rule.ColType.{ColType}
+use Rattle.ssb_terms.specs.declared.rule.ColType.TheVariants as kinds
 use Rattle.ssb_trees.proofs.Finding.{here}
+use Rattle.ssb_trees.proofs.Taken.{both}
 use Rattle.ssb_query.specs.declared.column.BoundColumn.{BoundColumn}
 use Rattle.ssb_cells.specs.Cell.{Cell, null, number, text}
 use Rattle.ssb_cells.specs.Codes.{code_of, texts_of}
 use Rattle.ssb_cells.specs.Tables.{Filled, rows_in, cell_in_column, Columns}
 use Rattle.ssb_cells.proofs.CodeFacts.{among, place-known}
 use Rattle.ssb_conditions.specs.Rows.{IsCombination, cell_by, column_value}
+use Rattle.ssb_plan.specs.Inputs.{column_in, column_ref, has_column, is_number, is_of_kind}
 use Rattle.ssb_plan.specs.JobShape.{JobShape, from_tables}
-use Rattle.ssb_groups.specs.Keys.{AreKept, IsKept, column_in, column_values, key_cell, key_columns, key_of, kept_cell, spelt, spelt_cell, values_in}
-use Rattle.ssb_groups.specs.Places.{HasSomeRow, IsSomePlace, cell_at_place, place_in, place_of, table_at, values_at}
-use Rattle.ssb_groups.specs.declared.place.Place.{Place}
+use Rattle.ssb_plan.specs.declared.input.ColumnRef.{ColumnRef}
+use Rattle.ssb_groups.specs.Keys as keys
+use Rattle.ssb_groups.specs.Keys.{AreKept, IsKept, column_values, key_cell, key_columns, key_of, kept_cell, spelt, spelt_cell, values_in}
+use Rattle.ssb_groups.specs.Refs.{HasRow, IsColumn, bound, cell_in, table_at, values_at, values_of}
 use Rattle.ssb_groups.specs.declared.kept.Kept.{Kept}
 use Rattle.ssb_groups.specs.declared.kept.Kept.TheVariants as kept
 
@@ -28,8 +33,8 @@ pub table-here : (tables : List Columns) (n : ℕ) (t : Columns) → n < length 
 table-here tables n t within is = ap (λ o. unwrap_or o []) (slice_get_read tables (length tables) n t refl within is)
 
 -- the values of the column that stands there
-pub values-here : (tables : List Columns) (place : Option Place) (p : Place) (t : Columns) (column : Filled) → place ≡ Some p → table_at tables p.table ≡ t → slice_get t p.column ≡ Some column → values_at tables place ≡ column.values
-values-here tables place p t column is here at = ap (values_at tables) is ∙ ap (λ (xs : Columns). values_in (slice_get xs p.column)) here ∙ ap values_in at
+pub values-here : (tables : List Columns) (column : Option ColumnRef) (r : ColumnRef) (t : Columns) (f : Filled) → column ≡ Some r → table_at tables r.table ≡ t → slice_get t r.column ≡ Some f → values_at tables column ≡ f.values
+values-here tables column r t f is here at = ap (values_at tables) is ∙ ap (λ (xs : Columns). values_in (slice_get xs r.column)) here ∙ ap values_in at
 
 -- ---- what stands for a value spells it
 
@@ -56,7 +61,7 @@ respells-in : (f : Option Filled) (i : ℕ) → Respells (values_in f) (unwrap_o
 respells-in None i = (refl, tt)
 respells-in (Some f) i = respells-at f.values i (slice_get f.values i) refl
 
-pub respells-by : (t : Option Columns) (column : ℕ) (row : Option ℕ) → Respells (values_in (column_in t column)) (cell_by t column row)
+pub respells-by : (t : Option Columns) (column : ℕ) (row : Option ℕ) → Respells (values_in (keys.column_in t column)) (cell_by t column row)
 respells-by None column row = (refl, tt)
 respells-by (Some t) column None = (refl, tt)
 respells-by (Some t) column (Some r) = respells-in (slice_get t column) r
@@ -82,54 +87,6 @@ text-cell values t has none = let known = place-known (texts_of values) t ((amon
 
 -- ---- where the columns stand
 
--- what holds of a column's place where it is there, and where it is not
-by-place : (P : Option Place → Type 0) (tables : List Columns) (x : BoundColumn) (o : Option ℕ)
-    → (o ≡ None → P None)
-    → ((n : ℕ) → o ≡ Some n → length (table_at tables n) ≤ x.column → P None)
-    → ((n : ℕ) → o ≡ Some n → x.column < length (table_at tables n) → P (Some (record { from = x.table; table = n; column = x.column })))
-    → P (place_in tables x o)
-by-place P tables x None none short there = none refl
-by-place P tables x (Some n) none short there = by (nat_lt x.column (length (table_at tables n))) refl
-  where
-    by : (b : Bool) → nat_lt x.column (length (table_at tables n)) ≡ b → P (if b then Some (record { from = x.table; table = n; column = x.column }) else None)
-    by true e = there n refl (ltb-true _ _ e)
-    by false e = short n refl (ltb-false _ _ e)
-
--- a column has no place where its table is none of the query's, or has no such column; else it has this one
-module _ (j : JobShape) (x : BoundColumn) where
-  pub no-table : slice_get j.query.from x.table ≡ None → place_of j x ≡ None
-  no-table none = ap (place_in j.tables x) none
-
-  module _ (n : ℕ) (number : slice_get j.query.from x.table ≡ Some n) where
-    pub no-column : length (table_at j.tables n) ≤ x.column → place_of j x ≡ None
-    no-column past = ap (place_in j.tables x) number ∙ ap (λ b. if b then Some (record { from = x.table; table = n; column = x.column }) else None) (le-ltb _ _ past)
-
-    pub is-place : x.column < length (table_at j.tables n) → place_of j x ≡ Some (record { from = x.table; table = n; column = x.column })
-    is-place lt = ap (place_in j.tables x) number ∙ ap (λ b. if b then Some (record { from = x.table; table = n; column = x.column }) else None) (lt-ltb _ _ lt)
-
-from-at : (j : JobShape) (i : ℕ) (o : Option ℕ) → slice_get j.query.from i ≡ o → slice_get (from_tables j) i ≡ option_map (table_at j.tables) o
-from-at j i o e = slice_get-map (table_at j.tables) j.query.from i ∙ ap (option_map (table_at j.tables)) e
-
--- its values are the column's
-pub place-values : (j : JobShape) (x : BoundColumn) → values_at j.tables (place_of j x) ≡ column_values (from_tables j) x
-place-values j x =
-    by-place (λ p. values_at j.tables p ≡ column_values (from_tables j) x) j.tables x (slice_get j.query.from x.table)
-    (λ e. sym (ap in-table (from-at j x.table None e)))
-    (λ n e past. sym (ap in-table (from-at j x.table (Some n) e) ∙ ap values_in (slice_get_past (table_at j.tables n) x.column past)))
-    (λ n e lt. sym (ap in-table (from-at j x.table (Some n) e)))
-  where
-    in-table : Option Columns → List Cell
-    in-table t = values_in (column_in t x.column)
-
-table-there : (tables : List Columns) (n column : ℕ) → column < length (table_at tables n) → n < length tables
-table-there [] n column lt = absurd (omega arith)
-table-there (t ∷ ts) zero column lt = omega arith
-table-there (t ∷ ts) (suc n) column lt = let less = table-there ts n column lt in omega (arith, less)
-
-pub place-there : (j : JobShape) (x : BoundColumn) → IsSomePlace j.tables (place_of j x)
-place-there j x =
-    by-place (IsSomePlace j.tables) j.tables x (slice_get j.query.from x.table) (λ e. tt) (λ n e past. tt) (λ n e lt. record { table = table-there j.tables n x.column lt; column = lt })
-
 -- a combination has a row of each table
 row-there : (ts : List Columns) (rows : List ℕ) (i : ℕ) (t : Columns) → IsCombination ts rows → slice_get ts i ≡ Some t → (r : ℕ) × (slice_get rows i ≡ Some r) × (r < rows_in t)
 row-there [] rows i t c e = cc
@@ -137,18 +94,21 @@ row-there (u ∷ ts) [] i t c e = absurd c
 row-there (u ∷ ts) (r ∷ rows) zero t c e = (r, refl, subst (λ v. r < rows_in v) (same_Some u t e) c.0)
 row-there (u ∷ ts) (r ∷ rows) (suc i) t c e = row-there ts rows i t c.1 e
 
-pub place-row : (j : JobShape) (rows : List ℕ) (x : BoundColumn) → IsCombination (from_tables j) rows → HasSomeRow j.tables rows (place_of j x)
-place-row j rows x c =
-    by-place (HasSomeRow j.tables rows) j.tables x (slice_get j.query.from x.table) (λ e. tt) (λ n e past. tt)
-    (λ n e lt.
-    let (r, at, below) = row-there (from_tables j) rows x.table (table_at j.tables n) c (from-at j x.table (Some n) e) in
-    record { from = slice_get_within rows x.table r at; row = subst (λ o. unwrap_or o 0 < rows_in (table_at j.tables n)) (sym at) below })
+number-is : (n : ℕ) (o : Option ℕ) → is_number n o ≡ true → o ≡ Some n
+number-is n None h = absurd (true≢false (sym h))
+number-is n (Some m) h = ap Some (eqb-true m n h)
 
--- ---- a cell at a place is that of its column
-
-null-past : (t : Columns) (column : ℕ) (row : Option ℕ) → length t ≤ column → cell_by (Some t) column row ≡ null
-null-past t column None past = refl
-null-past t column (Some r) past = ap (λ f. unwrap_or (cell_in_column f r) null) (slice_get_past t column past)
+-- the table at a number, and a column there
+found-in : (kind : ColType) (tables : List Columns) (r : ColumnRef) (t : Option Columns) → slice_get tables r.table ≡ t → is_of_kind kind (column_in t r) ≡ true → IsColumn tables r
+found-in kind tables r None e h = absurd (true≢false (sym h))
+found-in kind tables r (Some t) e h = record {
+  table = slice_get_within tables r.table t e;
+  column = subst (λ (o : Option Columns). r.column < length (unwrap_or o [])) (sym e) (inside (slice_get t r.column) refl h);
+}
+  where
+    inside : (f : Option Filled) → slice_get t r.column ≡ f → is_of_kind kind f ≡ true → r.column < length t
+    inside None g h = absurd (true≢false (sym h))
+    inside (Some f) g h = slice_get_within t r.column f g
 
 same-in : (f : Option Filled) (r : ℕ) → unwrap_or (slice_get (values_in f) r) null ≡ unwrap_or (cell_in_column f r) null
 same-in None r = refl
@@ -157,39 +117,61 @@ same-in (Some f) r = refl
 same-by : (t : Columns) (column r : ℕ) (row : Option ℕ) → row ≡ Some r → unwrap_or (slice_get (values_in (slice_get t column)) (unwrap_or row 0)) null ≡ cell_by (Some t) column row
 same-by t column r row e = rw e (same-in (slice_get t column) r)
 
-pub place-cell : (j : JobShape) (rows : List ℕ) (x : BoundColumn) → IsCombination (from_tables j) rows → cell_at_place j.tables rows (place_of j x) ≡ key_cell (from_tables j) rows x
-place-cell j rows x c =
-    by-place (λ p. cell_at_place j.tables rows p ≡ key_cell (from_tables j) rows x) j.tables x (slice_get j.query.from x.table)
-    (λ e. sym (ap in-table (from-at j x.table None e)))
-    (λ n e past. sym (ap in-table (from-at j x.table (Some n) e) ∙ ap (kept_cell (values_in (slice_get (table_at j.tables n) x.column))) (null-past (table_at j.tables n) x.column (slice_get rows x.table) past)))
-    (λ n e lt.
-    let (r, at, below) = row-there (from_tables j) rows x.table (table_at j.tables n) c (from-at j x.table (Some n) e) in
-    ap (kept_cell (values_in (slice_get (table_at j.tables n) x.column))) (same-by (table_at j.tables n) x.column r (slice_get rows x.table) at) ∙ sym (ap in-table (from-at j x.table (Some n) e)))
-  where
-    in-table : Option Columns → Kept
-    in-table t = kept_cell (values_in (column_in t x.column)) (cell_by t x.column (slice_get rows x.table))
+-- a column that the job has
+module _ (j : JobShape) (r : ColumnRef) (has : has_column j.query j.tables r ≡ true) where
+  pub place-there : IsColumn j.tables r
+  place-there = found-in r.kind j.tables r (slice_get j.tables r.table) refl (both (is_number r.table (slice_get j.query.from r.place)) (is_of_kind r.kind (column_in (slice_get j.tables r.table) r)) has).1
 
--- ---- all places
+  from-at : slice_get (from_tables j) r.place ≡ Some (table_at j.tables r.table)
+  from-at =
+      slice_get-map (table_at j.tables) j.query.from r.place
+      ∙ ap (option_map (table_at j.tables)) (number-is r.table (slice_get j.query.from r.place) (both (is_number r.table (slice_get j.query.from r.place)) (is_of_kind r.kind (column_in (slice_get j.tables r.table) r)) has).0)
 
--- what holds of each column's place
-pub each-place : (P : Option Place → Type 0) (j : JobShape) (xs : List BoundColumn) (i : ℕ) (p : Option Place) → ((x : BoundColumn) → P (place_of j x)) → slice_get (map (place_of j) xs) i ≡ Some p → P p
-each-place P j [] i p all e = cc
-each-place P j (x ∷ xs) zero p all e = subst P (same_Some (place_of j x) p e) (all x)
-each-place P j (x ∷ xs) (suc i) p all e = each-place P j xs i p all e
+  -- its values are the column's
+  pub place-values : values_of j.tables r ≡ column_values (from_tables j) (bound r)
+  place-values = sym (ap (λ (t : Option Columns). values_in (keys.column_in t r.column)) from-at)
 
--- the cells at the places are the key
-pub place-cells : (j : JobShape) (rows : List ℕ) (xs : List BoundColumn) → IsCombination (from_tables j) rows → map (cell_at_place j.tables rows) (map (place_of j) xs) ≡ map (key_cell (from_tables j) rows) xs
-place-cells j rows [] c = refl
-place-cells j rows (x ∷ xs) c = ap₂ (λ k ks. k ∷ ks) (place-cell j rows x c) (place-cells j rows xs c)
+  pub place-row : (rows : List ℕ) → IsCombination (from_tables j) rows → HasRow j.tables rows r
+  place-row rows c =
+      let (n, at, below) = row-there (from_tables j) rows r.place (table_at j.tables r.table) c from-at in
+      record { place = slice_get_within rows r.place n at; row = subst (λ o. unwrap_or o 0 < rows_in (table_at j.tables r.table)) (sym at) below }
 
--- the columns of keys are those at the places
-pub place-columns : (j : JobShape) (xs : List BoundColumn) → map (values_at j.tables) (map (place_of j) xs) ≡ map (column_values (from_tables j)) xs
-place-columns j [] = refl
-place-columns j (x ∷ xs) = ap₂ (λ k ks. k ∷ ks) (place-values j x) (place-columns j xs)
+  -- a cell there is that of its column
+  pub place-cell : (rows : List ℕ) → IsCombination (from_tables j) rows → cell_in j.tables rows r ≡ key_cell (from_tables j) rows (bound r)
+  place-cell rows c =
+      let (n, at, below) = row-there (from_tables j) rows r.place (table_at j.tables r.table) c from-at in
+      ap (kept_cell (values_of j.tables r)) (same-by (table_at j.tables r.table) r.column n (slice_get rows r.place) at) ∙ sym (ap in-table from-at)
+    where
+      in-table : Option Columns → Kept
+      in-table t = kept_cell (values_in (keys.column_in t r.column)) (cell_by t r.column (slice_get rows r.place))
 
-pub column-at : (j : JobShape) (i : ℕ) (p : Option Place) → slice_get (map (place_of j) j.query.groups) i ≡ Some p → slice_get (key_columns j) i ≡ Some (values_at j.tables p)
-column-at j i p at =
-    ap (λ cs. slice_get cs i) (sym (place-columns j j.query.groups)) ∙ slice_get-map (values_at j.tables) (map (place_of j) j.query.groups) i ∙ ap (option_map (values_at j.tables)) at
+-- ---- all columns
+
+-- each of the columns is there
+pub each-there : (has : ColumnRef → Bool) (rs : List ColumnRef) (i : ℕ) (r : ColumnRef) → list_all has rs ≡ true → slice_get rs i ≡ Some r → has r ≡ true
+each-there has [] i r h e = cc
+each-there has (q ∷ rs) zero r h e = subst (λ x. has x ≡ true) (same_Some q r e) (both (has q) (list_all has rs) h).0
+each-there has (q ∷ rs) (suc i) r h e = each-there has rs i r (both (has q) (list_all has rs) h).1 e
+
+module _ (j : JobShape) where
+  -- the cells are the key
+  pub place-cells : (rows : List ℕ) (xs : List BoundColumn) → list_all (has_column j.query j.tables) (map (column_ref j.query) xs) ≡ true → IsCombination (from_tables j) rows
+      → map (cell_in j.tables rows) (map (column_ref j.query) xs) ≡ map (key_cell (from_tables j) rows) xs
+  place-cells rows [] h c = refl
+  place-cells rows (x ∷ xs) h c =
+      let k = both (has_column j.query j.tables (column_ref j.query x)) (list_all (has_column j.query j.tables) (map (column_ref j.query) xs)) h in
+      ap₂ (λ k ks. k ∷ ks) (place-cell j (column_ref j.query x) k.0 rows c) (place-cells rows xs k.1 c)
+
+  -- the columns of keys are those
+  place-columns : (xs : List BoundColumn) → list_all (has_column j.query j.tables) (map (column_ref j.query) xs) ≡ true → map (values_of j.tables) (map (column_ref j.query) xs) ≡ map (column_values (from_tables j)) xs
+  place-columns [] h = refl
+  place-columns (x ∷ xs) h =
+      let k = both (has_column j.query j.tables (column_ref j.query x)) (list_all (has_column j.query j.tables) (map (column_ref j.query) xs)) h in
+      ap₂ (λ k ks. k ∷ ks) (place-values j (column_ref j.query x) k.0) (place-columns xs k.1)
+
+  pub column-at : list_all (has_column j.query j.tables) (map (column_ref j.query) j.query.groups) ≡ true → (i : ℕ) (r : ColumnRef) → slice_get (map (column_ref j.query) j.query.groups) i ≡ Some r → slice_get (key_columns j) i ≡ Some (values_of j.tables r)
+  column-at h i r at =
+      ap (λ cs. slice_get cs i) (sym (place-columns j.query.groups h)) ∙ slice_get-map (values_of j.tables) (map (column_ref j.query) j.query.groups) i ∙ ap (option_map (values_of j.tables)) at
 
 -- ---- one cell after the other
 
@@ -242,30 +224,34 @@ cell-there columns cells i is lt = let same = kept-length columns cells is in om
 
 -- ---- at one of the group columns
 
--- at this number stand a place in the tables, its column, and a cell of the key
-pub record IsAt (j : JobShape) (tables : List Columns) (cells key : List Kept) (i : ℕ) (p : Option Place) : Type 0 where
-  pub place : IsSomePlace tables p
-  pub column : slice_get (key_columns j) i ≡ Some (values_at tables p)
+-- the column of no table
+abbrev pub nowhere : ColumnRef
+nowhere = record { place = 0; table = 0; column = 0; kind = kinds.Int }
+
+-- at this number stand a column of the tables, and a cell of the key
+pub record IsAt (j : JobShape) (tables : List Columns) (cells key : List Kept) (i : ℕ) (r : ColumnRef) : Type 0 where
+  pub there : IsColumn tables r
+  pub column : slice_get (key_columns j) i ≡ Some (values_of tables r)
   pub below : i < length cells
   pub cell : slice_get key i ≡ Some (get_or cells i kept.Null)
 
-pub is-at : (j : JobShape) (tables : List Columns) (places : List (Option Place)) (cells key : List Kept) (i : ℕ)
-    → tables ≡ j.tables → places ≡ map (place_of j) j.query.groups → cells ≡ key → AreKept (key_columns j) key → i < length places → IsAt j tables cells key i (get_or places i None)
-is-at j tables places cells key i t ps cs is lt = record {
-  place = subst (λ ts. IsSomePlace ts p) (sym t) (each-place (IsSomePlace j.tables) j j.query.groups i p (place-there j) at);
+pub is-at : (j : JobShape) (tables : List Columns) (rs : List ColumnRef) (cells key : List Kept) (i : ℕ)
+    → tables ≡ j.tables → rs ≡ map (column_ref j.query) j.query.groups → list_all (has_column j.query j.tables) rs ≡ true → cells ≡ key → AreKept (key_columns j) key → i < length rs → IsAt j tables cells key i (get_or rs i nowhere)
+is-at j tables rs cells key i t ks has cs all lt = record {
+  there = subst (λ ts. IsColumn ts r) (sym t) (place-there j r (each-there (has_column j.query j.tables) rs i r has here));
   column = column;
   below = subst (λ ks. i < length ks) (sym cs) inside;
   cell = slice_get-get_or key i kept.Null inside ∙ ap (λ ks. Some (get_or ks i kept.Null)) (sym cs);
 }
   where
-    p : Option Place
-    p = get_or places i None
+    r : ColumnRef
+    r = get_or rs i nowhere
 
-    at : slice_get (map (place_of j) j.query.groups) i ≡ Some p
-    at = ap (λ xs. slice_get xs i) (sym ps) ∙ slice_get-get_or places i None lt
+    here : slice_get rs i ≡ Some r
+    here = slice_get-get_or rs i nowhere lt
 
-    column : slice_get (key_columns j) i ≡ Some (values_at tables p)
-    column = column-at j i p at ∙ ap (λ ts. Some (values_at ts p)) (sym t)
+    column : slice_get (key_columns j) i ≡ Some (values_of tables r)
+    column = column-at j (subst (λ xs. list_all (has_column j.query j.tables) xs ≡ true) ks has) i r (ap (λ xs. slice_get xs i) (sym ks) ∙ here) ∙ ap (λ ts. Some (values_of ts r)) (sym t)
 
     inside : i < length key
-    inside = cell-there (key_columns j) key i is (slice_get_within (key_columns j) i _ column)
+    inside = cell-there (key_columns j) key i all (slice_get_within (key_columns j) i _ column)

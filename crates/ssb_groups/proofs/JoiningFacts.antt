@@ -1,44 +1,21 @@
 -- Joining totals place by place.
-use Rattle.std.proofs.Common.{◌≡◌, ℕ, zero, suc, ◌<◌, ◌≤◌, drop, List, [], ◌∷◌, length, map, get_or, Option, None, Some, refl, sym, ap, ap₂, subst, ◌∙◌, arith}
+use Rattle.std.proofs.Common.{◌≡◌, ℕ, zero, suc, ◌<◌, ◌≤◌, drop, List, [], ◌∷◌, length, map, get_or, Some, refl, sym, ap, ap₂, subst, ◌∙◌, arith}
 use Rattle.std.proofs.Math.ListN.{set}
 use Rattle.std.proofs.lemmas.List.{get_or-map, length-map, map-set}
 use Rattle.std.proofs.lemmas.Option.{slice_get-get_or, slice_get-map}
 use Rattle.std.specs.Prelude.{option_map, slice_get}
 use Rattle.ssb_cells.specs.Cell.{Cell}
 use Rattle.ssb_cells.specs.Tables.{Columns}
-use Rattle.ssb_plan.specs.JobShape.{JobShape}
-use Rattle.ssb_query.specs.declared.column.BoundColumn.{BoundColumn}
-use Rattle.ssb_trees.specs.declared.aggregate.Aggregate.{Aggregate}
-use Rattle.ssb_trees.specs.declared.aggregate.Aggregate.TheVariants as aggregate
-use Rattle.ssb_trees.specs.declared.aggregate.SetFunction.TheVariants as function
-use Rattle.ssb_groups.specs.Joining.{AreJoinings, Fits, FitEach, IsJoining, joined, joined_each, joined_front, joining_of, place_alone}
+use Rattle.ssb_groups.specs.Joining.{AreJoinings, Fits, FitEach, IsJoining, joined, joined_each, joined_front}
 use Rattle.ssb_groups.specs.Keys.{AreKept, IsKept, kept_total, spelt, spelt_cell}
-use Rattle.ssb_groups.specs.Places.{IsSomePlace}
-use Rattle.ssb_groups.specs.Value.{column_of}
 use Rattle.ssb_groups.specs.declared.joining.Joining.{Joining}
 use Rattle.ssb_groups.specs.declared.joining.Joining.TheVariants as joining
 use Rattle.ssb_groups.specs.declared.kept.Kept.{Kept}
 use Rattle.ssb_groups.specs.declared.kept.Kept.TheVariants as kept
 use Rattle.ssb_groups.specs.declared.kept.KeptTotal.{KeptTotal}
 use Rattle.ssb_groups.specs.declared.kept.KeptTotal.TheVariants as total
-use Rattle.ssb_groups.proofs.ColumnFacts.{place-there}
 
--- ---- the joinings_of of a job
-
-some-there : (j : JobShape) (o : Option BoundColumn) → IsSomePlace j.tables (place_alone j o)
-some-there j None = tt
-some-there j (Some x) = place-there j x
-
-joining-there : (j : JobShape) (a : Aggregate BoundColumn) → IsJoining j.tables (joining_of j a)
-joining-there j aggregate.Rows = tt
-joining-there j (aggregate.Of function.Sum e) = tt
-joining-there j (aggregate.Of function.Count e) = tt
-joining-there j (aggregate.Of function.Min e) = some-there j (column_of e)
-joining-there j (aggregate.Of function.Max e) = some-there j (column_of e)
-
-pub joinings-there : (j : JobShape) (aggs : List (Aggregate BoundColumn)) → AreJoinings j.tables (map (joining_of j) aggs)
-joinings-there j [] = tt
-joinings-there j (a ∷ aggs) = (joining-there j a, joinings-there j aggs)
+-- ---- the joinings of a job
 
 pub joining-at : (tables : List Columns) (ws : List Joining) (i : ℕ) (d : Joining) → AreJoinings tables ws → i < length ws → IsJoining tables (get_or ws i d)
 joining-at tables [] i d h below = absurd (omega arith)

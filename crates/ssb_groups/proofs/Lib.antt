@@ -3,6 +3,7 @@ pub mod AggregateFacts
 pub mod AnyRows
 pub mod Bounds
 pub mod ColumnFacts
+pub mod InputFacts
 pub mod JoiningFacts
 pub mod KeyFacts
 mod MergeFacts

@@ -13,25 +13,18 @@ use Rattle.ssb_trees.specs.declared.expr.Expr.{Expr}
 use Rattle.ssb_conditions.specs.Rows.{column_value}
 use Rattle.ssb_plan.specs.JobShape.{JobShape, from_tables}
 use Rattle.ssb_groups.specs.Aggregates.{agg}
-use Rattle.ssb_groups.specs.Gathering.{IsGathered, IsTaken, alone, texts_by}
-use Rattle.ssb_groups.specs.Joining.{joining_of, place_alone, values_by}
+use Rattle.ssb_groups.specs.Gathering.{IsGathered, IsTaken, alone}
+use Rattle.ssb_groups.specs.Joining.{joining_of, values_by}
 use Rattle.ssb_groups.specs.Keys.{AreKept, IsKept, kept_total, spelt, spelt_cell}
 use Rattle.ssb_groups.specs.Outcomes.{kept_outcome}
-use Rattle.ssb_groups.specs.Places.{values_at}
 use Rattle.ssb_groups.specs.Seen.{argument}
 use Rattle.ssb_groups.specs.Stands.{is_over, EachRanged}
-use Rattle.ssb_groups.specs.Value.{over, known, column_of}
+use Rattle.ssb_groups.specs.Value.{over, known}
 use Rattle.ssb_groups.specs.declared.gather.Taken.{Taken}
 use Rattle.ssb_groups.specs.declared.kept.Kept.{Kept}
 use Rattle.ssb_groups.specs.declared.kept.Kept.TheVariants as kept
 
 -- ---- one aggregate
-
-pub texts-are : (j : JobShape) (f : SetFunction) (e : Expr BoundColumn) → values_by j.tables (joining_of j (aggregate.Of f e)) ≡ texts_by f (values_at j.tables (place_alone j (column_of e)))
-texts-are j function.Sum e = refl
-texts-are j function.Count e = refl
-texts-are j function.Min e = refl
-texts-are j function.Max e = refl
 
 nothing : (f : SetFunction) (e : Expr BoundColumn) → agg (aggregate.Of f e) (known null ∷ []) ≡ agg (aggregate.Of f e) (over ∷ [])
 nothing function.Sum e = refl

@@ -1,38 +1,46 @@
 -- Totals over two lists of rows, from those over each.
 -- For the contracts inside this crate.
-use Rattle.std.specs.Prelude.{ℕ, zero, suc, ◌+ℤ◌, ◌≡◌, ⊤, cond, List, [], ◌∷◌, map, Option, None, Some}
+use Rattle.std.specs.Prelude.{ℕ, zero, suc, ◌+ℤ◌, ◌≡◌, ⊤, true, cond, List, [], ◌∷◌, map, Option, None, Some, option_map}
 use Rattle.std.specs.Int.RustNames.{FitsSigned}
 use Rattle.std.specs.Int.{w128}
+use Rattle.std.specs.List.{list_all}
 use Rattle.std.specs.Map.{lookup}
 use Rattle.ssb_cells.specs.Cell.{Cell, null, number}
 use Rattle.ssb_cells.specs.Tables.{Columns}
+use Rattle.ssb_plan.specs.Inputs.{column_ref, has_column}
 use Rattle.ssb_plan.specs.JobShape.{JobShape}
+use Rattle.ssb_plan.specs.declared.input.ColumnRef.{ColumnRef}
 use Rattle.ssb_query.specs.declared.column.BoundColumn.{BoundColumn}
+use Rattle.ssb_trees.specs.Expressions.{own_column}
 use Rattle.ssb_trees.specs.declared.aggregate.Aggregate.{Aggregate}
 use Rattle.ssb_trees.specs.declared.aggregate.Aggregate.TheVariants as aggregate
+use Rattle.ssb_trees.specs.declared.aggregate.SetFunction.{SetFunction}
 use Rattle.ssb_trees.specs.declared.aggregate.SetFunction.TheVariants as function
+use Rattle.ssb_trees.specs.declared.expr.Expr.{Expr}
 use Rattle.ssb_groups.specs.Aggregates.{greater, lesser}
 use Rattle.ssb_groups.specs.Keys.{IsKept}
-use Rattle.ssb_groups.specs.Places.{IsSomePlace, place_of, values_at}
+use Rattle.ssb_groups.specs.Refs.{IsSomeColumn, values_at}
 use Rattle.ssb_groups.specs.Rows.{Key, key_eq}
-use Rattle.ssb_groups.specs.Value.{column_of}
 use Rattle.ssb_groups.specs.declared.joining.Joining.{Joining}
 use Rattle.ssb_groups.specs.declared.joining.Joining.TheVariants as joining
 use Rattle.ssb_groups.specs.declared.kept.Kept.{Kept}
-use Rattle.ssb_groups.specs.declared.place.Place.{Place}
 
 -- ---- how an aggregate's totals are joined
 
-abbrev pub place_alone : JobShape → Option BoundColumn → Option Place
-place_alone j None = None
-place_alone j (Some x) = place_of j x
+-- the column that an expression is, if it is one alone
+abbrev pub sole_ref : JobShape → Expr BoundColumn → Option ColumnRef
+sole_ref j e = option_map (column_ref j.query) (own_column e)
+
+-- that of a set function, by the column whose values it takes, if it takes one's
+abbrev pub joining_by : SetFunction → Option ColumnRef → Joining
+joining_by function.Sum column = joining.Adds
+joining_by function.Count column = joining.Adds
+joining_by function.Min column = joining.Least column
+joining_by function.Max column = joining.Greatest column
 
 abbrev pub joining_of : JobShape → Aggregate BoundColumn → Joining
 joining_of j aggregate.Rows = joining.Adds
-joining_of j (aggregate.Of function.Sum e) = joining.Adds
-joining_of j (aggregate.Of function.Count e) = joining.Adds
-joining_of j (aggregate.Of function.Min e) = joining.Least (place_alone j (column_of e))
-joining_of j (aggregate.Of function.Max e) = joining.Greatest (place_alone j (column_of e))
+joining_of j (aggregate.Of f e) = joining_by f (sole_ref j e)
 
 -- those of a job's aggregates
 abbrev pub joinings_of : JobShape → List Joining
@@ -44,19 +52,27 @@ values_by tables joining.Adds = []
 values_by tables (joining.Least p) = values_at tables p
 values_by tables (joining.Greatest p) = values_at tables p
 
--- its place is one of the tables
+-- its column is one of the tables'
 abbrev pub IsJoining : List Columns → Joining → Type 0
 IsJoining tables joining.Adds = ⊤
-IsJoining tables (joining.Least p) = IsSomePlace tables p
-IsJoining tables (joining.Greatest p) = IsSomePlace tables p
+IsJoining tables (joining.Least p) = IsSomeColumn tables p
+IsJoining tables (joining.Greatest p) = IsSomeColumn tables p
 
 abbrev pub AreJoinings : List Columns → List Joining → Type 0
 AreJoinings tables [] = ⊤
 AreJoinings tables (w ∷ ws) = IsJoining tables w × AreJoinings tables ws
 
--- two totals of a column at a place of the tables
-pub record AreOfPlace (tables : List Columns) (p : Option Place) (a b : Kept) : Type 0 where
-  pub place : IsSomePlace tables p
+-- The columns of a job's groups, and how its aggregates' totals are joined: all of their columns are the tables'.
+pub record AreColumnsOf (j : JobShape) (ts : List Columns) (rs : List ColumnRef) (ws : List Joining) : Type 0 where
+  pub tables : ts ≡ j.tables
+  pub keys : rs ≡ map (column_ref j.query) j.query.groups
+  pub joinings : ws ≡ joinings_of j
+  pub there : list_all (has_column j.query j.tables) rs ≡ true
+  pub known : AreJoinings j.tables ws
+
+-- two totals of a column of the tables
+pub record AreOfColumn (tables : List Columns) (p : Option ColumnRef) (a b : Kept) : Type 0 where
+  pub column : IsSomeColumn tables p
   pub left : IsKept (values_at tables p) a
   pub right : IsKept (values_at tables p) b
 

@@ -4,7 +4,7 @@ pub mod Gathering
 pub mod Joining
 pub mod Keys
 pub mod Outcomes
-pub mod Places
+pub mod Refs
 pub mod Rows
 pub mod Seen
 pub mod Stands

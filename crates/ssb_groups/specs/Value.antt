@@ -5,6 +5,7 @@ use Rattle.ssb_cells.specs.Cell.{Cell, null, number, text}
 use Rattle.ssb_terms.specs.declared.operator.Adding.{Adding}
 use Rattle.ssb_terms.specs.declared.operator.Adding.TheVariants as adding
 use Rattle.ssb_query.specs.declared.column.BoundColumn.{BoundColumn}
+use Rattle.ssb_trees.specs.Expressions.{own_column}
 use Rattle.ssb_trees.specs.declared.expr.Expr.TheOpen.{Expr-F, Step-F}
 use Rattle.ssb_trees.specs.declared.expr.Expr.TheFolds.{fold-Expr, fold-Step}
 use Rattle.ssb_trees.specs.declared.expr.Step.{Step}
@@ -61,7 +62,7 @@ abbrev pub product : List Outcome → Outcome
 product xs = fold times (known (number (pos 1))) xs
 
 -- one form of expression, with the numbers of the expressions in it
-abbrev pub number_layer : (BoundColumn → Cell) → Expr-F BoundColumn Outcome (Adding × Outcome) → Outcome
+abbrev pub number_layer : {C : Type 0} → (C → Cell) → Expr-F C Outcome (Adding × Outcome) → Outcome
 number_layer cell (Expr-F.Column x) = column_number (cell x)
 number_layer cell (Expr-F.Number n) = checked (pos n)
 number_layer cell (Expr-F.Positive part) = part
@@ -69,29 +70,16 @@ number_layer cell (Expr-F.Negative part) = minus (known (number (pos 0))) part
 number_layer cell (Expr-F.Chain first steps) = fold add_step first steps
 number_layer cell (Expr-F.Times factors) = product factors
 
-abbrev pub step_layer : Step-F BoundColumn Outcome (Adding × Outcome) → Adding × Outcome
+abbrev pub step_layer : {C : Type 0} → Step-F C Outcome (Adding × Outcome) → Adding × Outcome
 step_layer s = (s.adding, s.term)
 
 -- the number of an expression where the columns have these values
-abbrev pub number_of : (BoundColumn → Cell) → Expr BoundColumn → Outcome
-number_of cell = fold-Expr BoundColumn Outcome (Adding × Outcome) (number_layer cell) step_layer
+abbrev pub number_of : {C : Type 0} → (C → Cell) → Expr C → Outcome
+number_of {C} cell = fold-Expr C Outcome (Adding × Outcome) (number_layer cell) step_layer
 
 -- the number of a further term, with its sign
-abbrev pub step_number : (BoundColumn → Cell) → Step BoundColumn → Adding × Outcome
-step_number cell = fold-Step BoundColumn Outcome (Adding × Outcome) (number_layer cell) step_layer
-
--- one form of expression, as a column
-abbrev pub column_layer : Expr-F BoundColumn (Option BoundColumn) (Option BoundColumn) → Option BoundColumn
-column_layer (Expr-F.Column x) = Some x
-column_layer (Expr-F.Number n) = None
-column_layer (Expr-F.Positive part) = None
-column_layer (Expr-F.Negative part) = None
-column_layer (Expr-F.Chain first steps) = None
-column_layer (Expr-F.Times factors) = None
-
--- the column that an expression is, where it is one column alone
-abbrev pub column_of : Expr BoundColumn → Option BoundColumn
-column_of = fold-Expr BoundColumn (Option BoundColumn) (Option BoundColumn) column_layer (λ s. s.term)
+abbrev pub step_number : {C : Type 0} → (C → Cell) → Step C → Adding × Outcome
+step_number {C} cell = fold-Step C Outcome (Adding × Outcome) (number_layer cell) step_layer
 
 abbrev pub value_by : (BoundColumn → Cell) → Expr BoundColumn → Option BoundColumn → Outcome
 value_by cell e None = number_of cell e
@@ -99,4 +87,4 @@ value_by cell e (Some x) = column_outcome (cell x)
 
 -- the value of an expression: that of the column which it is, and else its number
 abbrev pub value : (BoundColumn → Cell) → Expr BoundColumn → Outcome
-value cell e = value_by cell e (column_of e)
+value cell e = value_by cell e (own_column e)

@@ -1,23 +1,26 @@
 // The columns of a job's groups and of its aggregates: how the key of a row is read in them, how totals are
 // joined, and how both are spelt.
 
-ghost use Rattle.std.specs.Prelude.{◌≡◌, map, IfOk, OnOk};
+ghost use Rattle.std.specs.Prelude.{◌≡◌, true, map, IfOk, OnOk};
+ghost use Rattle.std.specs.List.{list_all};
 ghost use Rattle.ssb_cells.specs.Values.{cell_of};
 ghost use Rattle.ssb_conditions.specs.Rows.{IsCombination};
+ghost use Rattle.ssb_plan.specs.Inputs.{column_ref, has_column};
 ghost use Rattle.ssb_plan.specs.JobShape.{from_tables};
 ghost use Rattle.ssb_groups.specs.Entries.{AreTotals, totals_in};
-ghost use Rattle.ssb_groups.specs.Joining.{IsJoining, JoinsTotals, joinings_of, values_by};
+ghost use Rattle.ssb_groups.specs.Joining.{AreJoinings, IsJoining, JoinsTotals, joinings_of, values_by};
 ghost use Rattle.ssb_groups.specs.Keys.{IsKept, IsKey, cells_in, kept_total, key_columns, key_of, spelt_cell};
-ghost use Rattle.ssb_groups.specs.Places.{IsSomePlace, places_of, values_at};
+ghost use Rattle.ssb_groups.specs.Refs.{IsColumn, IsSomeColumn, values_at, values_of};
 ghost use Rattle.ssb_groups.specs.Totals.{total_cell};
 
+use crate::column::{cell_in, text_in};
 use crate::joining::Joining;
 use crate::kept::{Kept, KeptTotal};
 use crate::key::GroupKey;
-use crate::place::{Place, cell_at_place, place_of, text_at_place};
 use crate::totals::{Total, Totals};
 use ssb_cells::{Table, Value};
 use ssb_job::{Job, JoinedRow};
+use ssb_plan::ColumnRef;
 use std::alloc::{AllocError, Global};
 use std::marker::Model;
 use std::snapshot::Snapshot;
@@ -30,7 +33,7 @@ pub(crate) struct Columns {
     job: Snapshot<Job>,
     tables: Arc<Vec<Table>, Global>,
     // Those of the groups.
-    places: Vec<Option<Place>>,
+    keys: Vec<ColumnRef>,
     // How the totals of each aggregate are joined, by its column where they may be texts.
     joinings: Vec<Joining>,
 }
@@ -41,21 +44,19 @@ impl Drop for Columns {
         let Columns {
             job: _,
             tables,
-            places,
+            keys,
             joinings,
         } = self;
         drop(tables);
-        drop(places);
+        drop(keys);
         drop(joinings);
     }
 }
 
 impl Model for Columns {
-    ghost use Rattle.std.specs.Prelude.{◌≡◌};
     ghost use Rattle.std.specs.Arc.{arc_value};
     ghost use Rattle.ssb_plan.specs.JobShape.{JobShape};
-    ghost use Rattle.ssb_groups.specs.Joining.{joinings_of};
-    ghost use Rattle.ssb_groups.specs.Places.{places_of};
+    ghost use Rattle.ssb_groups.specs.Joining.{AreColumnsOf};
 
     ghost Value = { JobShape };
 
@@ -65,31 +66,31 @@ impl Model for Columns {
 
     ghost view = { λ k. k.job.value };
 
-    ghost invariant = { λ k. ((arc_value k.tables).items ≡ k.job.value.tables) × (k.places.items ≡ places_of k.job.value) × (k.joinings.items ≡ joinings_of k.job.value) };
+    ghost invariant = { λ k. AreColumnsOf k.job.value (arc_value k.tables).items k.keys.items k.joinings.items };
 }
 
-// The value that a cell of a key stands for, at the place of its column.
-fn spelt_value<'a>(tables: &'a [Table], place: Option<Place>, cell: Kept) -> Value<'a>
-    requires place { IsSomePlace tables.now place }
-    requires kept { IsKept (values_at tables.now place) cell }
-    ensures { cell_of result ≡ spelt_cell (values_at tables.now place) cell }
+// The value that a cell of a key stands for, by its column.
+fn spelt_value<'a>(tables: &'a [Table], column: ColumnRef, cell: Kept) -> Value<'a>
+    requires column { IsColumn tables.now column }
+    requires kept { IsKept (values_of tables.now column) cell }
+    ensures { cell_of result ≡ spelt_cell (values_of tables.now column) cell }
 {
     match cell {
         Kept::Null => Value::Null,
         Kept::Number(number) => Value::Int(number),
-        Kept::Code(code) => Value::Text(text_at_place(tables, place, code)),
+        Kept::Code(code) => Value::Text(text_in(tables, Some(column), code)),
     }
 }
 
-fn spelt_at<'a>(tables: &'a [Table], place: Option<Place>, total: KeptTotal) -> Total<'a>
-    requires place { IsSomePlace tables.now place }
-    requires kept { IsKept (values_at tables.now place) (kept_total total) }
-    ensures { total_cell result ≡ spelt_cell (values_at tables.now place) (kept_total total) }
+fn spelt_by<'a>(tables: &'a [Table], column: Option<ColumnRef>, total: KeptTotal) -> Total<'a>
+    requires column { IsSomeColumn tables.now column }
+    requires kept { IsKept (values_at tables.now column) (kept_total total) }
+    ensures { total_cell result ≡ spelt_cell (values_at tables.now column) (kept_total total) }
 {
     match total {
         KeptTotal::Null => Total::Null,
         KeptTotal::Number(number) => Total::Number(number),
-        KeptTotal::Code(code) => Total::Text(text_at_place(tables, place, code)),
+        KeptTotal::Code(code) => Total::Text(text_in(tables, column, code)),
     }
 }
 
@@ -100,29 +101,30 @@ fn spelt_total<'a>(tables: &'a [Table], joining: Joining, total: KeptTotal) -> T
     ensures { total_cell result ≡ spelt_cell (values_by tables.now joining) (kept_total total) }
 {
     match joining {
-        Joining::Adds => spelt_at(tables, None, total),
-        Joining::Least(place) | Joining::Greatest(place) => spelt_at(tables, place, total),
+        Joining::Adds => spelt_by(tables, None, total),
+        Joining::Least(column) | Joining::Greatest(column) => spelt_by(tables, column, total),
     }
 }
 
-fn places(alloc: Global, job: &Job) -> Result<Vec<Option<Place>>, AllocError>
-    ensures { IfOk result (λ places. places.items ≡ places_of job.now) }
+fn keys(alloc: Global, job: &Job) -> Result<Vec<ColumnRef>, AllocError>
+    ensures same { IfOk result (λ keys. keys.items ≡ map (column_ref job.now.query) job.now.query.groups) }
+    ensures there { IfOk result (λ keys. list_all (has_column job.now.query job.now.tables) keys.items ≡ true) }
 {
-    let parts = job.query().parts();
-    let mut places = Vec::with_capacity(alloc, parts.groups.len())?;
-    for column in parts.groups.as_slice() {
-        places.push(place_of(job, *column))?;
-    }
-    Ok(places)
+    let found = job.plan().keys.as_slice();
+    let mut keys = Vec::with_capacity(alloc, found.len())?;
+    keys.extend_from_slice(found)?;
+    Ok(keys)
 }
 
 fn joinings(alloc: Global, job: &Job) -> Result<Vec<Joining>, AllocError>
-    ensures { IfOk result (λ joinings. joinings.items ≡ joinings_of job.now) }
+    ensures same { IfOk result (λ joinings. joinings.items ≡ joinings_of job.now) }
+    ensures known { IfOk result (λ joinings. AreJoinings job.now.tables joinings.items) }
 {
-    let parts = job.query().parts();
-    let mut joinings = Vec::with_capacity(alloc, parts.aggregates.len())?;
-    for aggregate in parts.aggregates.as_slice() {
-        joinings.push(Joining::of(job, aggregate))?;
+    let aggregates = job.query().parts().aggregates.as_slice();
+    let inputs = job.plan().inputs.as_slice();
+    let mut joinings = Vec::with_capacity(alloc, aggregates.len())?;
+    for at in 0..aggregates.len() {
+        joinings.push(Joining::of(&aggregates[at], &inputs[at]))?;
     }
     Ok(joinings)
 }
@@ -135,7 +137,7 @@ impl Columns {
         Ok(Columns {
             job: Snapshot::of(job),
             tables: Arc::try_clone(job.tables())?,
-            places: places(alloc, job)?,
+            keys: keys(alloc, job)?,
             joinings: joinings(alloc, job)?,
         })
     }
@@ -148,8 +150,8 @@ impl Columns {
         let tables = self.tables.as_slice();
         let rows = row.as_slice();
         key.cells.clear();
-        for place in &self.places {
-            key.cells.push(cell_at_place(tables, rows, *place))?;
+        for column in &self.keys {
+            key.cells.push(cell_in(tables, rows, *column))?;
         }
         Ok(())
     }
@@ -164,11 +166,11 @@ impl Columns {
         ensures { IfOk result (λ values. map cell_of values.items ≡ cells_in (key_columns self.now) key.now) }
     {
         let tables = self.tables.as_slice();
-        let places = self.places.as_slice();
+        let keys = self.keys.as_slice();
         let cells = key.cells.as_slice();
-        let mut values = Vec::with_capacity(alloc, places.len())?;
-        for at in 0..places.len() {
-            values.push(spelt_value(tables, places[at], cells[at]))?;
+        let mut values = Vec::with_capacity(alloc, keys.len())?;
+        for at in 0..keys.len() {
+            values.push(spelt_value(tables, keys[at], cells[at]))?;
         }
         Ok(values)
     }

@@ -1,14 +1,20 @@
 // The number of an expression on a combination of rows.
 
-ghost use Rattle.std.specs.Prelude.{◌≡◌, fold, map};
-ghost use Rattle.ssb_conditions.specs.Rows.{column_value};
+ghost use Rattle.std.specs.Prelude.{◌≡◌, true, fold, map};
+ghost use Rattle.std.specs.List.{list_all};
+ghost use Rattle.ssb_conditions.specs.Rows.{IsCombination};
+ghost use Rattle.ssb_plan.specs.Inputs.{has_column};
 ghost use Rattle.ssb_plan.specs.JobShape.{from_tables};
 ghost use Rattle.ssb_groups.specs.Outcomes.{outcome_of};
-ghost use Rattle.ssb_groups.specs.Value.{add_step, column_of, number_of, product, step_number};
+ghost use Rattle.ssb_groups.specs.Refs.{ref_value};
+ghost use Rattle.ssb_groups.specs.Value.{add_step, number_of, product, step_number};
+ghost use Rattle.ssb_trees.specs.Expressions.{columns, step_columns};
+ghost use Rattle.ssb_trees.specs.Lists.{concat};
 
+use crate::column::cell;
 use crate::outcome::{Operation, Outcome};
 use ssb_job::{Job, JoinedRow};
-use ssb_query::BoundColumn;
+use ssb_plan::ColumnRef;
 use ssb_terms::Adding;
 use ssb_trees::{Expr, Step};
 
@@ -22,8 +28,10 @@ fn add_step(so_far: Outcome, adding: Adding, term: Outcome) -> Outcome
 }
 
 #[cycle(expr)]
-fn chain(job: &Job, row: &JoinedRow, first: Outcome, steps: &[Step<BoundColumn>]) -> Outcome
-    ensures { outcome_of result ≡ fold add_step (outcome_of first) (map (step_number (column_value (from_tables job.now) row.now)) steps.now) }
+fn chain(job: &Job, row: &JoinedRow, first: Outcome, steps: &[Step<ColumnRef>]) -> Outcome
+    requires row { IsCombination (from_tables job.now) row.now }
+    requires there { list_all (has_column job.now.query job.now.tables) (concat (map (step_columns _) steps.now)) ≡ true }
+    ensures { outcome_of result ≡ fold add_step (outcome_of first) (map (step_number (ref_value job.now row.now)) steps.now) }
 {
     let mut so_far = first;
     for step in steps {
@@ -34,8 +42,10 @@ fn chain(job: &Job, row: &JoinedRow, first: Outcome, steps: &[Step<BoundColumn>]
 }
 
 #[cycle(expr)]
-fn product(job: &Job, row: &JoinedRow, factors: &[Expr<BoundColumn>]) -> Outcome
-    ensures { outcome_of result ≡ product (map (number_of (column_value (from_tables job.now) row.now)) factors.now) }
+fn product(job: &Job, row: &JoinedRow, factors: &[Expr<ColumnRef>]) -> Outcome
+    requires row { IsCombination (from_tables job.now) row.now }
+    requires there { list_all (has_column job.now.query job.now.tables) (concat (map (columns _) factors.now)) ≡ true }
+    ensures { outcome_of result ≡ product (map (number_of (ref_value job.now row.now)) factors.now) }
 {
     let mut so_far = Outcome::Number(1);
     for factor in factors {
@@ -45,11 +55,13 @@ fn product(job: &Job, row: &JoinedRow, factors: &[Expr<BoundColumn>]) -> Outcome
 }
 
 #[cycle(expr)]
-pub(crate) fn number(job: &Job, row: &JoinedRow, expr: &Expr<BoundColumn>) -> Outcome
-    ensures { outcome_of result ≡ number_of (column_value (from_tables job.now) row.now) expr.now }
+pub(crate) fn number(job: &Job, row: &JoinedRow, expr: &Expr<ColumnRef>) -> Outcome
+    requires row { IsCombination (from_tables job.now) row.now }
+    requires there { list_all (has_column job.now.query job.now.tables) (columns _ expr.now) ≡ true }
+    ensures { outcome_of result ≡ number_of (ref_value job.now row.now) expr.now }
 {
     match expr {
-        Expr::Column(column) => Outcome::of(job.value(*column, row)),
+        Expr::Column(column) => Outcome::of(cell(job, row, *column)),
         Expr::Number(number) => Outcome::of_number(*number),
         Expr::Positive(part) => number(job, row, part.get()),
         Expr::Negative(part) => {
@@ -59,15 +71,5 @@ pub(crate) fn number(job: &Job, row: &JoinedRow, expr: &Expr<BoundColumn>) -> Ou
             chain(job, row, number(job, row, first.get()), steps.as_slice())
         }
         Expr::Times(factors) => product(job, row, factors.as_slice()),
-    }
-}
-
-// The column that an expression is, where it is one alone.
-pub(crate) fn column_of(expr: &Expr<BoundColumn>) -> Option<BoundColumn>
-    ensures { result ≡ column_of expr.now }
-{
-    match expr {
-        Expr::Column(column) => Some(*column),
-        _ => None,
     }
 }

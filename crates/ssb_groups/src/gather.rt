@@ -1,29 +1,31 @@
 // What the aggregates take of a row.
 
-ghost use Rattle.std.specs.Prelude.{◌≡◌, ◌∷◌, [], List, IfOk, IfSome};
+ghost use Rattle.std.specs.Prelude.{◌≡◌, ◌∷◌, [], true, List, IfOk, IfSome};
+ghost use Rattle.std.specs.List.{list_all};
 ghost use Rattle.ssb_cells.specs.Cell.{Cell};
 ghost use Rattle.ssb_query.specs.declared.column.BoundColumn.{BoundColumn as AnyColumn};
 ghost use Rattle.ssb_trees.specs.declared.aggregate.Aggregate.TheVariants as aggregates;
 ghost use Rattle.ssb_trees.specs.declared.expr.Expr.{Expr as AnyExpr};
-ghost use Rattle.ssb_conditions.specs.Rows.{IsCombination, column_value};
+ghost use Rattle.ssb_conditions.specs.Rows.{IsCombination};
+ghost use Rattle.ssb_plan.specs.Inputs.{has_column, input_columns, input_of};
 ghost use Rattle.ssb_plan.specs.JobShape.{from_tables};
 ghost use Rattle.ssb_groups.specs.Aggregates.{agg};
 ghost use Rattle.ssb_groups.specs.Gathering.{IsGathered, IsTaken, texts_by};
-ghost use Rattle.ssb_groups.specs.Joining.{place_alone};
 ghost use Rattle.ssb_groups.specs.Keys.{IsKept, kept_total, spelt_cell};
 ghost use Rattle.ssb_groups.specs.Outcomes.{kept_outcome};
-ghost use Rattle.ssb_groups.specs.Places.{place_of, values_at};
+ghost use Rattle.ssb_groups.specs.Refs.{input_texts, input_value};
 ghost use Rattle.ssb_groups.specs.Seen.{fact_of};
 ghost use Rattle.ssb_groups.specs.Stands.{IsRanged};
-ghost use Rattle.ssb_groups.specs.Value.{column_of, known, value};
+ghost use Rattle.ssb_groups.specs.Value.{known};
 
-use crate::evaluate::{column_of, number};
+use crate::column::cell;
+use crate::evaluate::number;
 use crate::kept::{Kept, KeptTotal};
-use crate::place::{cell_at_place, place_of};
 use crate::totals::Totals;
 use ssb_job::{Job, JoinedRow};
+use ssb_plan::Input;
 use ssb_query::BoundColumn;
-use ssb_trees::{Aggregate, Expr, SetFunction};
+use ssb_trees::{Aggregate, SetFunction};
 use std::alloc::AllocError;
 
 // The row of the fact table, from 1.
@@ -37,25 +39,18 @@ pub(crate) fn fact_of(job: &Job, row: &JoinedRow) -> u32
     row.row(parts.fact) + 1
 }
 
-// The cell of a column in a combination.
-fn cell(job: &Job, row: &JoinedRow, column: BoundColumn) -> Kept
-    requires { IsCombination (from_tables job.now) row.now }
-    ensures value { spelt_cell (values_at job.now.tables (place_of job.now column)) result ≡ column_value (from_tables job.now) row.now column }
-    ensures kept { IsKept (values_at job.now.tables (place_of job.now column)) result }
+// The value of an input, a text by its code; None where it is Over.
+fn value(job: &Job, row: &JoinedRow, input: &Input) -> Option<Kept>
+    requires row { IsCombination (from_tables job.now) row.now }
+    requires there { list_all (has_column job.now.query job.now.tables) (input_columns input.now) ≡ true }
+    ensures value { kept_outcome (input_texts job.now.tables input.now) result ≡ input_value job.now row.now input.now }
+    ensures kept { IfSome result (IsKept (input_texts job.now.tables input.now)) }
+    ensures ranged { IsRanged (input_value job.now row.now input.now) }
 {
-    cell_at_place(job.tables(), row.as_slice(), place_of(job, column))
-}
-
-// The value of an expression, a text by its code; None where it is Over.
-fn value(job: &Job, row: &JoinedRow, expr: &Expr<BoundColumn>) -> Option<Kept>
-    requires { IsCombination (from_tables job.now) row.now }
-    ensures value { kept_outcome (values_at job.now.tables (place_alone job.now (column_of expr.now))) result ≡ value (column_value (from_tables job.now) row.now) expr.now }
-    ensures kept { IfSome result (IsKept (values_at job.now.tables (place_alone job.now (column_of expr.now)))) }
-    ensures ranged { IsRanged (value (column_value (from_tables job.now) row.now) expr.now) }
-{
-    match column_of(expr) {
-        Some(column) => Some(cell(job, row, column)),
-        None => number(job, row, expr).kept(),
+    match input {
+        Input::Rows => Some(Kept::Number(1)),
+        Input::Column(column) => Some(cell(job, row, *column)),
+        Input::Number(expr) => number(job, row, expr).kept(),
     }
 }
 
@@ -91,8 +86,10 @@ struct Taken {
     total: KeptTotal,
 }
 
-fn take(job: &Job, row: &JoinedRow, aggregate: &Aggregate<BoundColumn>) -> Taken
-    requires { IsCombination (from_tables job.now) row.now }
+fn take(job: &Job, row: &JoinedRow, aggregate: &Aggregate<BoundColumn>, input: &Input) -> Taken
+    requires row { IsCombination (from_tables job.now) row.now }
+    requires input { input.now ≡ input_of job.now.query aggregate.now }
+    requires there { list_all (has_column job.now.query job.now.tables) (input_columns input.now) ≡ true }
     ensures { IsTaken job.now row.now aggregate.now result }
 {
     match aggregate {
@@ -100,8 +97,8 @@ fn take(job: &Job, row: &JoinedRow, aggregate: &Aggregate<BoundColumn>) -> Taken
             over: false,
             total: KeptTotal::Number(1),
         },
-        Aggregate::Of(function, expr) => {
-            let value = value(job, row, expr);
+        Aggregate::Of(function, _) => {
+            let value = value(job, row, input);
             Taken {
                 over: value.is_none(),
                 total: alone(*function, value.unwrap_or(Kept::Null)),
@@ -115,10 +112,12 @@ pub(crate) fn gather(job: &Job, row: &JoinedRow, more: &mut Totals) -> Result<bo
     requires { IsCombination (from_tables job.now) row.now }
     ensures { IfOk result (λ over. IsGathered job.now row.now over more.new) }
 {
+    let aggregates = job.query().parts().aggregates.as_slice();
+    let inputs = job.plan().inputs.as_slice();
     more.clear();
     let mut over = false;
-    for aggregate in job.query().parts().aggregates.as_slice() {
-        let taken = take(job, row, aggregate);
+    for at in 0..aggregates.len() {
+        let taken = take(job, row, &aggregates[at], &inputs[at]);
         over = over || taken.over;
         more.push(taken.total)?;
     }

@@ -6,18 +6,22 @@ ghost use Rattle.std.specs.Prelude.{◌≡◌, ◌<◌, [], get_or, length};
 ghost use Rattle.ssb_cells.specs.Codes.{texts_of};
 ghost use Rattle.ssb_cells.specs.Order.{cell_cmp};
 ghost use Rattle.ssb_groups.specs.Aggregates.{greater, lesser};
-ghost use Rattle.ssb_groups.specs.Joining.{AreOfPlace, FitsAdded, IsJoining, JoinsTotal, added, joining_of, place_alone, values_by};
+ghost use Rattle.ssb_groups.specs.Joining.{AreOfColumn, FitsAdded, IsJoining, JoinsTotal, added, joining_by, joining_of, sole_ref, values_by};
 ghost use Rattle.ssb_groups.specs.Keys.{IsKept, kept_total, spelt_cell};
-ghost use Rattle.ssb_groups.specs.Places.{IsSomePlace, values_at};
-ghost use Rattle.ssb_groups.specs.Value.{column_of};
+ghost use Rattle.ssb_groups.specs.Refs.{IsSomeColumn, values_at};
+ghost use Rattle.ssb_plan.specs.Inputs.{input_of};
+ghost use Rattle.ssb_plan.specs.JobShape.{JobShape};
+ghost use Rattle.ssb_query.specs.declared.column.BoundColumn.{BoundColumn as AnyColumn};
+ghost use Rattle.ssb_trees.specs.declared.aggregate.Aggregate.TheVariants as aggregates;
+ghost use Rattle.ssb_trees.specs.declared.aggregate.SetFunction.{SetFunction as AnyFunction};
+ghost use Rattle.ssb_trees.specs.declared.expr.Expr.{Expr as AnyExpr};
 
-use crate::evaluate::column_of;
+use crate::column::text_in;
 use crate::kept::KeptTotal;
-use crate::place::{Place, place_of, text_at_place};
 use ssb_cells::Table;
-use ssb_job::Job;
+use ssb_plan::{ColumnRef, Input};
 use ssb_query::BoundColumn;
-use ssb_trees::{Aggregate, Expr, SetFunction};
+use ssb_trees::{Aggregate, SetFunction};
 use std::cmp::Ordering;
 
 /// How an aggregate over two lists of values comes from that over each.
@@ -25,29 +29,41 @@ use std::cmp::Ordering;
 pub(crate) enum Joining {
     /// Both are added: a count or a sum.
     Adds,
-    /// The lesser of both, texts by the column at a place.
-    Least(Option<Place>),
-    /// The greater of both, texts by the column at a place.
-    Greatest(Option<Place>),
+    /// The lesser of both, texts by this column.
+    Least(Option<ColumnRef>),
+    /// The greater of both, texts by this column.
+    Greatest(Option<ColumnRef>),
 }
 
-// The place of the column that an expression is, if it is one alone.
-fn place_alone(job: &Job, expr: &Expr<BoundColumn>) -> Option<Place>
-    ensures { result ≡ place_alone job.now (column_of expr.now) }
+// The column that an input is, if it is one alone.
+fn sole_ref(input: &Input) -> Option<ColumnRef>
+    ensures { (j : JobShape) (f : AnyFunction) (e : AnyExpr AnyColumn) → input.now ≡ input_of j.query (aggregates.Of f e) → result ≡ sole_ref j e }
 {
-    place_of(job, column_of(expr)?)
+    match input {
+        Input::Column(column) => Some(*column),
+        Input::Rows | Input::Number(_) => None,
+    }
 }
 
 impl Joining {
-    // That of an aggregate of a job.
-    pub(crate) fn of(job: &Job, aggregate: &Aggregate<BoundColumn>) -> Joining
-        ensures { result ≡ joining_of job.now aggregate.now }
+    // That of a set function, by the column whose values it takes, if it takes one's.
+    fn by(function: SetFunction, column: Option<ColumnRef>) -> Joining
+        ensures { result ≡ joining_by function column }
+    {
+        match function {
+            SetFunction::Sum | SetFunction::Count => Joining::Adds,
+            SetFunction::Min => Joining::Least(column),
+            SetFunction::Max => Joining::Greatest(column),
+        }
+    }
+
+    // That of an aggregate of a job, by what it takes.
+    pub(crate) fn of(aggregate: &Aggregate<BoundColumn>, input: &Input) -> Joining
+        ensures { (j : JobShape) → input.now ≡ input_of j.query aggregate.now → result ≡ joining_of j aggregate.now }
     {
         match aggregate {
             Aggregate::Rows => Joining::Adds,
-            Aggregate::Of(SetFunction::Sum | SetFunction::Count, _) => Joining::Adds,
-            Aggregate::Of(SetFunction::Min, expr) => Joining::Least(place_alone(job, expr)),
-            Aggregate::Of(SetFunction::Max, expr) => Joining::Greatest(place_alone(job, expr)),
+            Aggregate::Of(function, _) => Joining::by(*function, sole_ref(input)),
         }
     }
 
@@ -62,8 +78,8 @@ impl Joining {
     {
         match self {
             Joining::Adds => *into = add(*into, *more),
-            Joining::Least(place) => *into = lesser(tables, *place, *into, *more),
-            Joining::Greatest(place) => *into = greater(tables, *place, *into, *more),
+            Joining::Least(column) => *into = lesser(tables, *column, *into, *more),
+            Joining::Greatest(column) => *into = greater(tables, *column, *into, *more),
         }
     }
 }
@@ -82,22 +98,22 @@ fn add(a: KeptTotal, b: KeptTotal) -> KeptTotal
 }
 
 // The order of the texts of two codes.
-fn text_order(tables: &[Table], place: Option<Place>, x: u32, y: u32) -> Ordering
-    requires place { IsSomePlace tables.now place }
-    requires left { x < length (texts_of (values_at tables.now place)) }
-    requires right { y < length (texts_of (values_at tables.now place)) }
-    ensures { result ≡ slice_cmp nat_cmp (get_or (texts_of (values_at tables.now place)) x []) (get_or (texts_of (values_at tables.now place)) y []) }
+fn text_order(tables: &[Table], column: Option<ColumnRef>, x: u32, y: u32) -> Ordering
+    requires column { IsSomeColumn tables.now column }
+    requires left { x < length (texts_of (values_at tables.now column)) }
+    requires right { y < length (texts_of (values_at tables.now column)) }
+    ensures { result ≡ slice_cmp nat_cmp (get_or (texts_of (values_at tables.now column)) x []) (get_or (texts_of (values_at tables.now column)) y []) }
 {
     if x == y {
         return Ordering::Equal;
     }
-    text_at_place(tables, place, x).cmp(text_at_place(tables, place, y))
+    text_in(tables, column, x).cmp(text_in(tables, column, y))
 }
 
 // The order of what two totals stand for.
-fn order(tables: &[Table], place: Option<Place>, a: KeptTotal, b: KeptTotal) -> Ordering
-    requires { AreOfPlace tables.now place (kept_total a) (kept_total b) }
-    ensures { result ≡ cell_cmp (spelt_cell (values_at tables.now place) (kept_total a)) (spelt_cell (values_at tables.now place) (kept_total b)) }
+fn order(tables: &[Table], column: Option<ColumnRef>, a: KeptTotal, b: KeptTotal) -> Ordering
+    requires { AreOfColumn tables.now column (kept_total a) (kept_total b) }
+    ensures { result ≡ cell_cmp (spelt_cell (values_at tables.now column) (kept_total a)) (spelt_cell (values_at tables.now column) (kept_total b)) }
 {
     match (a, b) {
         (KeptTotal::Null, KeptTotal::Null) => Ordering::Equal,
@@ -106,31 +122,31 @@ fn order(tables: &[Table], place: Option<Place>, a: KeptTotal, b: KeptTotal) -> 
         (KeptTotal::Number(x), KeptTotal::Number(y)) => x.cmp(&y),
         (KeptTotal::Number(_), KeptTotal::Code(_)) => Ordering::Less,
         (KeptTotal::Code(_), KeptTotal::Number(_)) => Ordering::Greater,
-        (KeptTotal::Code(x), KeptTotal::Code(y)) => text_order(tables, place, x, y),
+        (KeptTotal::Code(x), KeptTotal::Code(y)) => text_order(tables, column, x, y),
     }
 }
 
-fn lesser(tables: &[Table], place: Option<Place>, a: KeptTotal, b: KeptTotal) -> KeptTotal
-    requires { AreOfPlace tables.now place (kept_total a) (kept_total b) }
-    ensures joined { spelt_cell (values_at tables.now place) (kept_total result) ≡ lesser (spelt_cell (values_at tables.now place) (kept_total a)) (spelt_cell (values_at tables.now place) (kept_total b)) }
-    ensures kept { IsKept (values_at tables.now place) (kept_total result) }
+fn lesser(tables: &[Table], column: Option<ColumnRef>, a: KeptTotal, b: KeptTotal) -> KeptTotal
+    requires { AreOfColumn tables.now column (kept_total a) (kept_total b) }
+    ensures joined { spelt_cell (values_at tables.now column) (kept_total result) ≡ lesser (spelt_cell (values_at tables.now column) (kept_total a)) (spelt_cell (values_at tables.now column) (kept_total b)) }
+    ensures kept { IsKept (values_at tables.now column) (kept_total result) }
 {
     match (a, b) {
         (KeptTotal::Null, _) => b,
         (_, KeptTotal::Null) => a,
-        _ => match order(tables, place, a, b) {
+        _ => match order(tables, column, a, b) {
             Ordering::Greater => b,
             _ => a,
         },
     }
 }
 
-fn greater(tables: &[Table], place: Option<Place>, a: KeptTotal, b: KeptTotal) -> KeptTotal
-    requires { AreOfPlace tables.now place (kept_total a) (kept_total b) }
-    ensures joined { spelt_cell (values_at tables.now place) (kept_total result) ≡ greater (spelt_cell (values_at tables.now place) (kept_total a)) (spelt_cell (values_at tables.now place) (kept_total b)) }
-    ensures kept { IsKept (values_at tables.now place) (kept_total result) }
+fn greater(tables: &[Table], column: Option<ColumnRef>, a: KeptTotal, b: KeptTotal) -> KeptTotal
+    requires { AreOfColumn tables.now column (kept_total a) (kept_total b) }
+    ensures joined { spelt_cell (values_at tables.now column) (kept_total result) ≡ greater (spelt_cell (values_at tables.now column) (kept_total a)) (spelt_cell (values_at tables.now column) (kept_total b)) }
+    ensures kept { IsKept (values_at tables.now column) (kept_total result) }
 {
-    match order(tables, place, a, b) {
+    match order(tables, column, a, b) {
         Ordering::Greater => a,
         _ => b,
     }

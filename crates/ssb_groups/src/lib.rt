@@ -3,12 +3,13 @@
 //! - Offers: [`Groups`], which stand for a list of rows in whatever order they came: `empty`, `add`,
 //!   `merge`; [`Group`] and [`Total`], which they lend.
 //! - Callers: `ssb_pipeline`, whose parts hold groups; `ssb_rows`, which makes rows of them.
-//! - Files: `groups`, `store`, `table`; `key`, `kept`, `place`, `columns`: keys; `evaluate`, `outcome`,
+//! - Files: `groups`, `store`, `table`; `key`, `kept`, `column`, `columns`: keys; `evaluate`, `outcome`,
 //!   `gather`: what a row adds; `totals`, `joining`: aggregates.
 //! - Definitions: `Value`, `Aggregates`, `Rows`, `Seen`, `Stands`: what groups stand for; `Keys`,
-//!   `Places`, `Joining`, `Entries`, `Gathering`, `Outcomes`, `Totals`: how they are kept.
+//!   `Refs`, `Joining`, `Entries`, `Gathering`, `Outcomes`, `Totals`: how they are kept.
 #![tactic(auto)]
 
+mod column;
 mod columns;
 mod evaluate;
 mod gather;
@@ -17,7 +18,6 @@ mod joining;
 mod kept;
 mod key;
 mod outcome;
-mod place;
 mod store;
 mod table;
 pub mod totals;

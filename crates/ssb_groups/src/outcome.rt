@@ -1,15 +1,13 @@
 // The number of an expression, which may be Over.
 
 ghost use Rattle.std.specs.Prelude.{◌≡◌, List, IfSome, pos};
-ghost use Rattle.ssb_groups.specs.Keys.{IsKept};
+ghost use Rattle.ssb_groups.specs.Keys.{IsKept, spelt_cell};
 ghost use Rattle.ssb_cells.specs.Cell.{Cell};
-ghost use Rattle.ssb_cells.specs.Values.{cell_of};
 ghost use Rattle.ssb_groups.specs.Outcomes.{checked_outcome, exact, kept_outcome, outcome_of};
 ghost use Rattle.ssb_groups.specs.Stands.{IsRanged};
 ghost use Rattle.ssb_groups.specs.Value.{apply, checked, column_number};
 
 use crate::kept::Kept;
-use ssb_cells::Value;
 
 /// What is done with two numbers.
 #[derive(Clone, Copy, PartialEq, Eq)]
@@ -48,12 +46,12 @@ impl Operation {
 
 impl Outcome {
     // That of a column's value; a text has none.
-    pub(crate) fn of(value: Value<'_>) -> Outcome
-        ensures { outcome_of result ≡ column_number (cell_of value.entry) }
+    pub(crate) fn of(cell: Kept) -> Outcome
+        ensures { (values : List Cell) → outcome_of result ≡ column_number (spelt_cell values cell) }
     {
-        match value {
-            Value::Null | Value::Text(_) => Outcome::Null,
-            Value::Int(number) => Outcome::Number(number),
+        match cell {
+            Kept::Null | Kept::Code(_) => Outcome::Null,
+            Kept::Number(number) => Outcome::Number(number),
         }
     }
 

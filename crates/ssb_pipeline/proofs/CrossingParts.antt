@@ -19,7 +19,6 @@ use Rattle.crossbeam_queue.specs.contracts.array_queue.TurnsTableRuleOptionDoing
 use Rattle.ssb_groups.specs.contracts.columns.Columns as Columns
 use Rattle.ssb_groups.specs.contracts.columns.Columns.TheInside as InColumns
 use Rattle.ssb_groups.specs.contracts.joining.Joining as Joining
-use Rattle.ssb_groups.specs.contracts.place.Place as Place
 use Rattle.ssb_groups.specs.contracts.groups.Groups as Groups
 use Rattle.ssb_groups.specs.contracts.groups.Groups.TheInside as InGroups
 use Rattle.ssb_groups.specs.contracts.key.GroupKey as Key
@@ -27,6 +26,7 @@ use Rattle.ssb_groups.specs.contracts.store.Store as Store
 use Rattle.ssb_groups.specs.contracts.store.Store.TheInside as InStore
 use Rattle.ssb_groups.specs.contracts.totals.Totals as Totals
 use Rattle.ssb_job.specs.contracts.job.Job as Job
+use Rattle.ssb_plan.specs.contracts.input.ColumnRef as ColumnRef
 use Rattle.ssb_pipeline.specs.contracts.part.Part as Part
 use Rattle.ssb_pipeline.specs.contracts.part.Part.TheInside as InPart
 use Rattle.ssb_pipeline.specs.contracts.line.Knowledge as Knowledge
@@ -54,15 +54,15 @@ store_send =
       ),
     ))
 
-place_send : IsSend Place.the_row
-place_send = search (crosses, sendable) depth 20
+column_ref_send : IsSend ColumnRef.the_row
+column_ref_send = search (crosses, sendable) depth 20
 
 joining_send : IsSend Joining.the_row
-joining_send = search (place_send, crosses, sendable) depth 20
+joining_send = search (column_ref_send, crosses, sendable) depth 20
 
 columns_send : IsSend Columns.the_row
 columns_send =
-    view_send InColumns.the_row _ _ _ _ (declared_send InColumns.the_type (search (crosses, sendable) depth 20, (tables.0, (search (place_send, as_row_send, crosses, sendable) depth 20, (search (joining_send, as_row_send, crosses, sendable) depth 20, tt)))))
+    view_send InColumns.the_row _ _ _ _ (declared_send InColumns.the_type (search (crosses, sendable) depth 20, (tables.0, (search (column_ref_send, as_row_send, crosses, sendable) depth 20, (search (joining_send, as_row_send, crosses, sendable) depth 20, tt)))))
 
 groups_send : IsSend Groups.the_row
 groups_send =

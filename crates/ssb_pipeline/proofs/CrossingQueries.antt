@@ -35,6 +35,7 @@ use Rattle.ssb_trees.specs.contracts.expr.Expr as Expr
 use Rattle.ssb_trees.specs.contracts.expr.Expr.TheKnot as expr_knot
 use Rattle.ssb_trees.specs.contracts.aggregate.Aggregate as Aggregate
 use Rattle.ssb_trees.specs.contracts.aggregate.SetFunction as SetFunction
+use Rattle.ssb_plan.specs.contracts.input.ColumnRef as ColumnRef
 use Rattle.ssb_query.specs.contracts.query.BoundItem as Item
 use Rattle.ssb_query.specs.contracts.query.Origin as Origin
 use Rattle.ssb_query.specs.contracts.query.Query as Query
@@ -105,29 +106,41 @@ bound_column : Crosses BoundColumn.the_row
 bound_column = (search (crosses, sendable) depth 20, search (crosses, sendable) depth 20)
 
 -- an expression holds itself: each layer crosses where what it holds does
-module _ (E S : RattleType) (e : Crosses E) (s : Crosses S) where
-  expr_parts : VariantsHave Crosses (expr_knot.type-Expr BoundColumn.the_row E E E S E).parts
-  expr_parts =
-      let inner = as_row_crosses (row_field (Boxed.the_row E)) (boxed E e) in
-      let steps = as_row_crosses (row_field (Items.the_row S)) (items S s) in
-      let factors = as_row_crosses (row_field (Items.the_row E)) (items E e) in (
-        (bound_column, tt),
-        (((search (as_row_send, crosses, sendable) depth 20, search (as_row_sync, crosses, sendable) depth 20), tt), ((inner, tt), ((inner, tt), ((inner, (steps, tt)), ((factors, tt), tt))))),
-      )
+module _ (C : RattleType) (c : Crosses C) where
+  module _ (E S : RattleType) (e : Crosses E) (s : Crosses S) where
+    expr_parts : VariantsHave Crosses (expr_knot.type-Expr C E E E S E).parts
+    expr_parts =
+        let inner = as_row_crosses (row_field (Boxed.the_row E)) (boxed E e) in
+        let steps = as_row_crosses (row_field (Items.the_row S)) (items S s) in
+        let factors = as_row_crosses (row_field (Items.the_row E)) (items E e) in
+        let x = as_row_crosses (row_field (as_row (row_field C))) (as_row_crosses (row_field C) c) in (
+          (x, tt),
+          (((search (as_row_send, crosses, sendable) depth 20, search (as_row_sync, crosses, sendable) depth 20), tt), ((inner, tt), ((inner, tt), ((inner, (steps, tt)), ((factors, tt), tt))))),
+        )
 
-expr_holes : (i : expr_knot.the_members BoundColumn.the_row) → Crosses (holes (expr_knot.ring BoundColumn.the_row) i)
-expr_holes = fix_crosses (expr_knot.ring BoundColumn.the_row) layers
-  where
-    layers : (i : expr_knot.the_members BoundColumn.the_row) (h : expr_knot.the_members BoundColumn.the_row → RattleType) → ((j : expr_knot.the_members BoundColumn.the_row) → Crosses (h j)) → Crosses (layer_row (expr_knot.ring BoundColumn.the_row) i h)
-    layers member-Expr h all = let E = h member-Expr in let S = h member-Step in variants_crosses (expr_knot.type-Expr BoundColumn.the_row E E E S E) (expr_parts E S (all member-Expr) (all member-Step))
-    layers member-Step h all =
-        let s = (all member-Expr).0 in
-        let y = (all member-Expr).1 in
-        let T = expr_knot.type-Step BoundColumn.the_row (h member-Expr) in
-        (declared_send T (search (s, as_row_send, crosses, sendable) depth 20), declared_sync T (search (y, as_row_sync, crosses, sendable) depth 20))
+  expr_holes : (i : expr_knot.the_members C) → Crosses (holes (expr_knot.ring C) i)
+  expr_holes = fix_crosses (expr_knot.ring C) layers
+    where
+      layers : (i : expr_knot.the_members C) (h : expr_knot.the_members C → RattleType) → ((j : expr_knot.the_members C) → Crosses (h j)) → Crosses (layer_row (expr_knot.ring C) i h)
+      layers member-Expr h all = let E = h member-Expr in let S = h member-Step in variants_crosses (expr_knot.type-Expr C E E E S E) (expr_parts E S (all member-Expr) (all member-Step))
+      layers member-Step h all =
+          let s = (all member-Expr).0 in
+          let y = (all member-Expr).1 in
+          let T = expr_knot.type-Step C (h member-Expr) in
+          (declared_send T (search (s, as_row_send, crosses, sendable) depth 20), declared_sync T (search (y, as_row_sync, crosses, sendable) depth 20))
 
 expr : Crosses (Expr.the_row BoundColumn.the_row)
-expr = variants_crosses (Expr.enum BoundColumn.the_row) (expr_parts (expr_knot.hole-Expr BoundColumn.the_row) (expr_knot.hole-Step BoundColumn.the_row) (expr_holes member-Expr) (expr_holes member-Step))
+expr =
+    let C = BoundColumn.the_row in
+    variants_crosses (Expr.enum C) (expr_parts C bound_column (expr_knot.hole-Expr C) (expr_knot.hole-Step C) (expr_holes C bound_column member-Expr) (expr_holes C bound_column member-Step))
+
+pub column_ref : Crosses ColumnRef.the_row
+column_ref = (search (crosses, sendable) depth 20, search (crosses, sendable) depth 20)
+
+pub expr_of_refs : Crosses (Expr.the_row ColumnRef.the_row)
+expr_of_refs =
+    let C = ColumnRef.the_row in
+    variants_crosses (Expr.enum C) (expr_parts C column_ref (expr_knot.hole-Expr C) (expr_knot.hole-Step C) (expr_holes C column_ref member-Expr) (expr_holes C column_ref member-Step))
 
 -- and so does a condition
 module _ (O : RattleType) (o : Crosses O) where

@@ -5,6 +5,7 @@ pub mod Conjoined
 pub mod Dimensions
 pub mod Encodings
 pub mod Indexing
+pub mod Inputs
 pub mod Joins
 pub mod Keys
 pub mod MarkedRows

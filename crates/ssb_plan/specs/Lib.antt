@@ -3,6 +3,7 @@ pub mod Build
 pub mod DimensionIndex
 pub mod Filters
 pub mod Index
+pub mod Inputs
 pub mod JobShape
 pub mod Loaded
 pub mod Only

@@ -17,6 +17,7 @@ use ssb_terms::ColType;
 use std::alloc::{AllocError, Global};
 
 /// What WHERE asks of one column of a table: its conjuncts over that column alone, as one set.
+#[derive(Drop)]
 pub struct ColumnFilter {
     /// The column's place in its table.
     pub column: usize,
@@ -24,18 +25,6 @@ pub struct ColumnFilter {
     pub set: ValueSet,
     /// What stands for the set where many rows are tested.
     pub check: Check,
-}
-
-impl Drop for ColumnFilter {
-    fn drop(self) {
-        let ColumnFilter {
-            column: _,
-            set,
-            check,
-        } = self;
-        drop(set);
-        drop(check);
-    }
 }
 
 /// The values of a column as numbers: those that it has, or the codes of its texts.

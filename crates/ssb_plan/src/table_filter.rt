@@ -38,20 +38,12 @@ pub struct Local<'a> {
 
 /// What WHERE asks of the rows of one table alone: a filter for each column that some conjunct speaks of
 /// alone, and the other conjuncts over this table, which are evaluated.
+#[derive(Drop)]
 pub struct TableFilter {
     /// The filters of columns.
     pub columns: Vec<ColumnFilter>,
     /// The conjuncts that are evaluated.
     pub others: Vec<Filter<BoundColumn>>,
-}
-
-// Written out, so that what lets go of one need not say how its parts are let go.
-impl Drop for TableFilter {
-    fn drop(self) {
-        let TableFilter { columns, others } = self;
-        drop(columns);
-        drop(others);
-    }
 }
 
 /// A combination that has this row at this place of FROM, for conditions that read no other.

@@ -18,7 +18,7 @@ of_form C (Expr-F.Negative part) = expr.Negative part
 of_form C (Expr-F.Chain first steps) = expr.Chain first steps
 of_form C (Expr-F.Times factors) = expr.Times factors
 
-rolls : (C : Type 0) (x : Expr-F C (Expr C) (Step C)) → of_form C x ≡ roll-Expr C x
+pub rolls : (C : Type 0) (x : Expr-F C (Expr C) (Step C)) → of_form C x ≡ roll-Expr C x
 unfolding roll-Expr denote.Hole.Carrier.roll
 rolls C (Expr-F.Column x) = refl
 rolls C (Expr-F.Number n) = refl

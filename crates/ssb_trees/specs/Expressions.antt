@@ -1,6 +1,6 @@
 -- Expressions and aggregates over any columns: the same over others, and the columns that they have.
 -- Source: own; the forms are those of SQL-92, 6.12 <numeric value expression>.
-use Rattle.std.specs.Prelude.{List, [], ◌∷◌, ◌++◌}
+use Rattle.std.specs.Prelude.{List, [], ◌∷◌, ◌++◌, Option, None, Some}
 use Rattle.ssb_trees.specs.Lists.{concat}
 use Rattle.ssb_trees.specs.declared.aggregate.Aggregate.{Aggregate}
 use Rattle.ssb_trees.specs.declared.aggregate.Aggregate.TheVariants as aggregate
@@ -47,6 +47,19 @@ columns C = fold-Expr C (List C) (List C) (columns_layer C) (step_columns_layer 
 
 abbrev pub step_columns : (C : Type 0) → Step C → List C
 step_columns C = fold-Step C (List C) (List C) (columns_layer C) (step_columns_layer C)
+
+-- one form of expression, as a column
+abbrev pub own_column_layer : (C : Type 0) → Expr-F C (Option C) (Option C) → Option C
+own_column_layer C (Expr-F.Column x) = Some x
+own_column_layer C (Expr-F.Number n) = None
+own_column_layer C (Expr-F.Positive part) = None
+own_column_layer C (Expr-F.Negative part) = None
+own_column_layer C (Expr-F.Chain first steps) = None
+own_column_layer C (Expr-F.Times factors) = None
+
+-- the column that an expression is, where it is one alone
+abbrev pub own_column : {C : Type 0} → Expr C → Option C
+own_column {C} = fold-Expr C (Option C) (Option C) (own_column_layer C) (λ s. s.term)
 
 -- ---- aggregates
 

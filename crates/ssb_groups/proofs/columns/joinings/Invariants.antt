@@ -1,6 +1,6 @@
-use Rattle.std.proofs.Common.{◌≡◌, ◌++◌, drop, map}
+use Rattle.std.proofs.Common.{◌≡◌, map, take}
 use Rattle.ssb_groups.specs.Joining.{joining_of}
 use Rattle.ssb_groups.proofs.columns.joinings.Given as goal
 
-abbrev pub invariant-loop-aggregate : goal.invariant-loop-aggregate
-invariant-loop-aggregate l = l.joinings.items ++ map (joining_of l.job) (drop l.aggregate-index l.aggregate-items) ≡ map (joining_of l.job) l.aggregate-items
+abbrev pub invariant-loop-at : goal.invariant-loop-at
+invariant-loop-at l = l.joinings.items ≡ map (joining_of l.job) (take l.at l.aggregates)

@@ -1,7 +1,5 @@
-use Rattle.ssb_groups.specs.Joining.{place_alone}
-use Rattle.ssb_groups.specs.Places.{values_at}
-use Rattle.ssb_groups.specs.Value.{column_of}
+use Rattle.ssb_groups.specs.Refs.{input_texts}
 use Rattle.ssb_groups.proofs.gather.value.Goals as goal
 
-pub returns-in-None-clause-kept : goal.returns-in-None-clause-kept
-returns-in-None-clause-kept c = c.kept.ensures.kept (values_at c.args.job.now.tables (place_alone c.args.job.now (column_of c.args.expr.now)))
+pub returns-in-Number-clause-kept : goal.returns-in-Number-clause-kept
+returns-in-Number-clause-kept c = c.kept.ensures.kept (input_texts c.args.job.now.tables c.args.input.now)

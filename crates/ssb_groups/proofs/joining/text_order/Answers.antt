@@ -4,15 +4,15 @@ use Rattle.std.proofs.lemmas.Option.{get_or_from_slice_get}
 use Rattle.std.specs.Cmp.Lexicographic.{slice_cmp, nat_list_cmp_total}
 use Rattle.std.specs.Ordering.{nat_cmp}
 use Rattle.ssb_cells.specs.Codes.{texts_of}
-use Rattle.ssb_groups.specs.Places.{values_at}
+use Rattle.ssb_groups.specs.Refs.{values_at}
 use Rattle.ssb_groups.proofs.joining.text_order.Goals as goal
 
 pub returns-then-x-y : goal.returns-then-x-y
 returns-then-x-y c =
-    let texts = texts_of (values_at c.args.tables.now c.args.place) in
+    let texts = texts_of (values_at c.args.tables.now c.args.column) in
     sym (tied_itself nat_list_cmp_total (get_or texts c.args.x [])) ∙ ap (λ n. slice_cmp nat_cmp (get_or texts c.args.x []) (get_or texts n [])) c.if-x-y.true
 
 pub returns : goal.returns
 returns c =
-    let texts = texts_of (values_at c.args.tables.now c.args.place) in
-    c.cmp.ensures ∙ sym (ap₂ (slice_cmp nat_cmp) (get_or_from_slice_get texts c.args.x _ [] c.text_at_place.ensures) (get_or_from_slice_get texts c.args.y _ [] c.text_at_place-2.ensures))
+    let texts = texts_of (values_at c.args.tables.now c.args.column) in
+    c.cmp.ensures ∙ sym (ap₂ (slice_cmp nat_cmp) (get_or_from_slice_get texts c.args.x _ [] c.text_in.ensures) (get_or_from_slice_get texts c.args.y _ [] c.text_in-2.ensures))

@@ -1,7 +1,6 @@
 use Rattle.std.proofs.Common.{◌≡◌, ◌++◌, drop, map}
-use Rattle.ssb_groups.specs.Places.{cell_at_place}
+use Rattle.ssb_groups.specs.Refs.{cell_in}
 use Rattle.ssb_groups.proofs.columns.Columns.fill.Given as goal
 
-abbrev pub invariant-loop-place : goal.invariant-loop-place
-invariant-loop-place l =
-    l.key.cells.items ++ map (cell_at_place l.tables l.rows) (drop l.place-index l.place-items) ≡ map (cell_at_place l.tables l.rows) l.place-items
+abbrev pub invariant-loop-column : goal.invariant-loop-column
+invariant-loop-column l = l.key.cells.items ++ map (cell_in l.tables l.rows) (drop l.column-index l.column-items) ≡ map (cell_in l.tables l.rows) l.column-items

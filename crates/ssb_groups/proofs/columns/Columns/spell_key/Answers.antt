@@ -1,6 +1,8 @@
 use Rattle.std.proofs.Common.{◌∙◌, ◌+◌, ◌++◌, [], ◌∷◌, drop, map, slice_get, refl, sym, ap, subst, arith, append_assoc}
+use Rattle.std.specs.List.{list_all}
 use Rattle.std.proofs.lemmas.List.{map-append}
 use Rattle.ssb_cells.specs.Values.{cell_of}
+use Rattle.ssb_plan.specs.Inputs.{has_column}
 use Rattle.ssb_plan.specs.JobShape.{JobShape}
 use Rattle.ssb_groups.specs.Keys.{AreKept, key_columns, spelt}
 use Rattle.ssb_groups.proofs.ColumnFacts.{is-at, kept-at, spelt-at}
@@ -8,27 +10,27 @@ use Rattle.ssb_groups.proofs.columns.Columns.spell_key.Goals as goal
 
 pub bounds-cells-at : goal.bounds-cells-at
 bounds-cells-at c =
-    (is-at c.self.inside.job.value c.as_slice-tables.result.now c.as_slice-places.result.now c.as_slice-cells.result.now c.args.key.now.cells.items c.loop-at.at (c.as_slice-tables.ensures.value ∙ ap (λ v. v.items) c.deref.ensures ∙ c.self.invariant.0)
-    (c.as_slice-places.ensures.value ∙ c.self.invariant.1) c.as_slice-cells.ensures.value (subst (λ x. AreKept (key_columns x) c.args.key.now.cells.items) (sym c.self.view_is) c.requires.kept) (omega arith)).below
+    (is-at c.self.inside.job.value c.as_slice-tables.result.now c.as_slice-keys.result.now c.as_slice-cells.result.now c.args.key.now.cells.items c.loop-at.at (c.as_slice-tables.ensures.value ∙ ap (λ v. v.items) c.deref.ensures ∙ c.self.invariant.tables)
+    (c.as_slice-keys.ensures.value ∙ c.self.invariant.keys) (ap (list_all (has_column c.self.inside.job.value.query c.self.inside.job.value.tables)) c.as_slice-keys.ensures.value ∙ c.self.invariant.there) c.as_slice-cells.ensures.value (subst (λ x. AreKept (key_columns x) c.args.key.now.cells.items) (sym c.self.view_is) c.requires.kept) (omega arith)).below
 
-pub spelt_value-requires-clause-place : goal.spelt_value-requires-clause-place
-spelt_value-requires-clause-place c =
-    (is-at c.self.inside.job.value c.as_slice-tables.result.now c.as_slice-places.result.now c.as_slice-cells.result.now c.args.key.now.cells.items c.loop-at.at (c.as_slice-tables.ensures.value ∙ ap (λ v. v.items) c.deref.ensures ∙ c.self.invariant.0)
-    (c.as_slice-places.ensures.value ∙ c.self.invariant.1) c.as_slice-cells.ensures.value (subst (λ x. AreKept (key_columns x) c.args.key.now.cells.items) (sym c.self.view_is) c.requires.kept) (omega arith)).place
+pub spelt_value-requires-clause-column : goal.spelt_value-requires-clause-column
+spelt_value-requires-clause-column c =
+    (is-at c.self.inside.job.value c.as_slice-tables.result.now c.as_slice-keys.result.now c.as_slice-cells.result.now c.args.key.now.cells.items c.loop-at.at (c.as_slice-tables.ensures.value ∙ ap (λ v. v.items) c.deref.ensures ∙ c.self.invariant.tables)
+    (c.as_slice-keys.ensures.value ∙ c.self.invariant.keys) (ap (list_all (has_column c.self.inside.job.value.query c.self.inside.job.value.tables)) c.as_slice-keys.ensures.value ∙ c.self.invariant.there) c.as_slice-cells.ensures.value (subst (λ x. AreKept (key_columns x) c.args.key.now.cells.items) (sym c.self.view_is) c.requires.kept) (omega arith)).there
 
 pub spelt_value-requires-clause-kept : goal.spelt_value-requires-clause-kept
 spelt_value-requires-clause-kept c =
     let j : JobShape = c.self.inside.job.value in
     let key = c.args.key.now.cells.items in
     let is : AreKept (key_columns j) key = subst (λ x. AreKept (key_columns x) key) (sym c.self.view_is) c.requires.kept in
-    let h = is-at c.self.inside.job.value c.as_slice-tables.result.now c.as_slice-places.result.now c.as_slice-cells.result.now c.args.key.now.cells.items c.loop-at.at (c.as_slice-tables.ensures.value ∙ ap (λ v. v.items) c.deref.ensures ∙ c.self.invariant.0)
-    (c.as_slice-places.ensures.value ∙ c.self.invariant.1) c.as_slice-cells.ensures.value (subst (λ x. AreKept (key_columns x) c.args.key.now.cells.items) (sym c.self.view_is) c.requires.kept) (omega arith) in
+    let h = is-at c.self.inside.job.value c.as_slice-tables.result.now c.as_slice-keys.result.now c.as_slice-cells.result.now c.args.key.now.cells.items c.loop-at.at (c.as_slice-tables.ensures.value ∙ ap (λ v. v.items) c.deref.ensures ∙ c.self.invariant.tables)
+    (c.as_slice-keys.ensures.value ∙ c.self.invariant.keys) (ap (list_all (has_column c.self.inside.job.value.query c.self.inside.job.value.tables)) c.as_slice-keys.ensures.value ∙ c.self.invariant.there) c.as_slice-cells.ensures.value (subst (λ x. AreKept (key_columns x) c.args.key.now.cells.items) (sym c.self.view_is) c.requires.kept) (omega arith) in
     kept-at (key_columns j) key c.loop-at.at _ _ is h.column h.cell
 
 pub loop-at-preserved : goal.loop-at-preserved
 loop-at-preserved c =
-    let h = is-at c.self.inside.job.value c.as_slice-tables.result.now c.as_slice-places.result.now c.as_slice-cells.result.now c.args.key.now.cells.items c.loop-at.at (c.as_slice-tables.ensures.value ∙ ap (λ v. v.items) c.deref.ensures ∙ c.self.invariant.0)
-    (c.as_slice-places.ensures.value ∙ c.self.invariant.1) c.as_slice-cells.ensures.value (subst (λ x. AreKept (key_columns x) c.args.key.now.cells.items) (sym c.self.view_is) c.requires.kept) (omega arith) in
+    let h = is-at c.self.inside.job.value c.as_slice-tables.result.now c.as_slice-keys.result.now c.as_slice-cells.result.now c.args.key.now.cells.items c.loop-at.at (c.as_slice-tables.ensures.value ∙ ap (λ v. v.items) c.deref.ensures ∙ c.self.invariant.tables)
+    (c.as_slice-keys.ensures.value ∙ c.self.invariant.keys) (ap (list_all (has_column c.self.inside.job.value.query c.self.inside.job.value.tables)) c.as_slice-keys.ensures.value ∙ c.self.invariant.there) c.as_slice-cells.ensures.value (subst (λ x. AreKept (key_columns x) c.args.key.now.cells.items) (sym c.self.view_is) c.requires.kept) (omega arith) in
     let i = c.loop-at.at in
     let columns = key_columns c.args.self.now in
     let key = c.args.key.now.cells.items in

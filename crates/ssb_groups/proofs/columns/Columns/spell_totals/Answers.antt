@@ -12,7 +12,7 @@ use Rattle.ssb_groups.specs.declared.kept.Kept.{Kept}
 use Rattle.ssb_groups.specs.declared.kept.KeptTotal.{KeptTotal}
 use Rattle.ssb_groups.specs.declared.kept.KeptTotal.TheVariants as total
 use Rattle.ssb_groups.proofs.ColumnFacts.{spelt-at}
-use Rattle.ssb_groups.proofs.JoiningFacts.{below, cell-here, column-here, joining-at, joinings-there, none-left, total-get}
+use Rattle.ssb_groups.proofs.JoiningFacts.{below, cell-here, column-here, joining-at, none-left, total-get}
 use Rattle.ssb_groups.proofs.columns.Columns.spell_totals.Goals as goal
 
 -- at this number stand a joining, its column, and a total
@@ -24,9 +24,9 @@ record IsAt (j : JobShape) (tables : List Columns) (ws : List Joining) (ts : Lis
   cell : slice_get cells i ≡ Some (kept_total (get_or ts i total.Null))
 
 is-at : (j : JobShape) (tables : List Columns) (ws : List Joining) (ts : List KeptTotal) (cells : List Kept) (i : ℕ)
-    → tables ≡ j.tables → ws ≡ joinings_of j → map kept_total ts ≡ cells → AreTotals j cells → i < length ws → IsAt j tables ws ts cells i
-is-at j tables ws ts cells i t w c is lt = record {
-  there = joining-at tables ws i joining.Adds (subst (AreJoinings tables) (sym w) (subst (λ x. AreJoinings x (joinings_of j)) (sym t) (joinings-there j j.query.aggregates))) lt;
+    → tables ≡ j.tables → ws ≡ joinings_of j → AreJoinings j.tables ws → map kept_total ts ≡ cells → AreTotals j cells → i < length ws → IsAt j tables ws ts cells i
+is-at j tables ws ts cells i t w known c is lt = record {
+  there = joining-at tables ws i joining.Adds (subst (λ x. AreJoinings x ws) (sym t) known) lt;
   below = under;
   kept = total-get (values_by tables) ws ts i same lt;
   column = ap (λ x. slice_get (map (values_by x) (joinings_of j)) i) (sym t) ∙ ap (λ x. slice_get (map (values_by tables) x) i) (sym w) ∙ column-here (values_by tables) ws i lt;
@@ -41,23 +41,23 @@ is-at j tables ws ts cells i t w c is lt = record {
 
 pub bounds-kept-at : goal.bounds-kept-at
 bounds-kept-at c =
-    (is-at c.self.inside.job.value c.as_slice-tables.result.now c.as_slice-joinings.result.now c.as_slice-kept.result.now c.args.totals.now c.loop-at.at (c.as_slice-tables.ensures.value ∙ ap (λ v. v.items) c.deref.ensures ∙ c.self.invariant.0)
-    (c.as_slice-joinings.ensures.value ∙ c.self.invariant.2) c.as_slice-kept.ensures (subst (λ x. AreTotals x c.args.totals.now) (sym c.self.view_is) c.requires) (omega arith)).below
+    (is-at c.self.inside.job.value c.as_slice-tables.result.now c.as_slice-joinings.result.now c.as_slice-kept.result.now c.args.totals.now c.loop-at.at (c.as_slice-tables.ensures.value ∙ ap (λ v. v.items) c.deref.ensures ∙ c.self.invariant.tables)
+    (c.as_slice-joinings.ensures.value ∙ c.self.invariant.joinings) (subst (AreJoinings c.self.inside.job.value.tables) (sym c.as_slice-joinings.ensures.value) c.self.invariant.known) c.as_slice-kept.ensures (subst (λ x. AreTotals x c.args.totals.now) (sym c.self.view_is) c.requires) (omega arith)).below
 
 pub spelt_total-requires-clause-joining : goal.spelt_total-requires-clause-joining
 spelt_total-requires-clause-joining c =
-    (is-at c.self.inside.job.value c.as_slice-tables.result.now c.as_slice-joinings.result.now c.as_slice-kept.result.now c.args.totals.now c.loop-at.at (c.as_slice-tables.ensures.value ∙ ap (λ v. v.items) c.deref.ensures ∙ c.self.invariant.0)
-    (c.as_slice-joinings.ensures.value ∙ c.self.invariant.2) c.as_slice-kept.ensures (subst (λ x. AreTotals x c.args.totals.now) (sym c.self.view_is) c.requires) (omega arith)).there
+    (is-at c.self.inside.job.value c.as_slice-tables.result.now c.as_slice-joinings.result.now c.as_slice-kept.result.now c.args.totals.now c.loop-at.at (c.as_slice-tables.ensures.value ∙ ap (λ v. v.items) c.deref.ensures ∙ c.self.invariant.tables)
+    (c.as_slice-joinings.ensures.value ∙ c.self.invariant.joinings) (subst (AreJoinings c.self.inside.job.value.tables) (sym c.as_slice-joinings.ensures.value) c.self.invariant.known) c.as_slice-kept.ensures (subst (λ x. AreTotals x c.args.totals.now) (sym c.self.view_is) c.requires) (omega arith)).there
 
 pub spelt_total-requires-clause-kept : goal.spelt_total-requires-clause-kept
 spelt_total-requires-clause-kept c =
-    (is-at c.self.inside.job.value c.as_slice-tables.result.now c.as_slice-joinings.result.now c.as_slice-kept.result.now c.args.totals.now c.loop-at.at (c.as_slice-tables.ensures.value ∙ ap (λ v. v.items) c.deref.ensures ∙ c.self.invariant.0)
-    (c.as_slice-joinings.ensures.value ∙ c.self.invariant.2) c.as_slice-kept.ensures (subst (λ x. AreTotals x c.args.totals.now) (sym c.self.view_is) c.requires) (omega arith)).kept
+    (is-at c.self.inside.job.value c.as_slice-tables.result.now c.as_slice-joinings.result.now c.as_slice-kept.result.now c.args.totals.now c.loop-at.at (c.as_slice-tables.ensures.value ∙ ap (λ v. v.items) c.deref.ensures ∙ c.self.invariant.tables)
+    (c.as_slice-joinings.ensures.value ∙ c.self.invariant.joinings) (subst (AreJoinings c.self.inside.job.value.tables) (sym c.as_slice-joinings.ensures.value) c.self.invariant.known) c.as_slice-kept.ensures (subst (λ x. AreTotals x c.args.totals.now) (sym c.self.view_is) c.requires) (omega arith)).kept
 
 pub loop-at-preserved : goal.loop-at-preserved
 loop-at-preserved c =
-    let h = is-at c.self.inside.job.value c.as_slice-tables.result.now c.as_slice-joinings.result.now c.as_slice-kept.result.now c.args.totals.now c.loop-at.at (c.as_slice-tables.ensures.value ∙ ap (λ v. v.items) c.deref.ensures ∙ c.self.invariant.0)
-    (c.as_slice-joinings.ensures.value ∙ c.self.invariant.2) c.as_slice-kept.ensures (subst (λ x. AreTotals x c.args.totals.now) (sym c.self.view_is) c.requires) (omega arith) in
+    let h = is-at c.self.inside.job.value c.as_slice-tables.result.now c.as_slice-joinings.result.now c.as_slice-kept.result.now c.args.totals.now c.loop-at.at (c.as_slice-tables.ensures.value ∙ ap (λ v. v.items) c.deref.ensures ∙ c.self.invariant.tables)
+    (c.as_slice-joinings.ensures.value ∙ c.self.invariant.joinings) (subst (AreJoinings c.self.inside.job.value.tables) (sym c.as_slice-joinings.ensures.value) c.self.invariant.known) c.as_slice-kept.ensures (subst (λ x. AreTotals x c.args.totals.now) (sym c.self.view_is) c.requires) (omega arith) in
     let i = c.loop-at.at in
     let columns = total_columns c.args.self.now in
     let cells = c.args.totals.now in
@@ -71,7 +71,7 @@ pub returns : goal.returns
 returns c =
     let j : JobShape = c.args.self.now in
     let columns = total_columns j in
-    let ws : c.as_slice-joinings.result.now ≡ joinings_of j = c.as_slice-joinings.ensures.value ∙ c.self.invariant.2 ∙ ap joinings_of c.self.view_is in
+    let ws : c.as_slice-joinings.result.now ≡ joinings_of j = c.as_slice-joinings.ensures.value ∙ c.self.invariant.joinings ∙ ap joinings_of c.self.view_is in
     let past = c.loop-at-test.false in
     let n = ap length ws in
     let m = length-map (joinings_of j) (values_by j.tables) in

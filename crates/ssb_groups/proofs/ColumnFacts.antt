@@ -15,14 +15,14 @@ use Rattle.ssb_cells.specs.Codes.{code_of, texts_of}
 use Rattle.ssb_cells.specs.Tables.{Filled, rows_in, cell_in_column, Columns}
 use Rattle.ssb_cells.proofs.CodeFacts.{among, place-known}
 use Rattle.ssb_conditions.specs.Rows.{IsCombination, cell_by, column_value}
-use Rattle.ssb_plan.specs.Inputs.{column_in, column_ref, has_column, is_number, is_of_kind}
+use Rattle.ssb_plan.specs.Inputs.{column_in, column_ref, has_column, is_number, is_of_kind, table_at, values_in, values_of}
 use Rattle.ssb_plan.specs.JobShape.{JobShape, from_tables}
 use Rattle.ssb_plan.specs.declared.input.ColumnRef.{ColumnRef}
 use Rattle.ssb_groups.specs.Keys as keys
-use Rattle.ssb_groups.specs.Keys.{AreKept, IsKept, column_values, key_cell, key_columns, key_of, kept_cell, spelt, spelt_cell, values_in}
-use Rattle.ssb_groups.specs.Refs.{HasRow, IsColumn, bound, cell_in, table_at, values_at, values_of}
-use Rattle.ssb_groups.specs.declared.kept.Kept.{Kept}
-use Rattle.ssb_groups.specs.declared.kept.Kept.TheVariants as kept
+use Rattle.ssb_groups.specs.Keys.{AreKept, IsKept, column_values, key_cell, key_columns, key_of, kept_cell, spelt, spelt_cell}
+use Rattle.ssb_groups.specs.Refs.{HasRow, IsColumn, bound, cell_in, values_at}
+use Rattle.ssb_keys.specs.declared.kept.Kept.{Kept}
+use Rattle.ssb_keys.specs.declared.kept.Kept.TheVariants as kept
 
 -- an element that was got from a list is there in the same list by another name
 pub got-in : {X : Type 0} (xs ys : List X) (k : ℕ) (x : X) → xs ≡ ys → true ≡ ltb k (length xs) → x ≡ get_or xs k x → slice_get ys k ≡ Some x
@@ -48,7 +48,7 @@ respells-text values t has =
     let code : code_of values t ≡ Some (position_or_len (bytes_eq t) (texts_of values)) = ap (λ b. cond b (Some (position_or_len (bytes_eq t) (texts_of values))) None) (lt-ltb _ _ known.0) in
     rw code (ap text known.1, known.0)
 
-respells : (values : List Cell) (i : ℕ) (v : Cell) → slice_get values i ≡ Some v → Respells values v
+pub respells : (values : List Cell) (i : ℕ) (v : Cell) → slice_get values i ≡ Some v → Respells values v
 respells values i null e = (refl, tt)
 respells values i (number n) e = (refl, tt)
 respells values i (text t) e = respells-text values t (i, slice_get_within values i (text t) e, get_or_from_slice_get values i (text t) (text t) e)

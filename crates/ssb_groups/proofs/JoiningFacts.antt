@@ -10,8 +10,8 @@ use Rattle.ssb_groups.specs.Joining.{AreJoinings, Fits, FitEach, IsJoining, join
 use Rattle.ssb_groups.specs.Keys.{AreKept, IsKept, kept_total, spelt, spelt_cell}
 use Rattle.ssb_groups.specs.declared.joining.Joining.{Joining}
 use Rattle.ssb_groups.specs.declared.joining.Joining.TheVariants as joining
-use Rattle.ssb_groups.specs.declared.kept.Kept.{Kept}
-use Rattle.ssb_groups.specs.declared.kept.Kept.TheVariants as kept
+use Rattle.ssb_keys.specs.declared.kept.Kept.{Kept}
+use Rattle.ssb_keys.specs.declared.kept.Kept.TheVariants as kept
 use Rattle.ssb_groups.specs.declared.kept.KeptTotal.{KeptTotal}
 use Rattle.ssb_groups.specs.declared.kept.KeptTotal.TheVariants as total
 

@@ -1,20 +1,29 @@
 -- Keys are equal where their values are.
-use Rattle.std.proofs.Common.{◌≡◌, ◌∙◌, ◌<◌, ℕ, nat_eq, bytes_eq, Bool, true, false, true≢false, ◌&&◌, List, [], ◌∷◌, length, get_or, refl, sym, ap, ap₂}
+use Rattle.std.proofs.Common.{◌≡◌, ◌∙◌, ◌<◌, ℕ, ℤ, pos, nat_eq, bytes_eq, Bool, true, false, true≢false, ◌&&◌, List, [], ◌∷◌, Some, length, get_or, refl, sym, ap, ap₂, subst, arith}
+use Rattle.std.specs.Bool.{Decides}
 use Rattle.std.specs.Cmp.{IsEquivalence}
 use Rattle.std.specs.Cmp.Lexicographic.{pointwise, bytes_decides}
 use Rattle.std.proofs.lemmas.Bool.{eq-eqb, eqb-true}
+use Rattle.std.proofs.lemmas.Bool.Decides.{Decides-eqb, Decides-int_eq, Decides-like, same_from_decides}
+use Rattle.std.proofs.lemmas.Slice.Eq.{slice_eq-Decides}
 use Rattle.std.proofs.lemmas.Cmp.{lists_equiv, int_eq_equiv, nat_list_eq_equiv}
 use Rattle.std.proofs.lemmas.Option.{same_Some}
 use Rattle.ssb_cells.specs.Cell.{Cell, null, number, text}
 use Rattle.ssb_cells.specs.Codes.{code_of, texts_of}
 use Rattle.ssb_cells.proofs.CodeFacts.{code-of}
-use Rattle.ssb_groups.specs.Keys.{AreKept, IsKept, IsKey, cells_in, spelt, spelt_cell}
+use Rattle.ssb_keys.specs.Domains.{cells, size}
+use Rattle.ssb_keys.specs.Domains.{number as number_of}
+use Rattle.ssb_keys.specs.declared.domain.Domain.{Domain}
+use Rattle.ssb_keys.proofs.DomainFacts.{cells-number, number-below, number-cells}
+use Rattle.ssb_plan.specs.JobShape.{JobShape}
+use Rattle.ssb_groups.specs.Keys.{AreCells, AreKept, HasCells, HasNumbers, IsCopy, IsKept, IsKey, cells_alone, cells_in, domains_of, kept_in, key_columns, spelt, spelt_cell}
 use Rattle.ssb_groups.specs.Rows.{cell_eq, key_eq}
 use Rattle.ssb_groups.specs.contracts.key.GroupKeyPartialEq.TheImpl as group_keys
-use Rattle.ssb_groups.specs.contracts.kept.KeptPartialEq.TheImpl as key_cells
+use Rattle.ssb_keys.specs.contracts.kept.KeptPartialEq.TheImpl as key_cells
 use Rattle.ssb_groups.specs.declared.key.GroupKey.{GroupKey}
-use Rattle.ssb_groups.specs.declared.kept.Kept.{Kept}
-use Rattle.ssb_groups.specs.declared.kept.Kept.TheVariants as kept
+use Rattle.ssb_groups.specs.declared.key.GroupKey.TheVariants as form
+use Rattle.ssb_keys.specs.declared.kept.Kept.{Kept}
+use Rattle.ssb_keys.specs.declared.kept.Kept.TheVariants as kept
 
 cell_itself : (a : Cell) → cell_eq a a ≡ true
 cell_itself null = refl
@@ -96,6 +105,66 @@ cells_same (v ∷ vs) [] ys p q = absurd p
 cells_same (v ∷ vs) (x ∷ xs) [] p q = absurd q
 cells_same (v ∷ vs) (x ∷ xs) (y ∷ ys) p q = ap₂ (λ a b. a && b) (cell_same v x y p.0 q.0) (cells_same vs xs ys p.1 q.1)
 
+-- ---- what stands for values is equal exactly where it is the same
+
+abbrev number_in : Kept → ℤ
+number_in kept.Null = pos 0
+number_in (kept.Number n) = n
+number_in (kept.Code code) = pos 0
+
+abbrev code_in : Kept → ℕ
+code_in kept.Null = 0
+code_in (kept.Number n) = 0
+code_in (kept.Code code) = code
+
+cell-decides : (a b : Kept) → Decides (cells_equal a b) (a ≡ b)
+cell-decides kept.Null kept.Null = (λ h. refl, λ e. refl)
+cell-decides kept.Null (kept.Number b) = (λ h. absurd (true≢false (sym h)), λ e. cc)
+cell-decides kept.Null (kept.Code b) = (λ h. absurd (true≢false (sym h)), λ e. cc)
+cell-decides (kept.Number a) kept.Null = (λ h. absurd (true≢false (sym h)), λ e. cc)
+cell-decides (kept.Number a) (kept.Number b) = let d = Decides-int_eq a b in (λ h. ap kept.Number (d.0 h), λ e. d.1 (ap number_in e))
+cell-decides (kept.Number a) (kept.Code b) = (λ h. absurd (true≢false (sym h)), λ e. cc)
+cell-decides (kept.Code a) kept.Null = (λ h. absurd (true≢false (sym h)), λ e. cc)
+cell-decides (kept.Code a) (kept.Number b) = (λ h. absurd (true≢false (sym h)), λ e. cc)
+cell-decides (kept.Code a) (kept.Code b) = let d = Decides-eqb a b in (λ h. ap kept.Code (d.0 h), λ e. d.1 (ap code_in e))
+
+-- numbers are equal exactly where their cells are
+numbers_same : (ds : List Domain) (n m : ℕ) → n < size ds → m < size ds → nat_eq n m ≡ pointwise cells_equal (cells ds n) (cells ds m)
+numbers_same ds n m p q =
+    same_from_decides (nat_eq n m) (pointwise cells_equal (cells ds n) (cells ds m)) (Decides-eqb n m)
+    (Decides-like (pointwise cells_equal (cells ds n) (cells ds m)) (λ e. sym (number-cells ds n p) ∙ ap (number_of ds) e ∙ number-cells ds m q) (λ e. ap (cells ds) e) (slice_eq-Decides cell-decides (cells ds n) (cells ds m) _ refl))
+
 -- keys of one job are equal exactly where their values are
-pub key_same : (columns : List (List Cell)) (x y : GroupKey) → IsKey columns x → IsKey columns y → keys_equal x y ≡ key_eq (cells_in columns x) (cells_in columns y)
-key_same columns x y p q = cells_same columns x.cells.items y.cells.items p.kept q.kept
+pub key_same : (j : JobShape) (x y : GroupKey) → IsKey j x → IsKey j y → keys_equal x y ≡ key_eq (cells_in j x) (cells_in j y)
+key_same j (form.Number n) (form.Number m) p q = numbers_same (domains_of j) n m p.form.1 q.form.1 ∙ cells_same (key_columns j) _ _ p.kept q.kept
+key_same j (form.Number n) (form.Cells w) p q = absurd (omega (arith, p.form.0, q.form))
+key_same j (form.Cells v) (form.Number m) p q = absurd (omega (arith, p.form, q.form.0))
+key_same j (form.Cells v) (form.Cells w) p q = cells_same (key_columns j) v.items w.items p.kept q.kept
+
+-- ---- the forms of a key
+
+-- a copy of a key is one of the same values
+pub copy-cells : (j : JobShape) (k g : GroupKey) → IsCopy k g → cells_in j g ≡ cells_in j k
+copy-cells j (form.Number n) (form.Number m) same = ap (λ x. spelt (key_columns j) (cells (domains_of j) x)) same
+copy-cells j (form.Number n) (form.Cells w) same = absurd same
+copy-cells j (form.Cells v) (form.Number m) same = absurd same
+copy-cells j (form.Cells v) (form.Cells w) same = ap (spelt (key_columns j)) same
+
+pub copy-key : (j : JobShape) (k g : GroupKey) → IsCopy k g → IsKey j k → IsKey j g
+copy-key j (form.Number n) (form.Number m) same is = subst (λ x. IsKey j (form.Number x)) (sym same) is
+copy-key j (form.Number n) (form.Cells w) same is = absurd same
+copy-key j (form.Cells v) (form.Number m) same is = absurd same
+copy-key j (form.Cells v) (form.Cells w) same is = record { form = is.form; kept = subst (AreKept (key_columns j)) (sym same) is.kept }
+
+-- a key of cells one by one
+pub alone-kept : (j : JobShape) (k : GroupKey) (cs : List Kept) → cells_alone k ≡ Some cs → kept_in j k ≡ cs
+alone-kept j (form.Number n) cs e = cc
+alone-kept j (form.Cells v) cs e = same_Some v.items cs e
+
+pub alone-key : (j : JobShape) (k : GroupKey) (cs : List Kept) → HasCells j → AreKept (key_columns j) cs → cells_alone k ≡ Some cs → IsKey j k
+alone-key j (form.Number n) cs has is e = cc
+alone-key j (form.Cells v) cs has is e = record { form = has; kept = subst (AreKept (key_columns j)) (sym (same_Some v.items cs e)) is }
+
+-- the key that is the number of cells
+pub number-key : (j : JobShape) (cs : List Kept) → HasNumbers j → AreCells j cs → IsKey j (form.Number (number_of (domains_of j) cs))
+number-key j cs has is = record { form = (has, number-below (domains_of j) cs is.there); kept = subst (AreKept (key_columns j)) (sym (cells-number (domains_of j) cs is.there)) is.kept }

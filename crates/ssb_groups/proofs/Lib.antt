@@ -12,3 +12,4 @@ pub mod RowFacts
 pub mod StandsFacts
 pub mod TableFacts
 pub mod TakenFacts
+pub mod ValueDomains

@@ -5,7 +5,7 @@ use Rattle.std.specs.Map.{keys_of, lookup}
 use Rattle.std.specs.HashMap.Eq.{lookup_congr}
 use Rattle.std.proofs.lemmas.List.{map-append}
 use Rattle.ssb_groups.specs.declared.joining.Joining.{Joining}
-use Rattle.ssb_groups.specs.declared.kept.Kept.{Kept}
+use Rattle.ssb_keys.specs.declared.kept.Kept.{Kept}
 use Rattle.ssb_groups.specs.declared.key.GroupKey.{GroupKey}
 use Rattle.ssb_groups.specs.Rows.{Key, key_eq, SeenRow}
 use Rattle.ssb_groups.specs.Stands.{GroupMap, Stands, group}
@@ -13,7 +13,7 @@ use Rattle.ssb_groups.specs.Joining.{FitEach, JoinsAt, JoinsEach, joinings_of, o
 use Rattle.ssb_cells.specs.Cell.{Cell}
 use Rattle.ssb_groups.specs.Aggregates.{totals}
 use Rattle.ssb_groups.specs.Entries.{AreEntries, AreTotals, Entry, entries_of, entry_of, totals_in}
-use Rattle.ssb_groups.specs.Keys.{IsKey, cells_in, key_columns}
+use Rattle.ssb_groups.specs.Keys.{IsKey, cells_in}
 use Rattle.ssb_plan.specs.JobShape.{JobShape}
 use Rattle.ssb_groups.proofs.Bounds.{fit_rows, summary_is}
 use Rattle.ssb_groups.proofs.KeyFacts.{key_eq_laws, keys_equal}
@@ -58,13 +58,13 @@ absent (x ∷ es) rest k m h =
     ap (λ b. cond b (Some x.1) (lookup (key_eq k) es)) other ∙ absent es rest k m h.1
 
 pub not-yet : (j : JobShape) (front rest : List Entry) (g : GroupKey) (m : List Kept) → AreEntries j (front ++ (g, m) ∷ rest) → IsDistinct keys_equal (keys_of (front ++ (g, m) ∷ rest))
-    → lookup (key_eq (cells_in (key_columns j) g)) (entries_of j front) ≡ None
+    → lookup (key_eq (cells_in j g)) (entries_of j front) ≡ None
 not-yet j front rest g m are h =
-    absent (entries_of j front) (entries_of j rest) (cells_in (key_columns j) g) (totals_in j m)
+    absent (entries_of j front) (entries_of j rest) (cells_in j g) (totals_in j m)
     (rw (map-append {B = Key × List Cell} (entry_of j) front ((g, m) ∷ rest)) at (keys_distinct j (front ++ (g, m) ∷ rest) are h))
 
 -- each entry of a list is one of the job
-pub entry-at : (j : JobShape) (front rest : List Entry) (g : GroupKey) (m : List Kept) → AreEntries j (front ++ (g, m) ∷ rest) → IsKey (key_columns j) g × AreTotals j m
+pub entry-at : (j : JobShape) (front rest : List Entry) (g : GroupKey) (m : List Kept) → AreEntries j (front ++ (g, m) ∷ rest) → IsKey j g × AreTotals j m
 entry-at j [] rest g m h = h.0
 entry-at j (e ∷ front) rest g m h = entry-at j front rest g m h.1
 

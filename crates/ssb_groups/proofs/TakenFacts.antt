@@ -21,8 +21,8 @@ use Rattle.ssb_groups.specs.Seen.{argument}
 use Rattle.ssb_groups.specs.Stands.{is_over, EachRanged}
 use Rattle.ssb_groups.specs.Value.{over, known}
 use Rattle.ssb_groups.specs.declared.gather.Taken.{Taken}
-use Rattle.ssb_groups.specs.declared.kept.Kept.{Kept}
-use Rattle.ssb_groups.specs.declared.kept.Kept.TheVariants as kept
+use Rattle.ssb_keys.specs.declared.kept.Kept.{Kept}
+use Rattle.ssb_keys.specs.declared.kept.Kept.TheVariants as kept
 
 -- ---- one aggregate
 

@@ -17,7 +17,7 @@ use Rattle.ssb_groups.specs.Rows.{Key, SeenRow}
 use Rattle.ssb_groups.specs.Seen.{argument}
 use Rattle.ssb_groups.specs.Stands.{GroupMap, Stands, has_over, is_over, IsRanged, EachRanged}
 use Rattle.ssb_groups.specs.declared.gather.Taken.{Taken}
-use Rattle.ssb_groups.specs.declared.kept.Kept.{Kept}
+use Rattle.ssb_keys.specs.declared.kept.Kept.{Kept}
 
 -- an aggregate over one combination alone
 abbrev pub alone : (BoundColumn → Cell) → Aggregate BoundColumn → Cell

@@ -4,9 +4,12 @@ use Rattle.std.specs.Prelude.{ℕ, zero, suc, ◌+ℤ◌, ◌≡◌, ⊤, true, 
 use Rattle.std.specs.Int.RustNames.{FitsSigned}
 use Rattle.std.specs.Int.{w128}
 use Rattle.std.specs.List.{list_all}
+use Rattle.std.specs.declared.alloc.Global.{Global}
+use Rattle.std.specs.declared.vec.Vec.{Vec}
 use Rattle.std.specs.Map.{lookup}
 use Rattle.ssb_cells.specs.Cell.{Cell, null, number}
 use Rattle.ssb_cells.specs.Tables.{Columns}
+use Rattle.ssb_keys.specs.declared.domain.Domain.{Domain}
 use Rattle.ssb_plan.specs.Inputs.{column_ref, has_column}
 use Rattle.ssb_plan.specs.JobShape.{JobShape}
 use Rattle.ssb_plan.specs.declared.input.ColumnRef.{ColumnRef}
@@ -18,12 +21,12 @@ use Rattle.ssb_trees.specs.declared.aggregate.SetFunction.{SetFunction}
 use Rattle.ssb_trees.specs.declared.aggregate.SetFunction.TheVariants as function
 use Rattle.ssb_trees.specs.declared.expr.Expr.{Expr}
 use Rattle.ssb_groups.specs.Aggregates.{greater, lesser}
-use Rattle.ssb_groups.specs.Keys.{IsKept}
+use Rattle.ssb_groups.specs.Keys.{AreDomains, IsKept, domains_of}
 use Rattle.ssb_groups.specs.Refs.{IsSomeColumn, values_at}
 use Rattle.ssb_groups.specs.Rows.{Key, key_eq}
 use Rattle.ssb_groups.specs.declared.joining.Joining.{Joining}
 use Rattle.ssb_groups.specs.declared.joining.Joining.TheVariants as joining
-use Rattle.ssb_groups.specs.declared.kept.Kept.{Kept}
+use Rattle.ssb_keys.specs.declared.kept.Kept.{Kept}
 
 -- ---- how an aggregate's totals are joined
 
@@ -62,10 +65,11 @@ abbrev pub AreJoinings : List Columns → List Joining → Type 0
 AreJoinings tables [] = ⊤
 AreJoinings tables (w ∷ ws) = IsJoining tables w × AreJoinings tables ws
 
--- The columns of a job's groups, and how its aggregates' totals are joined: all of their columns are the tables'.
-pub record AreColumnsOf (j : JobShape) (ts : List Columns) (rs : List ColumnRef) (ws : List Joining) : Type 0 where
+-- The columns of a job's groups with their domains, and how its aggregates' totals are joined: all of their columns are the tables'.
+pub record AreColumnsOf (j : JobShape) (ts : List Columns) (rs : List ColumnRef) (ds : Option (Vec Domain Global)) (ws : List Joining) : Type 0 where
   pub tables : ts ≡ j.tables
   pub keys : rs ≡ map (column_ref j.query) j.query.groups
+  pub domains : AreDomains (domains_of j) ds
   pub joinings : ws ≡ joinings_of j
   pub there : list_all (has_column j.query j.tables) rs ≡ true
   pub known : AreJoinings j.tables ws

@@ -1,16 +1,28 @@
 -- How groups keep values: a text as its code in its column.
 -- Source: own; for the contracts inside this crate.
-use Rattle.std.specs.Prelude.{ℕ, ◌<◌, List, [], ◌∷◌, length, map, get_or, Option, None, Some, slice_get, ⊤}
+use Rattle.std.specs.Prelude.{◌≡◌, ℕ, ◌+◌, ◌<◌, ◌≤◌, ◌^◌, ◌-ℤ◌, unsigned_abs, int_lt, if◌then◌else◌, List, [], ◌∷◌, length, map, get_or, Option, None, Some, slice_get, ⊤}
+use Rattle.std.specs.declared.alloc.Global.{Global}
+use Rattle.std.specs.declared.vec.Vec.{Vec}
 use Rattle.ssb_query.specs.declared.column.BoundColumn.{BoundColumn}
 use Rattle.ssb_cells.specs.Cell.{Cell, null, number, text}
 use Rattle.ssb_cells.specs.Codes.{code_of, texts_of}
 use Rattle.ssb_cells.specs.Tables.{Filled, Columns}
 use Rattle.ssb_conditions.specs.Rows.{column_value}
+use Rattle.ssb_keys.specs.Domains.{AreIn, IsLawful, cells, size}
+use Rattle.ssb_keys.specs.declared.domain.Domain.{Domain}
+use Rattle.ssb_keys.specs.declared.domain.Domain.TheVariants as domain
+use Rattle.ssb_plan.specs.Inputs.{column_ref, table_at, values_in}
 use Rattle.ssb_plan.specs.JobShape.{JobShape, from_tables}
+use Rattle.ssb_plan.specs.Spans.{span_of}
+use Rattle.ssb_plan.specs.declared.index.Span.{Span}
+use Rattle.ssb_plan.specs.declared.input.ColumnRef.{ColumnRef}
+use Rattle.ssb_terms.specs.declared.rule.ColType.{ColType}
+use Rattle.ssb_terms.specs.declared.rule.ColType.TheVariants as kinds
 use Rattle.ssb_groups.specs.Rows.{Key}
 use Rattle.ssb_groups.specs.declared.key.GroupKey.{GroupKey}
-use Rattle.ssb_groups.specs.declared.kept.Kept.{Kept}
-use Rattle.ssb_groups.specs.declared.kept.Kept.TheVariants as kept
+use Rattle.ssb_groups.specs.declared.key.GroupKey.TheVariants as form
+use Rattle.ssb_keys.specs.declared.kept.Kept.{Kept}
+use Rattle.ssb_keys.specs.declared.kept.Kept.TheVariants as kept
 use Rattle.ssb_groups.specs.declared.kept.KeptTotal.{KeptTotal}
 use Rattle.ssb_groups.specs.declared.kept.KeptTotal.TheVariants as total
 
@@ -60,22 +72,11 @@ AreKept [] (c ∷ cs) = ⊥
 AreKept (v ∷ vs) [] = ⊥
 AreKept (v ∷ vs) (c ∷ cs) = IsKept v c × AreKept vs cs
 
--- the values of a key
-abbrev pub cells_in : List (List Cell) → GroupKey → Key
-cells_in columns k = spelt columns k.cells.items
-
-pub record IsKey (columns : List (List Cell)) (k : GroupKey) : Type 0 where
-  pub kept : AreKept columns k.cells.items
-
 -- ---- the keys of a job
 
 abbrev pub column_in : Option Columns → ℕ → Option Filled
 column_in None column = None
 column_in (Some t) column = slice_get t column
-
-abbrev pub values_in : Option Filled → List Cell
-values_in None = []
-values_in (Some c) = c.values
 
 -- the values of a column of FROM's tables; none where there is no such column, which no bound query names
 abbrev pub column_values : List Columns → BoundColumn → List Cell
@@ -92,3 +93,87 @@ key_cell tables rows x = kept_cell (column_values tables x) (column_value tables
 -- the key of a combination
 abbrev pub key_of : JobShape → List ℕ → List Kept
 key_of j rows = map (key_cell (from_tables j) rows) j.query.groups
+
+-- ---- keys as numbers
+
+-- the values of a column as the digits of a key: of texts their codes, of numbers those from the least one on
+abbrev pub domain_by : ColType → List Cell → Span → Domain
+domain_by kinds.Text values s = domain.Codes (length (texts_of values) + 1)
+domain_by kinds.Int values s = domain.Numbers s.least (if int_lt s.greatest s.least then 1 else unsigned_abs (s.greatest -ℤ s.least) + 2)
+
+abbrev pub domain_in : Option Filled → Domain
+domain_in None = domain.Codes 1
+domain_in (Some f) = domain_by f.kind f.values (span_of f.values)
+
+abbrev pub domain_of : List Columns → ColumnRef → Domain
+domain_of tables r = domain_in (slice_get (table_at tables r.table) r.column)
+
+-- those of a job's group columns
+abbrev pub domains_of : JobShape → List Domain
+domains_of j = map (domain_of j.tables) (map (column_ref j.query) j.query.groups)
+
+-- a job's keys are numbers where there are at most 2^62
+abbrev pub HasNumbers : JobShape → Type 0
+HasNumbers j = size (domains_of j) ≤ 2 ^ 62
+
+abbrev pub HasCells : JobShape → Type 0
+HasCells j = 2 ^ 62 < size (domains_of j)
+
+-- what stands for the values of a key
+abbrev pub kept_in : JobShape → GroupKey → List Kept
+kept_in j (form.Number n) = cells (domains_of j) n
+kept_in j (form.Cells v) = v.items
+
+-- the values of a key
+abbrev pub cells_in : JobShape → GroupKey → Key
+cells_in j k = spelt (key_columns j) (kept_in j k)
+
+-- a number below as many as there may be, where a job's keys are numbers
+abbrev pub IsForm : JobShape → GroupKey → Type 0
+IsForm j (form.Number n) = HasNumbers j × (n < size (domains_of j))
+IsForm j (form.Cells v) = HasCells j
+
+-- a key of a job's groups
+pub record IsKey (j : JobShape) (k : GroupKey) : Type 0 where
+  pub form : IsForm j k
+  pub kept : AreKept (key_columns j) (kept_in j k)
+
+-- what stands for the values of each group column is among its domain
+pub record AreCells (j : JobShape) (cells : List Kept) : Type 0 where
+  pub there : AreIn (domains_of j) cells
+  pub kept : AreKept (key_columns j) cells
+
+abbrev pub AreLawful : List Domain → Type 0
+AreLawful [] = ⊤
+AreLawful (d ∷ ds) = IsLawful d × AreLawful ds
+
+-- the domains of a job's group columns, where its keys are numbers
+abbrev pub AreDomains : List Domain → Option (Vec Domain Global) → Type 0
+AreDomains all None = 2 ^ 62 < size all
+AreDomains all (Some v) = (size all ≤ 2 ^ 62) × (v.items ≡ all) × AreLawful v.items
+
+abbrev pub kind_in : Option Filled → ColType
+kind_in None = kinds.Text
+kind_in (Some f) = f.kind
+
+-- the type of a column
+abbrev pub kind_of : List Columns → ColumnRef → ColType
+kind_of tables r = kind_in (slice_get (table_at tables r.table) r.column)
+
+-- a cell of a column of this type
+abbrev pub IsOfKind : ColType → Kept → Type 0
+IsOfKind kinds.Int (kept.Code code) = ⊥
+IsOfKind kinds.Text (kept.Number n) = ⊥
+IsOfKind kind cell = ⊤
+
+-- the cells of a key that has them one by one
+abbrev pub cells_alone : GroupKey → Option (List Kept)
+cells_alone (form.Number n) = None
+cells_alone (form.Cells v) = Some v.items
+
+-- a key of the same number, or of the same cells
+abbrev pub IsCopy : GroupKey → GroupKey → Type 0
+IsCopy (form.Number n) (form.Number m) = m ≡ n
+IsCopy (form.Number n) (form.Cells v) = ⊥
+IsCopy (form.Cells v) (form.Number m) = ⊥
+IsCopy (form.Cells v) (form.Cells w) = w.items ≡ v.items

@@ -1,3 +1,4 @@
+pub mod Added
 pub mod Aggregates
 pub mod Entries
 pub mod Gathering

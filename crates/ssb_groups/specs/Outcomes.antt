@@ -4,7 +4,7 @@ use Rattle.std.specs.Prelude.{ℤ, ◌+ℤ◌, ◌-ℤ◌, ◌*ℤ◌, Option, N
 use Rattle.ssb_cells.specs.Cell.{Cell, null, number}
 use Rattle.ssb_groups.specs.Keys.{spelt_cell}
 use Rattle.ssb_groups.specs.Value.{Outcome, over, known}
-use Rattle.ssb_groups.specs.declared.kept.Kept.{Kept}
+use Rattle.ssb_keys.specs.declared.kept.Kept.{Kept}
 use Rattle.ssb_groups.specs.declared.outcome.Operation.{Operation}
 use Rattle.ssb_groups.specs.declared.outcome.Operation.TheVariants as operation
 use Rattle.ssb_groups.specs.declared.outcome.Outcome.{Outcome as Value}

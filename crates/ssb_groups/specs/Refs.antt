@@ -1,30 +1,27 @@
 -- What is read of a combination where a job's columns stand in the tables.
 -- Source: own; for the contracts inside this crate.
-use Rattle.std.specs.Prelude.{ℕ, ◌<◌, pos, List, [], length, Option, None, Some, slice_get, unwrap_or, ⊤}
+use Rattle.std.specs.Prelude.{ℕ, ◌<◌, pos, List, [], ◌∷◌, length, Option, None, Some, slice_get, unwrap_or, ⊤}
 use Rattle.ssb_cells.specs.Cell.{Cell, null, number}
 use Rattle.ssb_cells.specs.Tables.{rows_in, Columns}
 use Rattle.ssb_conditions.specs.Rows.{column_value}
+use Rattle.ssb_plan.specs.Inputs.{table_at, values_of}
 use Rattle.ssb_plan.specs.JobShape.{JobShape, from_tables}
 use Rattle.ssb_plan.specs.declared.input.ColumnRef.{ColumnRef}
 use Rattle.ssb_plan.specs.declared.input.Input.{Input}
 use Rattle.ssb_plan.specs.declared.input.Input.TheVariants as input
 use Rattle.ssb_query.specs.declared.column.BoundColumn.{BoundColumn}
-use Rattle.ssb_groups.specs.Keys.{kept_cell, values_in}
+use Rattle.ssb_groups.specs.Keys.{kept_cell}
 use Rattle.ssb_groups.specs.Value.{Outcome, column_outcome, known, number_of}
-use Rattle.ssb_groups.specs.declared.kept.Kept.{Kept}
-
--- a table of the catalog; the table without columns where there is no such table
-abbrev pub table_at : List Columns → ℕ → Columns
-table_at tables n = unwrap_or (slice_get tables n) []
-
--- the values of a column
-abbrev pub values_of : List Columns → ColumnRef → List Cell
-values_of tables r = values_in (slice_get (table_at tables r.table) r.column)
+use Rattle.ssb_keys.specs.declared.kept.Kept.{Kept}
 
 -- a column is one of these tables'
 pub record IsColumn (tables : List Columns) (r : ColumnRef) : Type 0 where
   pub table : r.table < length tables
   pub column : r.column < length (table_at tables r.table)
+
+abbrev pub AreAllColumns : List Columns → List ColumnRef → Type 0
+AreAllColumns tables [] = ⊤
+AreAllColumns tables (r ∷ rs) = IsColumn tables r × AreAllColumns tables rs
 
 -- a combination has a row of its table
 pub record HasRow (tables : List Columns) (rows : List ℕ) (r : ColumnRef) : Type 0 where

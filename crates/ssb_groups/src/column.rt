@@ -4,21 +4,22 @@ ghost use Rattle.std.specs.Prelude.{◌≡◌, ◌<◌, Some, true, length, opti
 ghost use Rattle.ssb_cells.specs.Codes.{texts_of};
 ghost use Rattle.ssb_terms.specs.declared.rule.ColType.TheVariants as kinds;
 ghost use Rattle.ssb_conditions.specs.Rows.{IsCombination};
-ghost use Rattle.ssb_plan.specs.Inputs.{has_column};
+ghost use Rattle.ssb_plan.specs.Inputs.{has_column, values_of};
 ghost use Rattle.ssb_plan.specs.JobShape.{from_tables};
-ghost use Rattle.ssb_groups.specs.Keys.{IsKept, kept_cell, spelt_cell};
-ghost use Rattle.ssb_groups.specs.Refs.{HasRow, IsColumn, IsSomeColumn, cell_in, ref_value, values_at, values_of};
+ghost use Rattle.ssb_groups.specs.Keys.{IsKept, IsOfKind, kept_cell, kind_of, spelt_cell};
+ghost use Rattle.ssb_groups.specs.Refs.{HasRow, IsColumn, IsSomeColumn, cell_in, ref_value, values_at};
 
-use crate::kept::Kept;
 use ssb_cells::{Column, Table, Value, numbers_have_no_text};
 use ssb_job::{Job, JoinedRow};
+use ssb_keys::Kept;
 use ssb_plan::ColumnRef;
 use ssb_terms::ColType;
 
 // What stands for the value of a row: no text is read for it.
 fn column_cell(column: &Column, row: u32) -> Kept
     requires { row < length column.now.values }
-    ensures { option_map (kept_cell column.now.values) (slice_get column.now.values row) ≡ Some result }
+    ensures value { option_map (kept_cell column.now.values) (slice_get column.now.values row) ≡ Some result }
+    ensures kind { IsOfKind column.now.kind result }
 {
     match column.kind() {
         ColType::Text => text_cell(column, row),
@@ -29,7 +30,8 @@ fn column_cell(column: &Column, row: u32) -> Kept
 fn text_cell(column: &Column, row: u32) -> Kept
     requires kind { column.now.kind ≡ kinds.Text }
     requires row { row < length column.now.values }
-    ensures { option_map (kept_cell column.now.values) (slice_get column.now.values row) ≡ Some result }
+    ensures value { option_map (kept_cell column.now.values) (slice_get column.now.values row) ≡ Some result }
+    ensures kind { IsOfKind column.now.kind result }
 {
     match column.code(row) {
         Some(code) => Kept::Code(code),
@@ -40,7 +42,8 @@ fn text_cell(column: &Column, row: u32) -> Kept
 fn number_cell(column: &Column, row: u32) -> Kept
     requires kind { column.now.kind ≡ kinds.Int }
     requires row { row < length column.now.values }
-    ensures { option_map (kept_cell column.now.values) (slice_get column.now.values row) ≡ Some result }
+    ensures value { option_map (kept_cell column.now.values) (slice_get column.now.values row) ≡ Some result }
+    ensures kind { IsOfKind column.now.kind result }
 {
     numbers_have_no_text(column);
     match column.get(row) {
@@ -54,7 +57,8 @@ fn number_cell(column: &Column, row: u32) -> Kept
 pub(crate) fn cell_in(tables: &[Table], rows: &[u32], column: ColumnRef) -> Kept
     requires column { IsColumn tables.now column }
     requires row { HasRow tables.now rows.now column }
-    ensures { result ≡ cell_in tables.now rows.now column }
+    ensures value { result ≡ cell_in tables.now rows.now column }
+    ensures kind { IsOfKind (kind_of tables.now column) result }
 {
     let table = &tables[column.table];
     column_cell(table.column(column.column), rows[column.place])

@@ -1,25 +1,28 @@
 // The columns of a job's groups and of its aggregates: how the key of a row is read in them, how totals are
 // joined, and how both are spelt.
 
-ghost use Rattle.std.specs.Prelude.{◌≡◌, true, map, IfOk, OnOk};
+ghost use Rattle.std.specs.Prelude.{◌≡◌, ◌<◌, true, map, IfOk, OnOk};
 ghost use Rattle.std.specs.List.{list_all};
 ghost use Rattle.ssb_cells.specs.Values.{cell_of};
 ghost use Rattle.ssb_conditions.specs.Rows.{IsCombination};
-ghost use Rattle.ssb_plan.specs.Inputs.{column_ref, has_column};
+ghost use Rattle.ssb_plan.specs.Inputs.{column_ref, has_column, values_of};
 ghost use Rattle.ssb_plan.specs.JobShape.{from_tables};
 ghost use Rattle.ssb_groups.specs.Entries.{AreTotals, totals_in};
 ghost use Rattle.ssb_groups.specs.Joining.{AreJoinings, IsJoining, JoinsTotals, joinings_of, values_by};
-ghost use Rattle.ssb_groups.specs.Keys.{IsKept, IsKey, cells_in, kept_total, key_columns, key_of, spelt_cell};
-ghost use Rattle.ssb_groups.specs.Refs.{IsColumn, IsSomeColumn, values_at, values_of};
+ghost use Rattle.ssb_groups.specs.Keys.{AreCells, AreKept, AreLawful, IsKept, IsKey, cells_in, domains_of, kept_in, kept_total, key_columns, key_of, spelt, spelt_cell};
+ghost use Rattle.ssb_keys.specs.Domains.{AreIn, cells, size};
+ghost use Rattle.ssb_groups.specs.Refs.{IsColumn, IsSomeColumn, values_at};
 ghost use Rattle.ssb_groups.specs.Totals.{total_cell};
 
 use crate::column::{cell_in, text_in};
+use crate::domains::domains_of;
 use crate::joining::Joining;
-use crate::kept::{Kept, KeptTotal};
+use crate::kept::KeptTotal;
 use crate::key::GroupKey;
 use crate::totals::{Total, Totals};
 use ssb_cells::{Table, Value};
 use ssb_job::{Job, JoinedRow};
+use ssb_keys::{Domain, Kept, number};
 use ssb_plan::ColumnRef;
 use std::alloc::{AllocError, Global};
 use std::marker::Model;
@@ -34,6 +37,8 @@ pub(crate) struct Columns {
     tables: Arc<Vec<Table>, Global>,
     // Those of the groups.
     keys: Vec<ColumnRef>,
+    // Their domains, where keys are numbers.
+    domains: Option<Vec<Domain>>,
     // How the totals of each aggregate are joined, by its column where they may be texts.
     joinings: Vec<Joining>,
 }
@@ -45,10 +50,12 @@ impl Drop for Columns {
             job: _,
             tables,
             keys,
+            domains,
             joinings,
         } = self;
         drop(tables);
         drop(keys);
+        drop(domains);
         drop(joinings);
     }
 }
@@ -66,7 +73,7 @@ impl Model for Columns {
 
     ghost view = { λ k. k.job.value };
 
-    ghost invariant = { λ k. AreColumnsOf k.job.value (arc_value k.tables).items k.keys.items k.joinings.items };
+    ghost invariant = { λ k. AreColumnsOf k.job.value (arc_value k.tables).items k.keys.items k.domains k.joinings.items };
 }
 
 // The value that a cell of a key stands for, by its column.
@@ -134,26 +141,90 @@ impl Columns {
     pub(crate) fn of(alloc: Global, job: &Job) -> Result<Columns, AllocError>
         ensures { IfOk result (λ k. k ≡ job.now) }
     {
+        let keys = keys(alloc, job)?;
+        let spans = job.plan().spans.as_slice();
+        let domains = domains_of(alloc, job.tables(), keys.as_slice(), spans)?;
         Ok(Columns {
             job: Snapshot::of(job),
             tables: Arc::try_clone(job.tables())?,
-            keys: keys(alloc, job)?,
+            keys,
+            domains,
             joinings: joinings(alloc, job)?,
         })
     }
 
-    // Makes a key that of a combination. It takes no memory once the key has had as many cells.
-    pub(crate) fn fill(&self, row: &JoinedRow, key: &mut GroupKey) -> Result<(), AllocError>
+    // Makes a list what stands for the values of the group columns in a combination. It takes no memory once
+    // the list has had as many.
+    pub(crate) fn fill(&self, row: &JoinedRow, cells: &mut Vec<Kept>) -> Result<(), AllocError>
         requires { IsCombination (from_tables self.now) row.now }
-        ensures { OnOk result (key.new.cells.items ≡ key_of self.now row.now) }
+        ensures cells { OnOk result (cells.new.items ≡ key_of self.now row.now) }
+        ensures there { OnOk result (AreIn (domains_of self.now) cells.new.items) }
     {
         let tables = self.tables.as_slice();
         let rows = row.as_slice();
-        key.cells.clear();
+        cells.clear();
         for column in &self.keys {
-            key.cells.push(cell_in(tables, rows, *column))?;
+            cells.push(cell_in(tables, rows, *column))?;
         }
         Ok(())
+    }
+
+    // Makes a key that of these cells. It takes no memory once the key has had as many.
+    pub(crate) fn set_key(
+        &self,
+        alloc: Global,
+        cells: &[Kept],
+        key: &mut GroupKey,
+    ) -> Result<(), AllocError>
+        requires { AreCells self.now cells.now }
+        ensures kept { OnOk result (kept_in self.now key.new ≡ cells.now) }
+        ensures key { OnOk result (IsKey self.now key.new) }
+    {
+        match &self.domains {
+            Some(domains) => *key = GroupKey::Number(number(domains, cells)),
+            None => key.set_cells(alloc, cells)?,
+        }
+        Ok(())
+    }
+
+    // The values of a key that has its cells one by one.
+    fn spell_cells(&self, alloc: Global, cells: &[Kept]) -> Result<Vec<Value<'_>>, AllocError>
+        requires { AreKept (key_columns self.now) cells.now }
+        ensures { IfOk result (λ values. map cell_of values.items ≡ spelt (key_columns self.now) cells.now) }
+    {
+        let tables = self.tables.as_slice();
+        let keys = self.keys.as_slice();
+        let mut values = Vec::with_capacity(alloc, keys.len())?;
+        for at in 0..keys.len() {
+            values.push(spelt_value(tables, keys[at], cells[at]))?;
+        }
+        Ok(values)
+    }
+
+    // The values of a key that is a number of these domains.
+    fn spell_number(
+        &self,
+        alloc: Global,
+        domains: &[Domain],
+        number: u64,
+    ) -> Result<Vec<Value<'_>>, AllocError>
+        requires domains { domains.now ≡ domains_of self.now }
+        requires below { number < size domains.now }
+        requires kept { AreKept (key_columns self.now) (cells domains.now number) }
+        requires lawful { AreLawful domains.now }
+        ensures { IfOk result (λ values. map cell_of values.items ≡ spelt (key_columns self.now) (cells domains.now number)) }
+    {
+        let tables = self.tables.as_slice();
+        let keys = self.keys.as_slice();
+        let mut values = Vec::with_capacity(alloc, keys.len())?;
+        let mut left = number;
+        for at in 0..keys.len() {
+            let domain = domains[at];
+            let cell = domain.cell(left % domain.radix());
+            left /= domain.radix();
+            values.push(spelt_value(tables, keys[at], cell))?;
+        }
+        Ok(values)
     }
 
     // The values of a key.
@@ -162,17 +233,14 @@ impl Columns {
         alloc: Global,
         key: &GroupKey,
     ) -> Result<Vec<Value<'_>>, AllocError>
-        requires { IsKey (key_columns self.now) key.now }
-        ensures { IfOk result (λ values. map cell_of values.items ≡ cells_in (key_columns self.now) key.now) }
+        requires { IsKey self.now key.now }
+        ensures { IfOk result (λ values. map cell_of values.items ≡ cells_in self.now key.now) }
     {
-        let tables = self.tables.as_slice();
-        let keys = self.keys.as_slice();
-        let cells = key.cells.as_slice();
-        let mut values = Vec::with_capacity(alloc, keys.len())?;
-        for at in 0..keys.len() {
-            values.push(spelt_value(tables, keys[at], cells[at]))?;
+        match (key, &self.domains) {
+            (GroupKey::Cells(cells), _) => self.spell_cells(alloc, cells),
+            (GroupKey::Number(number), Some(domains)) => self.spell_number(alloc, domains, *number),
+            (GroupKey::Number(_), None) => unreachable!(),
         }
-        Ok(values)
     }
 
     // Joins totals to those of a group. It is inlined, and so is what it calls: each row does it.

@@ -20,9 +20,10 @@ ghost use Rattle.ssb_groups.specs.Value.{known};
 
 use crate::column::cell;
 use crate::evaluate::number;
-use crate::kept::{Kept, KeptTotal};
+use crate::kept::KeptTotal;
 use crate::totals::Totals;
 use ssb_job::{Job, JoinedRow};
+use ssb_keys::Kept;
 use ssb_plan::Input;
 use ssb_query::BoundColumn;
 use ssb_trees::{Aggregate, SetFunction};

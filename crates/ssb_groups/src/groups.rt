@@ -8,17 +8,21 @@ ghost use Rattle.ssb_plan.specs.JobShape.{from_tables};
 ghost use Rattle.ssb_groups.specs.Aggregates.{totals};
 ghost use Rattle.ssb_groups.specs.Rows.{SeenRow};
 ghost use Rattle.ssb_groups.specs.Seen.{seen};
+ghost use Rattle.ssb_groups.specs.Added.{AddsRows, AddsSome};
+ghost use Rattle.std.specs.List.{All};
 ghost use Rattle.ssb_groups.specs.Stands.{AnyRowsHaveGroups, GroupMap, Stands};
 ghost use Rattle.ssb_groups.specs.Totals.{total_cell};
 ghost use Rattle.std.specs.List.Sorted.{IsPermutation};
 
 use crate::columns::Columns;
 use crate::gather::{fact_of, gather};
+use crate::guesses::Guesses;
 use crate::key::GroupKey;
 use crate::store::Store;
 use crate::totals::{Total, Totals};
 use ssb_cells::Value;
-use ssb_job::{Job, JoinedRow};
+use ssb_job::{Block, Job, JoinedRow};
+use ssb_keys::Kept;
 use ssb_query::BoundColumn;
 use ssb_trees::Aggregate;
 use std::alloc::{AllocError, Global};
@@ -33,9 +37,12 @@ pub struct Groups {
     // Where the columns of the job's groups and aggregates stand, in tables that are the job's own.
     columns: Columns,
     store: Store,
-    // The key and the totals of the row that is added, whose room is used again for the next.
+    // The cells of the group columns, the key and the totals of the row that is added, whose room is used
+    // again for the next.
+    cells: Vec<Kept>,
     key: GroupKey,
     more: Totals,
+    guesses: Guesses,
 }
 
 // Written out, so that the crates above need no proof of how its parts are let go.
@@ -45,13 +52,17 @@ impl Drop for Groups {
             alloc: _,
             columns,
             store,
+            cells,
             key,
             more,
+            guesses,
         } = self;
         drop(columns);
         drop(store);
+        drop(cells);
         drop(key);
         drop(more);
+        drop(guesses);
     }
 }
 
@@ -96,8 +107,10 @@ impl Groups {
             alloc,
             columns,
             store: Store::new(alloc, job),
-            key: GroupKey::new(alloc),
+            cells: Vec::new(alloc),
+            key: GroupKey::Number(0),
             more: Totals::new(alloc),
+            guesses: Guesses::new(alloc),
         })
     }
 
@@ -121,9 +134,37 @@ impl Groups {
             self.store.add_over(fact_of(job, row));
             return Ok(());
         }
-        self.columns.fill(row, &mut self.key)?;
-        self.store
-            .add_plain(self.alloc, &self.columns, &self.key, &self.more)?;
+        self.columns.fill(row, &mut self.cells)?;
+        self.columns
+            .set_key(self.alloc, &self.cells, &mut self.key)?;
+        self.store.add_plain(
+            self.alloc,
+            &self.columns,
+            &mut self.guesses,
+            &self.key,
+            &self.more,
+        )?;
+        Ok(())
+    }
+
+    /// Adds the combinations of a block, as [`Job::join_range`] gives them, one after the other, as [`add`](Self::add)
+    /// adds each.
+    ///
+    /// # Errors
+    ///
+    /// Only where a growth was refused; some of the first combinations are added then.
+    pub fn add_block(&mut self, job: &Job, block: &Block) -> Result<(), AllocError>
+        requires one_job { AreOneJob self.old.job job.now }
+        requires rows { All (IsCombination (from_tables job.now)) block.now }
+        requires few { self.old.counted + length block.now < 2 ^ 32 }
+        ensures stands { OnOk result (AddsRows job.now block.now self.old self.new) }
+        ensures job { self.new.job ≡ self.old.job }
+        ensures counted { OnOk result (self.new.counted ≡ self.old.counted + length block.now) }
+        ensures err { OnErr result (AddsSome job.now block.now self.old self.new) }
+    {
+        for at in 0..block.len() {
+            self.add(job, &block.row(at))?;
+        }
         Ok(())
     }
 
@@ -146,8 +187,10 @@ impl Groups {
             alloc,
             columns,
             store,
+            cells,
             key,
             more,
+            guesses,
         } = other;
         match self.store.merge(&self.columns, store) {
             Ok(()) => Ok(()),
@@ -156,8 +199,10 @@ impl Groups {
                     alloc,
                     columns,
                     store,
+                    cells,
                     key,
                     more,
+                    guesses,
                 },
                 refused,
             )),

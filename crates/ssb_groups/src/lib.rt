@@ -1,19 +1,21 @@
 //! Groups: the aggregates of each group of the rows that were added.
 //!
 //! - Offers: [`Groups`], which stand for a list of rows in whatever order they came: `empty`, `add`,
-//!   `merge`; [`Group`] and [`Total`], which they lend.
+//!   `add_block`, `merge`; [`Group`] and [`Total`], which they lend.
 //! - Callers: `ssb_pipeline`, whose parts hold groups; `ssb_rows`, which makes rows of them.
-//! - Files: `groups`, `store`, `table`; `key`, `kept`, `column`, `columns`: keys; `evaluate`, `outcome`,
-//!   `gather`: what a row adds; `totals`, `joining`: aggregates.
-//! - Definitions: `Value`, `Aggregates`, `Rows`, `Seen`, `Stands`: what groups stand for; `Keys`,
+//! - Files: `groups`, `store`, `table`, `guesses`; `key`, `kept`, `column`, `columns`, `domains`: keys;
+//!   `evaluate`, `outcome`, `gather`: what a row adds; `totals`, `joining`: aggregates.
+//! - Definitions: `Value`, `Aggregates`, `Rows`, `Seen`, `Stands`, `Added`: what groups stand for; `Keys`,
 //!   `Refs`, `Joining`, `Entries`, `Gathering`, `Outcomes`, `Totals`: how they are kept.
 #![tactic(auto)]
 
 mod column;
 mod columns;
+mod domains;
 mod evaluate;
 mod gather;
 pub mod groups;
+mod guesses;
 mod joining;
 mod kept;
 mod key;

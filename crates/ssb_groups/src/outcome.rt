@@ -7,7 +7,7 @@ ghost use Rattle.ssb_groups.specs.Outcomes.{checked_outcome, exact, kept_outcome
 ghost use Rattle.ssb_groups.specs.Stands.{IsRanged};
 ghost use Rattle.ssb_groups.specs.Value.{apply, checked, column_number};
 
-use crate::kept::Kept;
+use ssb_keys::Kept;
 
 /// What is done with two numbers.
 #[derive(Clone, Copy, PartialEq, Eq)]

@@ -3,13 +3,14 @@
 ghost use Rattle.std.specs.Prelude.{◌≡◌, ◌+◌, ◌<◌, ◌^◌, [], ◌++◌, ◌↔◌, List, length, Some, slice_get, IfErr, IfSome, OnOk, OnErr};
 ghost use Rattle.std.specs.Option.{IsSome};
 ghost use Rattle.ssb_groups.specs.Entries.{AreTotals, totals_in};
-ghost use Rattle.ssb_groups.specs.Keys.{IsKey, cells_in, key_columns};
+ghost use Rattle.ssb_groups.specs.Keys.{IsKey, cells_in};
 ghost use Rattle.ssb_job.specs.Kept.{AreOneJob};
 ghost use Rattle.ssb_groups.specs.Gathering.{AddsRow, IsOverAt, IsPlain};
 ghost use Rattle.ssb_groups.specs.Rows.{SeenRow};
 ghost use Rattle.ssb_groups.specs.Stands.{Stands, least_of};
 
 use crate::columns::Columns;
+use crate::guesses::Guesses;
 use crate::key::GroupKey;
 use crate::table::{GroupTable, put, take_all_in};
 use crate::totals::Totals;
@@ -89,20 +90,21 @@ impl Store {
         &mut self,
         alloc: Global,
         columns: &Columns,
+        guesses: &mut Guesses,
         key: &GroupKey,
         more: &Totals,
     ) -> Result<(), AllocError>
         requires few { self.old.counted + 1 < 2 ^ 32 }
         requires columns { columns.now ≡ self.old.job }
-        requires key { IsKey (key_columns self.old.job) key.now }
+        requires key { IsKey self.old.job key.now }
         requires more { AreTotals self.old.job more.now }
-        ensures stands { OnOk result (AddsRow (IsPlain self.old.job.query.aggregates (cells_in (key_columns self.old.job) key.now) (totals_in self.old.job more.now)) self.old self.new) }
+        ensures stands { OnOk result (AddsRow (IsPlain self.old.job.query.aggregates (cells_in self.old.job key.now) (totals_in self.old.job more.now)) self.old self.new) }
         ensures job { OnOk result (self.new.job ≡ self.old.job) }
         ensures counted { OnOk result (self.new.counted ≡ self.old.counted + 1) }
         ensures err { OnErr result (self.new ≡ self.old) }
     {
         if self.overflow.is_none() {
-            put(alloc, columns, &mut self.table, key, more)?;
+            put(alloc, columns, guesses, &mut self.table, key, more)?;
         }
         self.counted += 1;
         Ok(())
@@ -158,9 +160,9 @@ impl Store {
     // The key and the totals of a group.
     pub(crate) fn group(&self, at: usize) -> Option<(&GroupKey, &Totals)>
         ensures found { IsSome result ↔ (at < length self.now.entries) }
-        ensures key { IfSome result (λ e. IsKey (key_columns self.now.job) e.0.now) }
+        ensures key { IfSome result (λ e. IsKey self.now.job e.0.now) }
         ensures totals { IfSome result (λ e. AreTotals self.now.job e.1.now) }
-        ensures entry { IfSome result (λ e. slice_get self.now.entries at ≡ Some (cells_in (key_columns self.now.job) e.0.now, totals_in self.now.job e.1.now)) }
+        ensures entry { IfSome result (λ e. slice_get self.now.entries at ≡ Some (cells_in self.now.job e.0.now, totals_in self.now.job e.1.now)) }
     {
         self.table.get_index(at)
     }

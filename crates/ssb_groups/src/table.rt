@@ -1,12 +1,13 @@
 // The totals of each key.
 
-ghost use Rattle.std.specs.Prelude.{◌≡◌, ◌+◌, ◌<◌, ◌≤◌, OnOk, OnErr};
+ghost use Rattle.std.specs.Prelude.{◌≡◌, ◌+◌, ◌<◌, ◌≤◌, true, OnOk, OnErr};
 ghost use Rattle.indexmap.specs.IndexMap.{IsUnique, index_map_len, spare};
-ghost use Rattle.ssb_groups.specs.Entries.{AreEntries, AreTotals, JoinsKey, JoinsTable};
-ghost use Rattle.ssb_groups.specs.Keys.{IsKey, key_columns};
+ghost use Rattle.ssb_groups.specs.Entries.{AreEntries, AreTotals, IsAt, JoinsKey, JoinsTable};
+ghost use Rattle.ssb_groups.specs.Keys.{IsKey};
 ghost use Rattle.ssb_groups.specs.contracts.key.GroupKeyPartialEq.TheImpl as keys;
 
 use crate::columns::Columns;
+use crate::guesses::Guesses;
 use crate::key::GroupKey;
 use crate::totals::Totals;
 use indexmap::IndexMap;
@@ -15,29 +16,88 @@ use std::alloc::{AllocError, Global};
 /// Keys in the order in which they came.
 pub(crate) type GroupTable = IndexMap<GroupKey, Totals>;
 
-// Joins totals to those of a key.
+// Whether a key stands at a place.
+fn is_at(table: &GroupTable, place: usize, key: &GroupKey) -> bool
+    ensures { result ≡ true → IsAt table.now.entries key.now place }
+{
+    match table.get_index(place) {
+        Some((there, _)) => key == there,
+        None => false,
+    }
+}
+
+// Joins totals to those of a key that stands at a place.
+fn join_at(columns: &Columns, table: &mut GroupTable, place: usize, key: &GroupKey, more: &Totals)
+    requires unique { IsUnique keys.eq-value.it table.old }
+    requires entries { AreEntries columns.now table.old.entries }
+    requires key { IsKey columns.now key.now }
+    requires more { AreTotals columns.now more.now }
+    requires here { IsAt table.old.entries key.now place }
+    ensures joined { JoinsKey columns.now key.now more.now table.old.entries table.new.entries }
+    ensures entries { AreEntries columns.now table.new.entries }
+    ensures unique { IsUnique keys.eq-value.it table.new }
+{
+    let Some(totals) = table.get_index_mut(place) else {
+        unreachable!()
+    };
+    columns.join(totals, more);
+}
+
+// Joins totals to those of a key, which is looked for where it is guessed to stand first.
 pub(crate) fn put(
     alloc: Global,
     columns: &Columns,
+    guesses: &mut Guesses,
     table: &mut GroupTable,
     key: &GroupKey,
     more: &Totals,
 ) -> Result<(), AllocError>
     requires unique { IsUnique keys.eq-value.it table.old }
     requires entries { AreEntries columns.now table.old.entries }
-    requires key { IsKey (key_columns columns.now) key.now }
+    requires key { IsKey columns.now key.now }
     requires more { AreTotals columns.now more.now }
     ensures joined { OnOk result (JoinsKey columns.now key.now more.now table.old.entries table.new.entries) }
     ensures entries { AreEntries columns.now table.new.entries }
     ensures unique { IsUnique keys.eq-value.it table.new }
     ensures err { OnErr result (table.new.entries ≡ table.old.entries) }
 {
-    match table.get_mut(key) {
-        Some(totals) => columns.join(totals, more),
+    let guess = guesses.place(key);
+    if is_at(table, guess, key) {
+        join_at(columns, table, guess, key, more);
+        return Ok(());
+    }
+    put_anew(alloc, columns, guesses, table, key, more)
+}
+
+// The same, which is looked for among all keys.
+fn put_anew(
+    alloc: Global,
+    columns: &Columns,
+    guesses: &mut Guesses,
+    table: &mut GroupTable,
+    key: &GroupKey,
+    more: &Totals,
+) -> Result<(), AllocError>
+    requires unique { IsUnique keys.eq-value.it table.old }
+    requires entries { AreEntries columns.now table.old.entries }
+    requires key { IsKey columns.now key.now }
+    requires more { AreTotals columns.now more.now }
+    ensures joined { OnOk result (JoinsKey columns.now key.now more.now table.old.entries table.new.entries) }
+    ensures entries { AreEntries columns.now table.new.entries }
+    ensures unique { IsUnique keys.eq-value.it table.new }
+    ensures err { OnErr result (table.new.entries ≡ table.old.entries) }
+{
+    match table.get_index_of(key) {
+        Some(place) => {
+            guesses.note(key, place, table.len());
+            join_at(columns, table, place, key, more);
+        }
         None => {
+            let place = table.len();
             let copy = key.copy(alloc)?;
             let totals = more.copy(alloc)?;
             table.insert(copy, totals)?;
+            guesses.note(key, place, place);
         }
     }
     Ok(())
@@ -47,7 +107,7 @@ pub(crate) fn put(
 fn take_in(columns: &Columns, table: &mut GroupTable, key: GroupKey, more: Totals)
     requires unique { IsUnique keys.eq-value.it table.old }
     requires entries { AreEntries columns.now table.old.entries }
-    requires key { IsKey (key_columns columns.now) key }
+    requires key { IsKey columns.now key }
     requires more { AreTotals columns.now more }
     requires room { 0 < spare table.old }
     ensures joined { JoinsKey columns.now key more table.old.entries table.new.entries }

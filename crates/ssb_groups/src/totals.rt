@@ -67,7 +67,7 @@ impl Drop for Totals {
 impl Model for Totals {
     ghost use Rattle.std.specs.Prelude.{List, map};
     ghost use Rattle.ssb_groups.specs.Keys.{kept_total};
-    ghost use Rattle.ssb_groups.specs.declared.kept.Kept.{Kept as AnyKept};
+    ghost use Rattle.ssb_keys.specs.declared.kept.Kept.{Kept as AnyKept};
 
     ghost Value = { List AnyKept };
 

@@ -21,11 +21,13 @@ use Rattle.ssb_groups.specs.contracts.columns.Columns.TheInside as InColumns
 use Rattle.ssb_groups.specs.contracts.joining.Joining as Joining
 use Rattle.ssb_groups.specs.contracts.groups.Groups as Groups
 use Rattle.ssb_groups.specs.contracts.groups.Groups.TheInside as InGroups
+use Rattle.ssb_groups.specs.contracts.guesses.Guesses as Guesses
 use Rattle.ssb_groups.specs.contracts.key.GroupKey as Key
 use Rattle.ssb_groups.specs.contracts.store.Store as Store
 use Rattle.ssb_groups.specs.contracts.store.Store.TheInside as InStore
 use Rattle.ssb_groups.specs.contracts.totals.Totals as Totals
 use Rattle.ssb_job.specs.contracts.job.Job as Job
+use Rattle.ssb_keys.specs.contracts.domain.Domain as Domain
 use Rattle.ssb_plan.specs.contracts.input.ColumnRef as ColumnRef
 use Rattle.ssb_pipeline.specs.contracts.part.Part as Part
 use Rattle.ssb_pipeline.specs.contracts.part.Part.TheInside as InPart
@@ -44,6 +46,9 @@ key_send = search (crosses, sendable) depth 20
 totals_send : IsSend Totals.the_row
 totals_send = search (crosses, sendable) depth 20
 
+guesses_send : IsSend Guesses.the_row
+guesses_send = search (crosses, sendable) depth 20
+
 store_send : IsSend Store.the_row
 store_send =
     view_send InStore.the_row _ _ _ _ (declared_send InStore.the_type (
@@ -60,13 +65,16 @@ column_ref_send = search (crosses, sendable) depth 20
 joining_send : IsSend Joining.the_row
 joining_send = search (column_ref_send, crosses, sendable) depth 20
 
+domain_send : IsSend Domain.the_row
+domain_send = search (as_row_send, crosses, sendable) depth 20
+
 columns_send : IsSend Columns.the_row
 columns_send =
-    view_send InColumns.the_row _ _ _ _ (declared_send InColumns.the_type (search (crosses, sendable) depth 20, (tables.0, (search (column_ref_send, as_row_send, crosses, sendable) depth 20, (search (joining_send, as_row_send, crosses, sendable) depth 20, tt)))))
+    view_send InColumns.the_row _ _ _ _ (declared_send InColumns.the_type (search (crosses, sendable) depth 20, (tables.0, (search (column_ref_send, as_row_send, crosses, sendable) depth 20, (search (domain_send, as_row_send, crosses, sendable) depth 20, (search (joining_send, as_row_send, crosses, sendable) depth 20, tt))))))
 
 groups_send : IsSend Groups.the_row
 groups_send =
-    view_send InGroups.the_row _ _ _ _ (declared_send InGroups.the_type (search (as_row_send, crosses, sendable) depth 20, (columns_send, (store_send, (key_send, (totals_send, tt))))))
+    view_send InGroups.the_row _ _ _ _ (declared_send InGroups.the_type (search (as_row_send, crosses, sendable) depth 20, (columns_send, (store_send, (search (as_row_send, crosses, sendable) depth 20, (key_send, (totals_send, (guesses_send, tt))))))))
 
 pub part_send : IsSend Part.the_row
 part_send =

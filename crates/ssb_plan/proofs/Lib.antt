@@ -12,4 +12,5 @@ pub mod MarkedRows
 pub mod OneTable
 pub mod Own
 pub mod SetFacts
+pub mod SpanFacts
 pub mod TableRows

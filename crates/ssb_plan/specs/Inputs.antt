@@ -2,6 +2,7 @@
 -- Source: own.
 use Rattle.std.specs.Prelude.{◌≡◌, ℕ, Bool, true, false, ◌&&◌, nat_eq, List, [], ◌∷◌, ◌++◌, map, Option, None, Some, slice_get, unwrap_or}
 use Rattle.std.specs.List.{list_all}
+use Rattle.ssb_cells.specs.Cell.{Cell}
 use Rattle.ssb_cells.specs.Tables.{Columns, Filled}
 use Rattle.ssb_query.specs.Tables.{kind_at}
 use Rattle.ssb_query.specs.declared.column.BoundColumn.{BoundColumn}
@@ -9,6 +10,8 @@ use Rattle.ssb_query.specs.declared.query.QueryParts.{QueryParts}
 use Rattle.ssb_plan.specs.declared.input.ColumnRef.{ColumnRef}
 use Rattle.ssb_plan.specs.declared.input.Input.{Input}
 use Rattle.ssb_plan.specs.declared.input.Input.TheVariants as input
+use Rattle.ssb_plan.specs.declared.index.Span.{Span}
+use Rattle.ssb_plan.specs.Spans.{span_of}
 use Rattle.ssb_terms.specs.declared.rule.ColType.{ColType}
 use Rattle.ssb_terms.specs.declared.rule.ColType.TheVariants as kinds
 use Rattle.ssb_trees.specs.Expressions.{columns, mapped, own_column}
@@ -58,8 +61,25 @@ is_of_kind kind (Some f) = is_kind f.kind kind
 abbrev pub has_column : QueryParts → List Columns → ColumnRef → Bool
 has_column q tables r = is_number r.table (slice_get q.from r.place) && is_of_kind r.kind (column_in (slice_get tables r.table) r)
 
--- the columns of GROUP BY, and what each aggregate takes, in the order of the query: all of these columns are there
-pub record AreInputs (q : QueryParts) (tables : List Columns) (rs : List ColumnRef) (is : List Input) : Type 0 where
+-- a table of the catalog; the table without columns where there is no such table
+abbrev pub table_at : List Columns → ℕ → Columns
+table_at tables n = unwrap_or (slice_get tables n) []
+
+abbrev pub values_in : Option Filled → List Cell
+values_in None = []
+values_in (Some c) = c.values
+
+-- the values of a column
+abbrev pub values_of : List Columns → ColumnRef → List Cell
+values_of tables r = values_in (slice_get (table_at tables r.table) r.column)
+
+-- the least and the greatest of its numbers
+abbrev pub key_span : List Columns → ColumnRef → Span
+key_span tables r = span_of (values_of tables r)
+
+-- the columns of GROUP BY with their spans, and what each aggregate takes, in the order of the query: all of these columns are there
+pub record AreInputs (q : QueryParts) (tables : List Columns) (rs : List ColumnRef) (ss : List Span) (is : List Input) : Type 0 where
   pub keys : rs ≡ map (column_ref q) q.groups
+  pub spans : ss ≡ map (key_span tables) rs
   pub inputs : is ≡ map (input_of q) q.aggregates
   pub there : list_all (has_column q tables) (rs ++ concat (map input_columns is)) ≡ true

@@ -9,6 +9,7 @@ pub mod Loaded
 pub mod Only
 pub mod Serves
 pub mod Sets
+pub mod Spans
 pub mod Split
 pub use Rattle.ssb_cells.specs.Tables
 pub use Rattle.ssb_cells.specs.Truth

@@ -6,9 +6,9 @@
 //!   groups and aggregates take ([`ColumnRef`], [`Input`]).
 //! - Callers: `ssb_job`, which joins rows by a plan; `ssb_groups`, by its inputs; `ssb_explain`, which tells it.
 //! - Apart: a plan is made once, and told and worked off by others.
-//! - Files: `plan`, `conjuncts`, `join`; `input`; `dimension`, `index`: rows by their keys; `table_filter`,
+//! - Files: `plan`, `conjuncts`, `join`; `input`, `spans`; `dimension`, `index`: rows by their keys; `table_filter`,
 //!   `column_filter`, `sets`, `leaves`: conditions over one column as sets; `only`, `sole`: of which tables and columns.
-//! - Definitions: `JobShape`, `Build`, `Inputs`, `Loaded`, `Index`; `Accesses`, `DimensionIndex`, `Filters`, `Only`,
+//! - Definitions: `JobShape`, `Build`, `Inputs`, `Spans`, `Loaded`, `Index`; `Accesses`, `DimensionIndex`, `Filters`, `Only`,
 //!   `Serves`, `Sets`, `Split`: for the contracts here and in the next crates.
 #![tactic(auto)]
 
@@ -23,6 +23,7 @@ mod only;
 pub mod plan;
 pub mod sets;
 mod sole;
+mod spans;
 pub mod table_filter;
 
 pub use column_filter::{ColumnFilter, values_of};

@@ -22,7 +22,7 @@ here : (c : goal.After-cell_in) → c.cell_in.result ≡ key_cell (from_tables c
 here c =
     let j = c.args.job.now in
     let tables = c.deref-2.ensures.value ∙ ap (λ v. v.items) c.deref.ensures ∙ c.tables.ensures in
-    c.cell_in.ensures ∙ ap₂ (λ ts rs. cell_in ts rs c.args.column) tables c.as_slice.ensures ∙ place-cell j c.args.column c.requires.there c.args.row.now c.requires.row
+    c.cell_in.ensures.value ∙ ap₂ (λ ts rs. cell_in ts rs c.args.column) tables c.as_slice.ensures ∙ place-cell j c.args.column c.requires.there c.args.row.now c.requires.row
 
 pub returns-clause-value : goal.returns-clause-value
 returns-clause-value c =

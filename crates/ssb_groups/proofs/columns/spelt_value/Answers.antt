@@ -2,7 +2,7 @@ use Rattle.std.proofs.Common.{[], ap, sym}
 use Rattle.std.proofs.lemmas.Option.{get_or_from_slice_get}
 use Rattle.ssb_cells.specs.Cell.{text}
 use Rattle.ssb_cells.specs.Codes.{texts_of}
-use Rattle.ssb_groups.specs.Refs.{values_of}
+use Rattle.ssb_plan.specs.Inputs.{values_of}
 use Rattle.ssb_groups.proofs.columns.spelt_value.Goals as goal
 
 pub returns-in-Code : goal.returns-in-Code

@@ -15,7 +15,7 @@ use Rattle.ssb_groups.specs.Refs.{input_texts, input_value}
 use Rattle.ssb_groups.specs.Seen.{argument}
 use Rattle.ssb_groups.specs.Stands.{is_over, IsRanged}
 use Rattle.ssb_groups.specs.Value.{known}
-use Rattle.ssb_groups.specs.declared.kept.Kept.{Kept}
+use Rattle.ssb_keys.specs.declared.kept.Kept.{Kept}
 use Rattle.ssb_groups.proofs.InputFacts.{input-value, texts-are}
 use Rattle.ssb_groups.proofs.TakenFacts.{kept-or, same-alone}
 use Rattle.ssb_groups.proofs.gather.take.Goals as goal

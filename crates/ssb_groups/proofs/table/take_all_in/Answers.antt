@@ -5,7 +5,7 @@ use Rattle.std.proofs.lemmas.List.{map-append}
 use Rattle.ssb_cells.specs.Cell.{Cell}
 use Rattle.ssb_groups.specs.Entries.{AreEntries, entries_of, entry_of, totals_in}
 use Rattle.ssb_groups.specs.Joining.{JoinsEach, joinings_of}
-use Rattle.ssb_groups.specs.Keys.{cells_in, key_columns}
+use Rattle.ssb_groups.specs.Keys.{cells_in}
 use Rattle.ssb_groups.specs.Rows.{Key}
 use Rattle.ssb_groups.proofs.KeyFacts.{keys_equal}
 use Rattle.ssb_groups.proofs.MergeFacts.{joins-more, entry-at, not-yet}
@@ -38,7 +38,7 @@ loop-key-preserved c =
     let had = inv.2 in
     let listed : AreEntries j (front ++ (g, m) ∷ rest) = subst (AreEntries j) (sym split) c.requires.more in
     let none = not-yet j front rest g m listed apart in
-    let joins = joins-more (joinings_of j) (entries_of j front) (entries_of j c.args.table.now.entries) (entries_of j c.loop-key.table.entries) (entries_of j c.take_in.new.table.entries) (cells_in (key_columns j) g) (totals_in j m) none inv.1.0 c.take_in.ensures.joined in
+    let joins = joins-more (joinings_of j) (entries_of j front) (entries_of j c.args.table.now.entries) (entries_of j c.loop-key.table.entries) (entries_of j c.take_in.new.table.entries) (cells_in j g) (totals_in j m) none inv.1.0 c.take_in.ensures.joined in
     let last : entries_of j (front ++ (g, m) ∷ []) ≡ entries_of j front ++ entry_of j (g, m) ∷ [] = map-append {B = Key × List Cell} (entry_of j) front ((g, m) ∷ []) in (
       c.take_in.ensures.unique,
       (subst (λ es. JoinsEach (joinings_of j) es (entries_of j c.args.table.now.entries) (entries_of j c.take_in.new.table.entries)) (sym last) joins, c.take_in.ensures.entries),

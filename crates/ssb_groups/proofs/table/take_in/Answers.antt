@@ -5,7 +5,7 @@ use Rattle.indexmap.specs.IndexMap.{insert_entry}
 use Rattle.ssb_groups.specs.Entries.{AreEntries, entries_of, totals_in}
 use Rattle.ssb_groups.specs.Joining.{joinings_of}
 use Rattle.ssb_groups.specs.Rows.{key_eq}
-use Rattle.ssb_groups.specs.Keys.{cells_in, key_columns}
+use Rattle.ssb_groups.specs.Keys.{cells_in}
 use Rattle.ssb_groups.proofs.KeyFacts.{keys_equal}
 use Rattle.ssb_groups.proofs.TableFacts.{found, lookup-entries_of, lookup-same, set_value-same, set_value-entries, insert-same, insert-entries, put_present, put_absent, table_eq}
 use Rattle.std.proofs.lemmas.Grind.{common_steps}
@@ -18,7 +18,7 @@ pub returns-in-Some-clause-joined : goal.returns-in-Some-clause-joined
 returns-in-Some-clause-joined c = λ fits q.
     let j = c.args.columns.now in
     let g = c.args.key in
-    let k = cells_in (key_columns j) g in
+    let k = cells_in j g in
     let es = c.args.table.now.entries in
     let a = c.in-Some.totals.now in
     let at : lookup (table_eq j g) es ≡ Some a = sym (lookup-same j g es c.requires.key c.requires.entries) ∙ sym c.in-Some.ensures.value in
@@ -35,7 +35,7 @@ returns-in-Some-clause-entries c =
 pub returns-in-Ok-clause-joined : goal.returns-in-Ok-clause-joined
 returns-in-Ok-clause-joined c = λ fits q.
     let j = c.args.columns.now in
-    let k = cells_in (key_columns j) c.args.key in
+    let k = cells_in j c.args.key in
     let es = c.args.table.now.entries in
     let none : lookup (table_eq j c.args.key) es ≡ None = sym (lookup-same j c.args.key es c.requires.key c.requires.entries) ∙ sym c.in-None.ensures.value in
     ap (λ m. lookup (key_eq q) (entries_of j m))

@@ -1,14 +1,25 @@
-use Rattle.std.proofs.Common.{◌≡◌, ◌∙◌, sym, ap, subst}
+use Rattle.std.proofs.Common.{◌≡◌, ◌∙◌, map, sym, ap, subst}
 use Rattle.std.specs.Arc.{arc_value}
 use Rattle.std.specs.declared.alloc.Global.{Global}
 use Rattle.std.specs.declared.vec.Vec.{Vec}
 use Rattle.ssb_cells.specs.Tables.{Columns}
 use Rattle.ssb_plan.specs.JobShape.{JobShape}
 use Rattle.ssb_groups.specs.Joining.{AreColumnsOf}
+use Rattle.ssb_groups.specs.Keys.{AreDomains, domain_of, domains_of}
+use Rattle.ssb_groups.specs.Refs.{AreAllColumns}
+use Rattle.ssb_groups.proofs.ValueDomains.{all-there}
 use Rattle.ssb_groups.proofs.columns.Columns.of.Goals as goal
 
 pub invariant_of-result : goal.invariant_of-result
 invariant_of-result c =
-    let tables : (arc_value c.in_ok-try_clone.field-0).items ≡ c.args.job.now.tables = ap (λ (v : Vec Columns Global). v.items) c.in_ok-try_clone.ensures ∙ c.tables.ensures in
-    subst (λ (j : JobShape). AreColumnsOf j (arc_value c.in_ok-try_clone.field-0).items c.in_ok-keys.field-0.items c.in_ok-joinings.field-0.items) (sym c.of.ensures)
-    (record { tables = tables; keys = c.in_ok-keys.ensures.same; joinings = c.in_ok-joinings.ensures.same; there = c.in_ok-keys.ensures.there; known = c.in_ok-joinings.ensures.known })
+    let tables : (arc_value c.in_ok-try_clone.field-0).items ≡ c.args.job.now.tables = ap (λ (v : Vec Columns Global). v.items) c.in_ok-try_clone.ensures ∙ c.tables-2.ensures in
+    let found : c.deref-2.result.now ≡ c.args.job.now.tables = c.deref-2.ensures.value ∙ ap (λ v. v.items) c.deref.ensures ∙ c.tables.ensures in
+    let same : map (domain_of c.deref-2.result.now) c.as_slice.result.now ≡ domains_of c.args.job.now =
+    ap (λ ts. map (domain_of ts) c.as_slice.result.now) found ∙ ap (map (domain_of c.args.job.now.tables)) (c.as_slice.ensures.value ∙ c.in_ok-keys.ensures.same) in
+    subst (λ (j : JobShape). AreColumnsOf j (arc_value c.in_ok-try_clone.field-0).items c.in_ok-keys.keys.items c.in_ok-domains.domains c.in_ok-joinings.field-0.items) (sym c.of.ensures)
+    (record { tables = tables; keys = c.in_ok-keys.ensures.same; domains = subst (λ ds. AreDomains ds c.in_ok-domains.domains) same c.in_ok-domains.ensures; joinings = c.in_ok-joinings.ensures.same; there = c.in_ok-keys.ensures.there; known = c.in_ok-joinings.ensures.known })
+
+pub domains_of-requires-clause-columns : goal.domains_of-requires-clause-columns
+domains_of-requires-clause-columns c =
+    let found : c.deref-2.result.now ≡ c.args.job.now.tables = c.deref-2.ensures.value ∙ ap (λ v. v.items) c.deref.ensures ∙ c.tables.ensures in
+    subst (λ ts. AreAllColumns ts c.as_slice.result.now) (sym found) (subst (AreAllColumns c.args.job.now.tables) (sym c.as_slice.ensures.value) (all-there c.args.job.now c.in_ok-keys.keys.items c.in_ok-keys.ensures.there))

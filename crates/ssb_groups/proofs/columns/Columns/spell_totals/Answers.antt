@@ -8,7 +8,7 @@ use Rattle.ssb_groups.specs.Keys.{AreKept, IsKept, kept_total, spelt}
 use Rattle.ssb_groups.specs.Totals.{total_cell}
 use Rattle.ssb_groups.specs.declared.joining.Joining.{Joining}
 use Rattle.ssb_groups.specs.declared.joining.Joining.TheVariants as joining
-use Rattle.ssb_groups.specs.declared.kept.Kept.{Kept}
+use Rattle.ssb_keys.specs.declared.kept.Kept.{Kept}
 use Rattle.ssb_groups.specs.declared.kept.KeptTotal.{KeptTotal}
 use Rattle.ssb_groups.specs.declared.kept.KeptTotal.TheVariants as total
 use Rattle.ssb_groups.proofs.ColumnFacts.{spelt-at}

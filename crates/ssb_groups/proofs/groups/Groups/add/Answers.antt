@@ -4,7 +4,8 @@ use Rattle.ssb_plan.specs.JobShape.{JobShape, from_tables}
 use Rattle.ssb_groups.specs.Aggregates.{totals}
 use Rattle.ssb_groups.specs.Entries.{AreTotals, totals_in}
 use Rattle.ssb_groups.specs.Gathering.{IsGathered}
-use Rattle.ssb_groups.specs.Keys.{AreKept, cells_in, key_columns, key_of, spelt}
+use Rattle.ssb_groups.specs.Keys.{AreKept, IsKey, cells_in, domains_of, kept_in, key_columns, key_of, spelt}
+use Rattle.ssb_keys.specs.Domains.{AreIn}
 use Rattle.ssb_groups.proofs.ColumnFacts.{key-kept, key-spelt}
 use Rattle.ssb_groups.specs.Rows.{SeenRow}
 use Rattle.ssb_groups.specs.Seen.{seen}
@@ -20,11 +21,16 @@ returns-then-branch-clause-stands c = λ A before.
     let p : Stands c.self.inside.store A = subst (λ x. Stands x A) (sym c.self.view_is) before in
     c.add_over.ensures.stands A r (record { over = sym g.over ∙ c.if-branch.true; fact = sym c.fact_of.ensures; ranged = g.ranged }) p
 
+pub set_key-requires : goal.set_key-requires
+set_key-requires c =
+    let j : JobShape = c.self.inside.columns in
+    record {
+      there = subst (AreIn (domains_of j)) (sym c.deref.ensures.value) c.in_ok-fill.ensures.there;
+      kept = subst (AreKept (key_columns j)) (sym (c.deref.ensures.value ∙ c.in_ok-fill.ensures.cells)) (key-kept j c.args.row.now);
+    }
+
 pub add_plain-requires-clause-key : goal.add_plain-requires-clause-key
-add_plain-requires-clause-key c =
-    let j : JobShape = c.self.inside.store.job in
-    let filled : c.fill.new.key.cells.items ≡ key_of j c.args.row.now = c.in_ok-fill.ensures ∙ ap (λ x. key_of x c.args.row.now) c.self.invariant in
-    record { kept = subst (AreKept (key_columns j)) (sym filled) (key-kept j c.args.row.now) }
+add_plain-requires-clause-key c = subst (λ (x : JobShape). IsKey x c.set_key.new.key) c.self.invariant c.in_ok-set_key.ensures.key
 
 pub add_plain-requires-clause-more : goal.add_plain-requires-clause-more
 add_plain-requires-clause-more c =
@@ -43,8 +49,8 @@ returns-clause-stands c = λ A before.
     let sum : totals_in k c.gather.new.more ≡ totals k.query.aggregates (r ∷ []) = g.alone ∙ sym (totals-alone (column_value (from_tables k) rows) r k.query.aggregates refl) in
     let more : totals_in j c.gather.new.more ≡ totals j.query.aggregates (r ∷ []) =
     ap (λ (x : JobShape). totals_in x c.gather.new.more) one ∙ sum ∙ ap (λ (x : JobShape). totals x.query.aggregates (r ∷ [])) (sym one) in
-    let filled : c.fill.new.key.cells.items ≡ key_of j rows = c.in_ok-fill.ensures ∙ ap (λ x. key_of x rows) c.self.invariant in
-    let key : cells_in (key_columns j) c.fill.new.key ≡ r.key = ap (spelt (key_columns j)) filled ∙ key-spelt j rows ∙ ap (λ (x : JobShape). map (column_value (from_tables x) rows) x.query.groups) one in
+    let cells : c.fill.new.cells.items ≡ key_of j rows = c.in_ok-fill.ensures.cells ∙ ap (λ x. key_of x rows) c.self.invariant in
+    let key : cells_in j c.set_key.new.key ≡ r.key = ap (spelt (key_columns j)) (ap (λ x. kept_in x c.set_key.new.key) (sym c.self.invariant) ∙ c.in_ok-set_key.ensures.kept ∙ c.deref.ensures.value ∙ cells) ∙ key-spelt j rows ∙ ap (λ (x : JobShape). map (column_value (from_tables x) rows) x.query.groups) one in
     c.in_ok-add_plain.ensures.stands A r (record { plain = sym g.over ∙ c.if-branch.false; key = key; more = more; ranged = g.ranged }) p
 
 pub invariant_of-self-2 : goal.invariant_of-self-2

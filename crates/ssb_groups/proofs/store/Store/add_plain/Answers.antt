@@ -5,7 +5,7 @@ use Rattle.ssb_plan.specs.JobShape.{JobShape}
 use Rattle.ssb_groups.specs.Aggregates.{totals}
 use Rattle.ssb_groups.specs.Entries.{AreEntries, AreTotals, entries_of, totals_in}
 use Rattle.ssb_groups.specs.Joining.{FitEach, joinings_of, option_joined}
-use Rattle.ssb_groups.specs.Keys.{IsKey, cells_in, key_columns}
+use Rattle.ssb_groups.specs.Keys.{IsKey, cells_in}
 use Rattle.ssb_groups.specs.Rows.{key_eq}
 use Rattle.ssb_groups.specs.Stands.{GroupMap, Stands}
 use Rattle.ssb_groups.specs.contracts.store.Store.{the_invariant, the_view}
@@ -21,7 +21,7 @@ put-requires-clause-entries c =
     subst (λ (x : JobShape). AreEntries x c.self.inside.table.entries) j c.self.invariant.1
 
 pub put-requires-clause-key : goal.put-requires-clause-key
-put-requires-clause-key c = subst (λ (x : JobShape). IsKey (key_columns x) c.args.key.now) (sym c.requires.columns) c.requires.key
+put-requires-clause-key c = subst (λ (x : JobShape). IsKey x c.args.key.now) (sym c.requires.columns) c.requires.key
 
 pub put-requires-clause-more : goal.put-requires-clause-more
 put-requires-clause-more c = subst (λ (x : JobShape). AreTotals x c.args.more.now) (sym c.requires.columns) c.requires.more
@@ -34,7 +34,7 @@ returns-clause-stands c = λ A r is before.
     let p : Stands g A = subst (λ x. Stands x A) (sym c.self.view_is) before in
     let small : g.counted + 1 < 2 ^ 32 = subst (λ (x : GroupMap). x.counted + 1 < 2 ^ 32) (sym c.self.view_is) c.requires.few in
     let job : c.args.columns.now ≡ g.job = c.requires.columns ∙ sym (ap (λ (x : GroupMap). x.job) c.self.view_is) in
-    let of-row : cells_in (key_columns g.job) c.args.key.now ≡ r.key = ap (λ (x : GroupMap). cells_in (key_columns x.job) c.args.key.now) c.self.view_is ∙ is.key in
+    let of-row : cells_in g.job c.args.key.now ≡ r.key = ap (λ (x : GroupMap). cells_in x.job c.args.key.now) c.self.view_is ∙ is.key in
     let mine : totals_in g.job c.args.more.now ≡ totals g.job.query.aggregates (r ∷ []) =
     ap (λ (x : GroupMap). totals_in x.job c.args.more.now) c.self.view_is ∙ is.more ∙ ap (λ (x : GroupMap). totals x.job.query.aggregates (r ∷ [])) (sym c.self.view_is) in
     elim c.if-is_none.branch [
@@ -46,8 +46,8 @@ returns-clause-stands c = λ A r is before.
           (subst (λ (x : Inside). IsDistinct key_eq (map (λ e. e.0) (entries_of x.job.value x.table.entries))) (sym w.self-inside-is) (keys_distinct g.job _ entries w.in_ok-put.ensures.unique))
           (λ _ q.
           ap (λ (x : Inside). lookup (key_eq q) (entries_of x.job.value x.table.entries)) w.self-inside-is
-          ∙ joins (λ xs e. subst (FitEach (joinings_of g.job) xs) (sym mine) (fits_row g A r p is.ranged none small (cells_in (key_columns g.job) c.args.key.now) xs e)) q
-          ∙ ap (λ m. option_joined (joinings_of g.job) (lookup (key_eq q) g.entries) (cond (key_eq q (cells_in (key_columns g.job) c.args.key.now)) (Some m) None)) mine
+          ∙ joins (λ xs e. subst (FitEach (joinings_of g.job) xs) (sym mine) (fits_row g A r p is.ranged none small (cells_in g.job c.args.key.now) xs e)) q
+          ∙ ap (λ m. option_joined (joinings_of g.job) (lookup (key_eq q) g.entries) (cond (key_eq q (cells_in g.job c.args.key.now)) (Some m) None)) mine
           ∙ ap (λ k. option_joined (joinings_of g.job) (lookup (key_eq q) g.entries) (cond (key_eq q k) (Some (totals g.job.query.aggregates (r ∷ []))) None)) of-row)
       | else-is_none w ↦
           Stands-plain g n A r is.plain is.ranged p (ap (λ (x : Inside). x.job.value) w.self-inside-is) (ap (λ (x : Inside). x.counted + 1) w.self-inside-is) (ap (λ (x : Inside). x.overflow) w.self-inside-is)

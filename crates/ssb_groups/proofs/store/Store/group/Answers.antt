@@ -1,27 +1,23 @@
-use Rattle.std.proofs.Common.{◌≡◌, ◌<◌, ◌∙◌, ℕ, zero, suc, Bor, List, [], ◌∷◌, Option, None, Some, slice_get, sym, ap, subst}
+use Rattle.std.proofs.Common.{◌≡◌, ◌<◌, ◌∙◌, ℕ, Bor, List, Option, None, Some, slice_get, sym, ap, subst}
 use Rattle.std.specs.Prelude.{option_map, IfSome}
 use Rattle.std.specs.Option.{IsSome}
 use Rattle.std.proofs.lemmas.List.{length-map}
-use Rattle.std.proofs.lemmas.Option.{same_Some, slice_get-map}
+use Rattle.std.proofs.lemmas.Option.{slice_get-map}
 use Rattle.ssb_plan.specs.JobShape.{JobShape}
 use Rattle.ssb_groups.specs.Entries.{AreEntries, AreTotals, Entry, entries_of, entry_of}
-use Rattle.ssb_groups.specs.Keys.{IsKey, key_columns}
-use Rattle.ssb_groups.specs.declared.kept.Kept.{Kept}
+use Rattle.ssb_groups.specs.Keys.{IsKey}
+use Rattle.ssb_keys.specs.declared.kept.Kept.{Kept}
 use Rattle.ssb_groups.specs.declared.key.GroupKey.{GroupKey}
+use Rattle.ssb_groups.proofs.TableFacts.{entry-there}
 use Rattle.ssb_groups.proofs.store.Store.group.Goals as goal
 
-entry-at : (j : JobShape) (es : List Entry) (i : ℕ) (e : Entry) → AreEntries j es → slice_get es i ≡ Some e → IsKey (key_columns j) e.0 × AreTotals j e.1
-entry-at j [] i e are at = cc
-entry-at j (x ∷ es) zero e are at = subst (λ (y : Entry). IsKey (key_columns j) y.0 × AreTotals j y.1) (same_Some {A = Entry} x e at) are.0
-entry-at j (x ∷ es) (suc i) e are at = entry-at j es i e are.1 at
-
-keyed : (j : JobShape) (es : List Entry) (i : ℕ) (o : Option (Bor GroupKey × Bor (List Kept))) → option_map (λ e. (e.0.now, e.1.now)) o ≡ slice_get es i → AreEntries j es → IfSome o (λ e. IsKey (key_columns j) e.0.now)
+keyed : (j : JobShape) (es : List Entry) (i : ℕ) (o : Option (Bor GroupKey × Bor (List Kept))) → option_map (λ e. (e.0.now, e.1.now)) o ≡ slice_get es i → AreEntries j es → IfSome o (λ e. IsKey j e.0.now)
 keyed j es i None at are = tt
-keyed j es i (Some e) at are = (entry-at j es i (e.0.now, e.1.now) are (sym at)).0
+keyed j es i (Some e) at are = (entry-there j es i e.0.now e.1.now are (sym at)).0
 
 totalled : (j : JobShape) (es : List Entry) (i : ℕ) (o : Option (Bor GroupKey × Bor (List Kept))) → option_map (λ e. (e.0.now, e.1.now)) o ≡ slice_get es i → AreEntries j es → IfSome o (λ e. AreTotals j e.1.now)
 totalled j es i None at are = tt
-totalled j es i (Some e) at are = (entry-at j es i (e.0.now, e.1.now) are (sym at)).1
+totalled j es i (Some e) at are = (entry-there j es i e.0.now e.1.now are (sym at)).1
 
 spelt-entry : (j : JobShape) (es : List Entry) (i : ℕ) (o : Option (Bor GroupKey × Bor (List Kept))) → option_map (λ e. (e.0.now, e.1.now)) o ≡ slice_get es i
     → IfSome o (λ e. slice_get (entries_of j es) i ≡ Some (entry_of j (e.0.now, e.1.now)))

@@ -1,7 +1,8 @@
 -- For any rows there are groups that stand for them: each key once, with the aggregates of its group.
-use Rattle.std.proofs.Common.{◌≡◌, ◌∙◌, ◌++◌, ◌∷◌, [], Bool, true, false, cond, List, map, length, None, Some, refl, sym, ap, append_assoc, append-nil, subst}
+use Rattle.std.proofs.Common.{◌≡◌, ◌∙◌, true≢false, ◌++◌, ◌∷◌, [], Bool, true, false, cond, List, map, length, None, Some, refl, sym, ap, append_assoc, append-nil, subst}
 use Rattle.std.specs.Prelude.{if◌then◌else◌}
 use Rattle.std.specs.List.{AllByRecursion, IsDistinct, filter}
+use Rattle.std.specs.Cmp.{IsEquivalence}
 use Rattle.std.specs.Map.{lookup}
 use Rattle.indexmap.specs.IndexMap.{insert_entry}
 use Rattle.ssb_cells.specs.Cell.{Cell}
@@ -14,10 +15,28 @@ use Rattle.ssb_groups.specs.Stands.{AnyRowsHaveGroups, AreRanged, EachRanged, Gr
 use Rattle.ssb_groups.proofs.KeyFacts.{key_eq_laws}
 use Rattle.ssb_groups.proofs.RowFacts.{AreRanged-append, group-append, least-append, overflows-append}
 use Rattle.ssb_groups.proofs.StandsFacts.{Stands-nothing, none_left}
-use Rattle.ssb_groups.proofs.TableFacts.{lookup-insert_entry}
 
 abbrev Entries : Type 0
 Entries = List (Key × List Cell)
+
+-- ---- a look-up in a list with one entry inserted
+
+module _ {K X : Type 0} {eq : K → K → Bool} (laws : IsEquivalence eq) (q k : K) (v : X) where
+  lookup-insert_entry : (es : List (K × X)) → lookup (eq q) (insert_entry eq es k v) ≡ cond (eq k q) (Some v) (lookup (eq q) es)
+  lookup-insert_entry [] = ap (λ t. cond t (Some v) None) (laws.symm q k)
+  lookup-insert_entry (e ∷ es) = by (lookup-insert_entry es) (eq k e.0) (eq q e.0) (eq k q) refl refl refl
+    where
+      by : lookup (eq q) (insert_entry eq es k v) ≡ cond (eq k q) (Some v) (lookup (eq q) es) → (a b c : Bool) → eq k e.0 ≡ a → eq q e.0 ≡ b → eq k q ≡ c → lookup (eq q) (if a then (e.0, v) ∷ es else e ∷ insert_entry eq es k v) ≡ cond c (Some v) (cond b (Some e.1) (lookup (eq q) es))
+      by rest true true true ea eb ec = ap (λ t. cond t (Some v) (lookup (eq q) es)) eb
+      by rest true true false ea eb ec = absurd (true≢false (sym eb ∙ laws.symm q e.0 ∙ sym (laws.congr k e.0 q ea) ∙ ec))
+      by rest true false true ea eb ec = absurd (true≢false (sym ec ∙ laws.congr k e.0 q ea ∙ laws.symm e.0 q ∙ eb))
+      by rest true false false ea eb ec = ap (λ t. cond t (Some v) (lookup (eq q) es)) eb
+      by rest false true true ea eb ec = absurd (true≢false (sym eb ∙ sym (laws.congr k q e.0 ec) ∙ ea))
+      by rest false true false ea eb ec = ap (λ t. cond t (Some e.1) (lookup (eq q) (insert_entry eq es k v))) eb
+      by rest false false true ea eb ec =
+          ap (λ t. cond t (Some e.1) (lookup (eq q) (insert_entry eq es k v))) eb ∙ rest ∙ ap (λ t. cond t (Some v) (lookup (eq q) es)) ec
+      by rest false false false ea eb ec =
+          ap (λ t. cond t (Some e.1) (lookup (eq q) (insert_entry eq es k v))) eb ∙ rest ∙ ap (λ t. cond t (Some v) (lookup (eq q) es)) ec
 
 -- ---- keys stay distinct
 

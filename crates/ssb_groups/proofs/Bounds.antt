@@ -1,5 +1,5 @@
 -- No total of at most 2^32 rows wraps.
-use Rattle.std.proofs.Common.{◌≡◌, ℕ, zero, suc, ◌+◌, ◌*◌, ◌^◌, ◌≤◌, ◌<◌, ℤ, pos, negsuc, ◌+ℤ◌, ◌≤ℤ◌, Bool, true, false, cond, List, [], ◌∷◌, map, length, Some, refl, arith}
+use Rattle.std.proofs.Common.{◌≡◌, ℕ, zero, suc, ◌+◌, ◌*◌, ◌^◌, ◌≤◌, ◌<◌, ℤ, pos, negsuc, ◌+ℤ◌, ◌≤ℤ◌, Bool, true, false, List, [], ◌∷◌, length, Some, arith}
 use Rattle.std.specs.Int.RustNames.{FitsSigned}
 use Rattle.std.specs.Int.{w128}
 use Rattle.std.specs.Prelude.{◌==◌, if◌then◌else◌, neg_ℤ, slice_get, unwrap_or}
@@ -11,10 +11,10 @@ use Rattle.ssb_query.specs.declared.column.BoundColumn.{BoundColumn}
 use Rattle.ssb_trees.specs.declared.aggregate.Aggregate.{Aggregate}
 use Rattle.ssb_trees.specs.declared.aggregate.Aggregate.TheVariants as aggregate
 use Rattle.ssb_trees.specs.declared.aggregate.SetFunction.TheVariants as function
-use Rattle.ssb_groups.specs.Aggregates.{agg, amount_of, arguments_at, count_of, exact_sum, totals, totals_from, value_count}
-use Rattle.ssb_groups.specs.Joining.{Fits, FitsAdded, FitEach, joining_of}
-use Rattle.ssb_groups.specs.Rows.{Key, key_eq, SeenRow}
-use Rattle.ssb_groups.specs.Stands.{group, summary, IsRanged, EachRanged, AreRanged}
+use Rattle.ssb_groups.specs.Aggregates.{agg, amount_of, arguments_at, count_of, exact_sum, totals, value_count}
+use Rattle.ssb_groups.specs.Joining.{Fits, FitsAdded, joining_of}
+use Rattle.ssb_groups.specs.Rows.{SeenRow}
+use Rattle.ssb_groups.specs.Stands.{summary, IsRanged, EachRanged, AreRanged}
 use Rattle.ssb_groups.specs.Value.{Outcome, over, known}
 
 -- the values of at most n rows
@@ -56,23 +56,9 @@ IsBounded-cons x xs n m e p b =
     let v = count_of-le x in
     record { values = omega arith; high = omega (arith, ints); low = omega (arith, ints) }
 
-IsBounded-more : (xs : List Outcome) (n m : ℕ) → m ≡ n + 1 → IsBounded xs n → IsBounded xs m
-IsBounded-more xs n m e b = record { values = omega arith; high = omega (arith, ints); low = omega (arith, ints) }
-
--- what the i-th aggregate takes of a group
-IsBounded-group : (i : ℕ) (k : Key) (rs : List SeenRow) → AreRanged rs → IsBounded (arguments_at i (group k rs)) (length rs)
-IsBounded-group i k [] p = record { values = omega arith; high = omega (arith, ints); low = omega (arith, ints) }
-IsBounded-group i k (r ∷ rs) p =
-    let b = IsBounded-group i k rs p.1 in
-    let e : length (r ∷ rs) ≡ length rs + 1 = omega arith in
-    elim (key_eq k r.key) as (λ t. IsBounded (arguments_at i (cond t (r ∷ group k rs) (group k rs))) (length (r ∷ rs))) [
-      | true ↦ IsBounded-cons (unwrap_or (slice_get r.arguments i) (known null)) (arguments_at i (group k rs)) (length rs) (length (r ∷ rs)) e (ranged_at r.arguments i p.0) b
-      | false ↦ IsBounded-more (arguments_at i (group k rs)) (length rs) (length (r ∷ rs)) e b
-    ]
-
-IsBounded-one : (i : ℕ) (r : SeenRow) → EachRanged r.arguments → IsBounded (arguments_at i (r ∷ [])) 1
-IsBounded-one i r p =
-    IsBounded-cons (unwrap_or (slice_get r.arguments i) (known null)) [] 0 1 refl (ranged_at r.arguments i p) (record { values = omega arith; high = omega (arith, ints); low = omega (arith, ints) })
+IsBounded-rows : (i : ℕ) (rs : List SeenRow) → AreRanged rs → IsBounded (arguments_at i rs) (length rs)
+IsBounded-rows i [] p = record { values = omega arith; high = omega (arith, ints); low = omega (arith, ints) }
+IsBounded-rows i (r ∷ rs) p = IsBounded-cons (unwrap_or (slice_get r.arguments i) (known null)) (arguments_at i rs) (length rs) (length (r ∷ rs)) (omega arith) (ranged_at r.arguments i p.0) (IsBounded-rows i rs p.1)
 
 -- two sums, either of which may be null
 sums_fit : (b c : Bool) (s t : ℤ) → FitsSigned w128 (s +ℤ t) → FitsAdded (if b then null else number s) (if c then null else number t)
@@ -88,22 +74,11 @@ Fits-bounded j (aggregate.Of function.Count e) xs ys m n p q h = omega (arith, i
 Fits-bounded j (aggregate.Of function.Min e) xs ys m n p q h = tt
 Fits-bounded j (aggregate.Of function.Max e) xs ys m n p q h = tt
 
-fit_from : (j : JobShape) (i : ℕ) (aggs : List (Aggregate BoundColumn)) (R Q : List SeenRow) (m n : ℕ) → ((i : ℕ) → IsBounded (arguments_at i R) m) → ((i : ℕ) → IsBounded (arguments_at i Q) n) → m + n < 2 ^ 32
-    → FitEach (map (joining_of j) aggs) (totals_from i aggs R) (totals_from i aggs Q)
-fit_from j i [] R Q m n p q h = tt
-fit_from j i (a ∷ aggs) R Q m n p q h = (Fits-bounded j a (arguments_at i R) (arguments_at i Q) m n (p i) (q i) h, fit_from j (i + 1) aggs R Q m n p q h)
-
 -- a summary is of the aggregates
 pub summary_is : (aggs : List (Aggregate BoundColumn)) (rs : List SeenRow) (xs : List Cell) → summary aggs rs ≡ Some xs → xs ≡ totals aggs rs
 summary_is aggs [] xs e = cc
 summary_is aggs (r ∷ rs) xs e = cc
 
--- the aggregates of one key over few rows of two lists can be joined
-pub fit_rows : (j : JobShape) (aggs : List (Aggregate BoundColumn)) (k : Key) (rs qs : List SeenRow) → AreRanged rs → AreRanged qs → length rs + length qs < 2 ^ 32
-    → FitEach (map (joining_of j) aggs) (totals aggs (group k rs)) (totals aggs (group k qs))
-fit_rows j aggs k rs qs p q small = fit_from j 0 aggs (group k rs) (group k qs) (length rs) (length qs) (λ i. IsBounded-group i k rs p) (λ i. IsBounded-group i k qs q) small
-
--- one more row can be joined to a group of few rows
-pub fit_row : (j : JobShape) (aggs : List (Aggregate BoundColumn)) (k : Key) (rs : List SeenRow) (r : SeenRow) → AreRanged rs → EachRanged r.arguments → length rs + 1 < 2 ^ 32
-    → FitEach (map (joining_of j) aggs) (totals aggs (group k rs)) (totals aggs (r ∷ []))
-fit_row j aggs k rs r p q small = fit_from j 0 aggs (group k rs) (r ∷ []) (length rs) 1 (λ i. IsBounded-group i k rs p) (λ i. IsBounded-one i r q) small
+-- an aggregate over few rows of two lists can be joined
+pub fits-rows : (j : JobShape) (i : ℕ) (a : Aggregate BoundColumn) (rs qs : List SeenRow) → AreRanged rs → AreRanged qs → length rs + length qs < 2 ^ 32 → Fits (joining_of j a) (agg a (arguments_at i rs)) (agg a (arguments_at i qs))
+fits-rows j i a rs qs p q small = Fits-bounded j a (arguments_at i rs) (arguments_at i qs) (length rs) (length qs) (IsBounded-rows i rs p) (IsBounded-rows i qs q) small

@@ -1,15 +1,19 @@
 pub mod AddFacts
+pub mod AddedFacts
 pub mod AggregateFacts
 pub mod AnyRows
 pub mod Bounds
 pub mod ColumnFacts
+pub mod GroupFacts
 pub mod InputFacts
 pub mod JoiningFacts
 pub mod KeyFacts
-mod MergeFacts
 pub mod Permuted
+pub mod PlaceFacts
+pub mod PlacedRows
 pub mod RowFacts
 pub mod StandsFacts
-pub mod TableFacts
+pub mod StoreFacts
 pub mod TakenFacts
+pub mod TallyFacts
 pub mod ValueDomains

@@ -1,19 +1,12 @@
 -- When groups stand for one row more.
-use Rattle.std.proofs.Common.{◌≡◌, ℕ, ◌+◌, ◌^◌, ◌<◌, true, false, true≢false, is_some, cond, List, [], ◌∷◌, ◌++◌, map, length, Option, None, Some, refl, sym, ap, subst, ◌∙◌, arith, length-append}
+use Rattle.std.proofs.Common.{◌≡◌, ℕ, ◌+◌, true, false, true≢false, is_some, List, [], ◌∷◌, ◌++◌, map, length, Option, None, Some, refl, sym, ap, subst, ◌∙◌, arith, length-append}
 use Rattle.std.specs.List.{IsDistinct}
 use Rattle.std.specs.Map.{lookup}
 use Rattle.ssb_plan.specs.JobShape.{JobShape}
-use Rattle.ssb_cells.specs.Cell.{Cell}
-use Rattle.ssb_groups.specs.Aggregates.{totals}
-use Rattle.ssb_groups.specs.Joining.{FitEach, joinings_of, option_joined}
+use Rattle.ssb_groups.specs.Joining.{joinings_of, option_joined}
 use Rattle.ssb_groups.specs.Rows.{Key, key_eq, SeenRow}
-use Rattle.ssb_groups.specs.Stands.{GroupMap, Stands, has_over, overflows, least_of, least, group, summary, EachRanged}
+use Rattle.ssb_groups.specs.Stands.{AreRanged, GroupMap, Stands, overflows, least_of, least, group, summary}
 use Rattle.ssb_groups.proofs.RowFacts.{summary-append, group-append, overflows-append, least-append, AreRanged-append}
-use Rattle.ssb_groups.proofs.Bounds.{summary_is, fit_row}
-
--- the groups of one row
-abbrev pub of_row : JobShape → SeenRow → GroupMap
-of_row j r = record { job = j; entries = (r.key, totals j.query.aggregates (r ∷ [])) ∷ []; overflow = least (overflows (r ∷ [])); counted = 1 }
 
 -- n has at each key the aggregates of g and of h, joined
 abbrev pub JoinsAll : GroupMap → GroupMap → GroupMap → Type 0
@@ -48,19 +41,6 @@ Stands-join g h n A B p q job same counted overflow distinct joins = record {
   distinct = distinct;
 }
 
-Stands-of_row : (j : JobShape) (r : SeenRow) → EachRanged r.arguments → IsDistinct key_eq (r.key ∷ []) → Stands (of_row j r) (r ∷ [])
-Stands-of_row j r p d = record {
-  ranged = (p, tt);
-  counted = refl;
-  overflow = refl;
-  exact = λ none k. elim (key_eq k r.key) as (λ t. cond t (Some (totals j.query.aggregates (r ∷ []))) None ≡ summary j.query.aggregates (cond t (r ∷ []) [])) [ true ↦ refl | false ↦ refl ];
-  distinct = d;
-}
-
-alone : (k : Key) → IsDistinct key_eq (k ∷ [])
-unfolding IsDistinct
-alone k = (tt, tt)
-
 -- groups without entries stand for no row
 pub Stands-nothing : (g : GroupMap) → g.counted ≡ 0 → g.overflow ≡ None → g.entries ≡ [] → Stands g []
 unfolding IsDistinct
@@ -72,44 +52,6 @@ Stands-nothing g counted overflow entries = record {
   distinct = subst (λ es. IsDistinct key_eq (map (λ e. e.0) es)) (sym entries) tt;
 }
 
--- one more row, at which an argument is Over
-pub Stands-over : (g n : GroupMap) (A : List SeenRow) (r : SeenRow) → has_over r ≡ true → EachRanged r.arguments → Stands g A → n.job ≡ g.job
-    → n.counted ≡ g.counted + 1 → n.overflow ≡ least_of g.overflow (Some r.fact) → n.entries ≡ g.entries → Stands n (A ++ r ∷ [])
-Stands-over g n A r is_over ranged p job counted overflow entries =
-    Stands-join g (of_row g.job r) n A (r ∷ []) p (Stands-of_row g.job r ranged (alone r.key)) job refl counted (overflow ∙ ap (least_of g.overflow) (sym one))
-    (subst (λ es. IsDistinct key_eq (map (λ e. e.0) es)) (sym entries) p.distinct)
-    (λ none. absurd (some_none r.fact (none_right g.overflow (Some r.fact) (sym overflow ∙ none))))
-  where
-    one : least (overflows (r ∷ [])) ≡ Some r.fact
-    one = ap (λ o. least (map (λ (x : SeenRow). x.fact) (cond o (r ∷ []) []))) is_over
-
-    some_none : (m : ℕ) → Some m ≡ None → ⊥
-    some_none m e = cc
-
--- one more row, at which no argument is Over
-pub Stands-plain : (g n : GroupMap) (A : List SeenRow) (r : SeenRow) → has_over r ≡ false → EachRanged r.arguments → Stands g A → n.job ≡ g.job
-    → n.counted ≡ g.counted + 1 → n.overflow ≡ g.overflow → IsDistinct key_eq (map (λ e. e.0) n.entries)
-    → (n.overflow ≡ None → (q : Key) → lookup (key_eq q) n.entries ≡ option_joined (joinings_of g.job) (lookup (key_eq q) g.entries) (cond (key_eq q r.key) (Some (totals g.job.query.aggregates (r ∷ []))) None))
-    → Stands n (A ++ r ∷ [])
-Stands-plain g n A r plain ranged p job counted overflow distinct entries =
-    Stands-join g (of_row g.job r) n A (r ∷ []) p (Stands-of_row g.job r ranged (alone r.key)) job refl counted (overflow ∙ sym (right_none g.overflow) ∙ ap (least_of g.overflow) (sym none))
-    distinct (λ none q. entries none q ∙ ap (λ (x : JobShape). option_joined (joinings_of x) (lookup (key_eq q) g.entries) (cond (key_eq q r.key) (Some (totals g.job.query.aggregates (r ∷ []))) None)) (sym job))
-  where
-    none : least (overflows (r ∷ [])) ≡ None
-    none = ap (λ o. least (map (λ (x : SeenRow). x.fact) (cond o (r ∷ []) []))) plain
-
-    right_none : (a : Option ℕ) → least_of a None ≡ a
-    right_none None = refl
-    right_none (Some m) = refl
-
--- what g has at a key can be joined with one more row
-pub fits_row : (g : GroupMap) (A : List SeenRow) (r : SeenRow) → Stands g A → EachRanged r.arguments → g.overflow ≡ None → g.counted + 1 < 2 ^ 32 → (k : Key) (xs : List Cell)
-    → lookup (key_eq k) g.entries ≡ Some xs → FitEach (joinings_of g.job) xs (totals g.job.query.aggregates (r ∷ []))
-fits_row g A r p ranged none small k xs e =
-    let s = summary_is g.job.query.aggregates (group k A) xs (sym (p.exact none k) ∙ e) in
-    let few : length A + 1 < 2 ^ 32 = let c = p.counted in omega arith in
-    subst (λ x. FitEach (joinings_of g.job) x (totals g.job.query.aggregates (r ∷ []))) (sym s) (fit_row g.job g.job.query.aggregates k A r p.ranged ranged few)
-
 pub none_from : {X : Type 0} (o : Option X) → is_some o ≡ false → o ≡ None
 none_from None e = refl
 none_from (Some x) e = cc
@@ -117,3 +59,42 @@ none_from (Some x) e = cc
 pub not_none_from : {X : Type 0} (o : Option X) → is_some o ≡ true → o ≡ None → ⊥
 not_none_from None e h = absurd (true≢false (sym e))
 not_none_from (Some x) e h = cc
+
+-- ---- the rows of a block
+
+some-least : (o : Option ℕ) (n : ℕ) → least_of o (Some n) ≡ None → ⊥
+some-least None n e = cc e
+some-least (Some m) n e = cc e
+
+-- rows at one of which an argument is Over
+pub Stands-overs : (g n : GroupMap) (A B : List SeenRow) (fact : ℕ) → Stands g A → AreRanged B → Some fact ≡ least (overflows B) → n.job ≡ g.job → n.counted ≡ g.counted + length B → n.overflow ≡ least_of g.overflow (Some fact) → n.entries ≡ g.entries → Stands n (A ++ B)
+Stands-overs g n A B fact p ranged is job counted overflow entries = record {
+  ranged = AreRanged-append A B p.ranged ranged;
+  counted = let a = p.counted in omega (arith, a, counted, length-append A B);
+  overflow = overflow ∙ cc (p.overflow, is, overflows-append A B, least-append (overflows A) (overflows B));
+  exact = λ none q. absurd (some-least g.overflow fact (sym overflow ∙ none));
+  distinct = subst (λ es. IsDistinct key_eq (map (λ e. e.0) es)) (sym entries) p.distinct;
+}
+
+-- rows at none of which one is, where one was before
+pub Stands-skipped : (g n : GroupMap) (A B : List SeenRow) → Stands g A → AreRanged B → overflows B ≡ [] → (g.overflow ≡ None → ⊥) → n.job ≡ g.job → n.counted ≡ g.counted + length B → n.overflow ≡ g.overflow → n.entries ≡ g.entries → Stands n (A ++ B)
+Stands-skipped g n A B p ranged plain some job counted overflow entries = record {
+  ranged = AreRanged-append A B p.ranged ranged;
+  counted = let a = p.counted in omega (arith, a, counted, length-append A B);
+  overflow = overflow ∙ p.overflow ∙ sym (right-none (least (overflows A))) ∙ cc (plain, overflows-append A B, least-append (overflows A) (overflows B));
+  exact = λ none q. absurd (some (sym overflow ∙ none));
+  distinct = subst (λ es. IsDistinct key_eq (map (λ e. e.0) es)) (sym entries) p.distinct;
+}
+  where
+    right-none : (a : Option ℕ) → least_of a None ≡ a
+    right-none None = refl
+    right-none (Some m) = refl
+
+-- no number has no least
+pub least-nothing : (ns : List ℕ) → least ns ≡ None → ns ≡ []
+least-nothing [] e = refl
+least-nothing (n ∷ ns) e = absurd (some (least ns) e)
+  where
+    some : (o : Option ℕ) → least_of (Some n) o ≡ None → ⊥
+    some None e = cc e
+    some (Some m) e = cc e

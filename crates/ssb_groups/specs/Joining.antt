@@ -1,12 +1,11 @@
 -- Totals over two lists of rows, from those over each.
 -- For the contracts inside this crate.
-use Rattle.std.specs.Prelude.{ℕ, zero, suc, ◌+ℤ◌, ◌≡◌, ⊤, true, cond, List, [], ◌∷◌, map, Option, None, Some, option_map}
+use Rattle.std.specs.Prelude.{◌+ℤ◌, ◌≡◌, ⊤, true, List, [], ◌∷◌, map, Option, None, Some, option_map}
 use Rattle.std.specs.Int.RustNames.{FitsSigned}
 use Rattle.std.specs.Int.{w128}
 use Rattle.std.specs.List.{list_all}
 use Rattle.std.specs.declared.alloc.Global.{Global}
 use Rattle.std.specs.declared.vec.Vec.{Vec}
-use Rattle.std.specs.Map.{lookup}
 use Rattle.ssb_cells.specs.Cell.{Cell, null, number}
 use Rattle.ssb_cells.specs.Tables.{Columns}
 use Rattle.ssb_keys.specs.declared.domain.Domain.{Domain}
@@ -23,7 +22,6 @@ use Rattle.ssb_trees.specs.declared.expr.Expr.{Expr}
 use Rattle.ssb_groups.specs.Aggregates.{greater, lesser}
 use Rattle.ssb_groups.specs.Keys.{AreDomains, IsKept, domains_of}
 use Rattle.ssb_groups.specs.Refs.{IsSomeColumn, values_at}
-use Rattle.ssb_groups.specs.Rows.{Key, key_eq}
 use Rattle.ssb_groups.specs.declared.joining.Joining.{Joining}
 use Rattle.ssb_groups.specs.declared.joining.Joining.TheVariants as joining
 use Rattle.ssb_keys.specs.declared.kept.Kept.{Kept}
@@ -113,44 +111,9 @@ abbrev pub joined_each : List Joining → List Cell → List Cell → List Cell
 joined_each (w ∷ ws) (x ∷ xs) (y ∷ ys) = joined w x y ∷ joined_each ws xs ys
 joined_each ws xs ys = []
 
--- two lists have a total for each, and those at each place fit
-abbrev pub FitEach : List Joining → List Cell → List Cell → Type 0
-FitEach [] [] [] = ⊤
-FitEach (w ∷ ws) (x ∷ xs) (y ∷ ys) = Fits w x y × FitEach ws xs ys
-FitEach ws xs ys = ⊥
-
--- totals are joined to those of a group, where they fit
-abbrev pub JoinsTotals : List Joining → List Cell → List Cell → List Cell → Type 0
-JoinsTotals ws before more after = FitEach ws before more → after ≡ joined_each ws before more
-
 -- ---- key by key
 
 abbrev pub option_joined : List Joining → Option (List Cell) → Option (List Cell) → Option (List Cell)
 option_joined ws None other = other
 option_joined ws (Some xs) None = Some xs
 option_joined ws (Some xs) (Some ys) = Some (joined_each ws xs ys)
-
--- totals are joined to those of one key, where they fit, and the other keys have what they had
-abbrev pub JoinsAt : List Joining → Key → List Cell → List (Key × List Cell) → List (Key × List Cell) → Type 0
-JoinsAt ws k more before after = ((xs : List Cell) → lookup (key_eq k) before ≡ Some xs → FitEach ws xs more)
-    → (q : Key) → lookup (key_eq q) after ≡ option_joined ws (lookup (key_eq q) before) (cond (key_eq q k) (Some more) None)
-
--- the totals of each key that two tables have fit
-abbrev pub FitByKey : List Joining → List (Key × List Cell) → List (Key × List Cell) → Type 0
-FitByKey ws more before = (k : Key) (xs ys : List Cell) → lookup (key_eq k) before ≡ Some xs → lookup (key_eq k) more ≡ Some ys → FitEach ws xs ys
-
--- the groups of two tables are joined key by key, where those of each key fit
-abbrev pub JoinsEach : List Joining → List (Key × List Cell) → List (Key × List Cell) → List (Key × List Cell) → Type 0
-JoinsEach ws more before after =
-    FitByKey ws more before
-    → (q : Key) → lookup (key_eq q) after ≡ option_joined ws (lookup (key_eq q) before) (lookup (key_eq q) more)
-
--- ---- on the way
-
--- the first n totals joined, and the rest as they were
-abbrev pub joined_front : ℕ → List Joining → List Cell → List Cell → List Cell
-joined_front zero ws xs ys = xs
-joined_front (suc n) [] xs ys = xs
-joined_front (suc n) (w ∷ ws) [] ys = []
-joined_front (suc n) (w ∷ ws) (x ∷ xs) [] = x ∷ xs
-joined_front (suc n) (w ∷ ws) (x ∷ xs) (y ∷ ys) = joined w x y ∷ joined_front n ws xs ys

@@ -1,14 +1,15 @@
 pub mod Added
 pub mod Aggregates
-pub mod Entries
 pub mod Gathering
 pub mod Joining
 pub mod Keys
 pub mod Outcomes
+pub mod Places
 pub mod Refs
 pub mod Rows
 pub mod Seen
 pub mod Stands
+pub mod Tallies
 pub mod Totals
 pub mod Value
 pub use Rattle.ssb_cells.specs.Values

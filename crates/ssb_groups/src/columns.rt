@@ -1,25 +1,27 @@
 // The columns of a job's groups and of its aggregates: how the key of a row is read in them, how totals are
 // joined, and how both are spelt.
 
-ghost use Rattle.std.specs.Prelude.{◌≡◌, ◌<◌, true, map, IfOk, OnOk};
+ghost use Rattle.std.specs.Prelude.{◌≡◌, ◌<◌, true, get_or, length, map, IfOk, OnOk};
 ghost use Rattle.std.specs.List.{list_all};
 ghost use Rattle.ssb_cells.specs.Values.{cell_of};
 ghost use Rattle.ssb_conditions.specs.Rows.{IsCombination};
 ghost use Rattle.ssb_plan.specs.Inputs.{column_ref, has_column, values_of};
 ghost use Rattle.ssb_plan.specs.JobShape.{from_tables};
-ghost use Rattle.ssb_groups.specs.Entries.{AreTotals, totals_in};
-ghost use Rattle.ssb_groups.specs.Joining.{AreJoinings, IsJoining, JoinsTotals, joinings_of, values_by};
+ghost use Rattle.ssb_groups.specs.Tallies.{AreTotals, lists, totals_at, totals_in};
+ghost use Rattle.ssb_groups.specs.Joining.{AreJoinings, IsJoining, joinings_of, values_by};
 ghost use Rattle.ssb_groups.specs.Keys.{AreCells, AreKept, AreLawful, IsKept, IsKey, cells_in, domains_of, kept_in, kept_total, key_columns, key_of, spelt, spelt_cell};
 ghost use Rattle.ssb_keys.specs.Domains.{AreIn, cells, size};
 ghost use Rattle.ssb_groups.specs.Refs.{IsColumn, IsSomeColumn, values_at};
 ghost use Rattle.ssb_groups.specs.Totals.{total_cell};
+ghost use Rattle.ssb_groups.specs.declared.kept.KeptTotal.TheVariants as totals;
 
 use crate::column::{cell_in, text_in};
 use crate::domains::domains_of;
 use crate::joining::Joining;
 use crate::kept::KeptTotal;
 use crate::key::GroupKey;
-use crate::totals::{Total, Totals};
+use crate::tallies::Tally;
+use crate::totals::Total;
 use ssb_cells::{Table, Value};
 use ssb_job::{Job, JoinedRow};
 use ssb_keys::{Domain, Kept, number};
@@ -136,6 +138,13 @@ fn joinings(alloc: Global, job: &Job) -> Result<Vec<Joining>, AllocError>
     Ok(joinings)
 }
 
+// What stands in a tally at a place.
+fn total_in(tally: &[KeptTotal], place: usize) -> KeptTotal
+    ensures { result ≡ get_or tally.now place totals.Null }
+{
+    tally.get(place).copied().unwrap_or(KeptTotal::Null)
+}
+
 impl Columns {
     // Those of a job.
     pub(crate) fn of(alloc: Global, job: &Job) -> Result<Columns, AllocError>
@@ -151,6 +160,21 @@ impl Columns {
             domains,
             joinings: joinings(alloc, job)?,
         })
+    }
+
+    // The tables of the job.
+    pub(crate) fn tables(&self) -> &[Table]
+        ensures { result.now ≡ self.now.tables }
+    {
+        self.tables.as_slice()
+    }
+
+    // How the totals of each aggregate are joined.
+    pub(crate) fn joinings(&self) -> &[Joining]
+        ensures same { result.now ≡ joinings_of self.now }
+        ensures known { AreJoinings self.now.tables result.now }
+    {
+        self.joinings.as_slice()
     }
 
     // Makes a list what stands for the values of the group columns in a combination. It takes no memory once
@@ -243,32 +267,23 @@ impl Columns {
         }
     }
 
-    // Joins totals to those of a group. It is inlined, and so is what it calls: each row does it.
-    #[inline(always)]
-    pub(crate) fn join(&self, into: &mut Totals, more: &Totals)
-        requires into { AreTotals self.now into.old }
-        requires more { AreTotals self.now more.now }
-        ensures joined { JoinsTotals (joinings_of self.now) (totals_in self.now into.old) (totals_in self.now more.now) (totals_in self.now into.new) }
-        ensures kept { AreTotals self.now into.new }
-    {
-        into.join(self.tables.as_slice(), self.joinings.as_slice(), more);
-    }
-
-    // The values of a group's totals.
+    // The values of a group's totals, which stand at a place of the tallies.
     pub(crate) fn spell_totals(
         &self,
         alloc: Global,
-        totals: &Totals,
+        tallies: &[Tally],
+        place: usize,
     ) -> Result<Vec<Total<'_>>, AllocError>
-        requires { AreTotals self.now totals.now }
-        ensures { IfOk result (λ values. map total_cell values.items ≡ totals_in self.now totals.now) }
+        requires many { length tallies.now ≡ length self.now.query.aggregates }
+        requires kept { AreTotals self.now (totals_at (lists tallies.now) place) }
+        ensures { IfOk result (λ values. map total_cell values.items ≡ totals_in self.now (totals_at (lists tallies.now) place)) }
     {
         let tables = self.tables.as_slice();
         let joinings = self.joinings.as_slice();
-        let kept = totals.as_slice();
         let mut values = Vec::with_capacity(alloc, joinings.len())?;
         for at in 0..joinings.len() {
-            values.push(spelt_total(tables, joinings[at], kept[at]))?;
+            let total = total_in(&tallies[at], place);
+            values.push(spelt_total(tables, joinings[at], total))?;
         }
         Ok(values)
     }

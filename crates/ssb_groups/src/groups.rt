@@ -8,21 +8,21 @@ ghost use Rattle.ssb_plan.specs.JobShape.{from_tables};
 ghost use Rattle.ssb_groups.specs.Aggregates.{totals};
 ghost use Rattle.ssb_groups.specs.Rows.{SeenRow};
 ghost use Rattle.ssb_groups.specs.Seen.{seen};
-ghost use Rattle.ssb_groups.specs.Added.{AddsRows, AddsSome};
+ghost use Rattle.ssb_groups.specs.Added.{AddsRows};
 ghost use Rattle.std.specs.List.{All};
 ghost use Rattle.ssb_groups.specs.Stands.{AnyRowsHaveGroups, GroupMap, Stands};
 ghost use Rattle.ssb_groups.specs.Totals.{total_cell};
 ghost use Rattle.std.specs.List.Sorted.{IsPermutation};
 
 use crate::columns::Columns;
-use crate::gather::{fact_of, gather};
-use crate::guesses::Guesses;
-use crate::key::GroupKey;
+use crate::gather::gather;
+use crate::room::Room;
 use crate::store::Store;
-use crate::totals::{Total, Totals};
+use crate::table::no_tallies;
+use crate::tallies::Tally;
+use crate::totals::Total;
 use ssb_cells::Value;
 use ssb_job::{Block, Job, JoinedRow};
-use ssb_keys::Kept;
 use ssb_query::BoundColumn;
 use ssb_trees::Aggregate;
 use std::alloc::{AllocError, Global};
@@ -37,12 +37,9 @@ pub struct Groups {
     // Where the columns of the job's groups and aggregates stand, in tables that are the job's own.
     columns: Columns,
     store: Store,
-    // The cells of the group columns, the key and the totals of the row that is added, whose room is used
-    // again for the next.
-    cells: Vec<Kept>,
-    key: GroupKey,
-    more: Totals,
-    guesses: Guesses,
+    room: Room,
+    // The totals over each combination of a block alone, whose memory is used again for the next block.
+    totals: Vec<Tally>,
 }
 
 // Written out, so that the crates above need no proof of how its parts are let go.
@@ -52,17 +49,13 @@ impl Drop for Groups {
             alloc: _,
             columns,
             store,
-            cells,
-            key,
-            more,
-            guesses,
+            room,
+            totals,
         } = self;
         drop(columns);
         drop(store);
-        drop(cells);
-        drop(key);
-        drop(more);
-        drop(guesses);
+        drop(room);
+        drop(totals);
     }
 }
 
@@ -77,9 +70,9 @@ impl Model for Groups {
 
     ghost view = { λ g. g.store };
 
-    ghost use Rattle.std.specs.Prelude.{◌≡◌};
+    ghost use Rattle.std.specs.Prelude.{◌≡◌, length};
 
-    ghost invariant = { λ g. g.columns ≡ g.store.job };
+    ghost invariant = { λ g. (g.columns ≡ g.store.job) × (length g.totals.items ≡ length g.store.job.query.aggregates) };
 }
 
 /// A group.
@@ -106,11 +99,9 @@ impl Groups {
         Ok(Groups {
             alloc,
             columns,
-            store: Store::new(alloc, job),
-            cells: Vec::new(alloc),
-            key: GroupKey::Number(0),
-            more: Totals::new(alloc),
-            guesses: Guesses::new(alloc),
+            store: Store::new(alloc, job)?,
+            room: Room::new(alloc),
+            totals: no_tallies(alloc, job.query().parts().aggregates.len())?,
         })
     }
 
@@ -130,29 +121,14 @@ impl Groups {
         ensures counted { OnOk result (self.new.counted ≡ self.old.counted + 1) }
         ensures err { OnErr result (self.new ≡ self.old) }
     {
-        if gather(job, row, &mut self.more)? {
-            self.store.add_over(fact_of(job, row));
-            return Ok(());
-        }
-        self.columns.fill(row, &mut self.cells)?;
-        self.columns
-            .set_key(self.alloc, &self.cells, &mut self.key)?;
-        self.store.add_plain(
-            self.alloc,
-            &self.columns,
-            &mut self.guesses,
-            &self.key,
-            &self.more,
-        )?;
-        Ok(())
+        self.add_block(job, &Block::of(self.alloc, row)?)
     }
 
-    /// Adds the combinations of a block, as [`Job::join_range`] gives them, one after the other, as [`add`](Self::add)
-    /// adds each.
+    /// Adds the combinations of a block, as [`Job::join_range`] gives them, as [`add`](Self::add) adds each.
     ///
     /// # Errors
     ///
-    /// Only where a growth was refused; some of the first combinations are added then.
+    /// Only where a growth was refused; the groups stand as before.
     pub fn add_block(&mut self, job: &Job, block: &Block) -> Result<(), AllocError>
         requires one_job { AreOneJob self.old.job job.now }
         requires rows { All (IsCombination (from_tables job.now)) block.now }
@@ -160,12 +136,17 @@ impl Groups {
         ensures stands { OnOk result (AddsRows job.now block.now self.old self.new) }
         ensures job { self.new.job ≡ self.old.job }
         ensures counted { OnOk result (self.new.counted ≡ self.old.counted + length block.now) }
-        ensures err { OnErr result (AddsSome job.now block.now self.old self.new) }
+        ensures err { OnErr result (self.new ≡ self.old) }
     {
-        for at in 0..block.len() {
-            self.add(job, &block.row(at))?;
+        match gather(job, block, &mut self.totals)? {
+            Some(fact) => {
+                self.store.add_over(fact, block.len() as u32);
+                Ok(())
+            }
+            None => self
+                .store
+                .add_plain(&self.columns, block, &mut self.room, &self.totals),
         }
-        Ok(())
     }
 
     /// Adds the rows of other groups of the same job: the groups then stand for the rows of both. There
@@ -183,30 +164,38 @@ impl Groups {
         ensures err { OnErr result (self.new ≡ self.old) }
         ensures other { IfErr result (λ e. e.0 ≡ other) }
     {
+        if self.store.counted() == 0 {
+            self.take(other);
+            return Ok(());
+        }
+        match self
+            .store
+            .merge(&self.columns, &other.store, &mut self.room)
+        {
+            Ok(()) => Ok(()),
+            Err(refused) => Err((other, refused)),
+        }
+    }
+
+    // Takes the rows of other groups, where there is none yet.
+    fn take(&mut self, other: Groups)
+        requires one_job { AreOneJob self.old.job other.job }
+        requires none { self.old.counted ≡ 0 }
+        ensures stands { (A B : List SeenRow) → Stands self.old A → Stands other B → Stands self.new (A ++ B) }
+        ensures job { self.new.job ≡ self.old.job }
+        ensures counted { self.new.counted ≡ other.counted }
+    {
         let Groups {
-            alloc,
+            alloc: _,
             columns,
             store,
-            cells,
-            key,
-            more,
-            guesses,
+            room,
+            totals,
         } = other;
-        match self.store.merge(&self.columns, store) {
-            Ok(()) => Ok(()),
-            Err((store, refused)) => Err((
-                Groups {
-                    alloc,
-                    columns,
-                    store,
-                    cells,
-                    key,
-                    more,
-                    guesses,
-                },
-                refused,
-            )),
-        }
+        self.store = store;
+        drop(columns);
+        drop(room);
+        drop(totals);
     }
 
     /// The least row of the fact table, from 1, at which an aggregate's argument left 64 bits.
@@ -240,12 +229,10 @@ impl Groups {
         requires { at < length self.now.entries }
         ensures { IfOk result (λ e. slice_get self.now.entries at ≡ Some (map cell_of e.key.items, map total_cell e.totals.items)) }
     {
-        let Some((key, totals)) = self.store.group(at) else {
-            unreachable!()
-        };
+        let (key, tallies) = self.store.group(at);
         Ok(Group {
             key: self.columns.spell_key(alloc, key)?,
-            totals: self.columns.spell_totals(alloc, totals)?,
+            totals: self.columns.spell_totals(alloc, tallies, at)?,
         })
     }
 }

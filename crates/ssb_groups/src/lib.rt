@@ -3,10 +3,11 @@
 //! - Offers: [`Groups`], which stand for a list of rows in whatever order they came: `empty`, `add`,
 //!   `add_block`, `merge`; [`Group`] and [`Total`], which they lend.
 //! - Callers: `ssb_pipeline`, whose parts hold groups; `ssb_rows`, which makes rows of them.
-//! - Files: `groups`, `store`, `table`, `guesses`; `key`, `kept`, `column`, `columns`, `domains`: keys;
-//!   `evaluate`, `outcome`, `gather`: what a row adds; `totals`, `joining`: aggregates.
+//! - Files: `groups`, `store`, `table`; `places`, `guesses`, `room`: where keys stand; `key`, `kept`, `column`,
+//!   `columns`, `domains`: keys; `evaluate`, `outcome`, `gather`: what a block adds; `totals`, `tallies`, `joining`:
+//!   aggregates.
 //! - Definitions: `Value`, `Aggregates`, `Rows`, `Seen`, `Stands`, `Added`: what groups stand for; `Keys`,
-//!   `Refs`, `Joining`, `Entries`, `Gathering`, `Outcomes`, `Totals`: how they are kept.
+//!   `Refs`, `Places`, `Tallies`, `Joining`, `Gathering`, `Outcomes`, `Totals`: how they are kept.
 #![tactic(auto)]
 
 mod column;
@@ -20,8 +21,11 @@ mod joining;
 mod kept;
 mod key;
 mod outcome;
+mod places;
+mod room;
 mod store;
 mod table;
+mod tallies;
 pub mod totals;
 
 pub use groups::{Group, Groups, any_order, over_no_row, stands_for_any};

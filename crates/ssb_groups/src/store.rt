@@ -1,21 +1,25 @@
 // The groups over the rows so far.
 
-ghost use Rattle.std.specs.Prelude.{◌≡◌, ◌+◌, ◌<◌, ◌^◌, [], ◌++◌, ◌↔◌, List, length, Some, slice_get, IfErr, IfSome, OnOk, OnErr};
-ghost use Rattle.std.specs.Option.{IsSome};
-ghost use Rattle.ssb_groups.specs.Entries.{AreTotals, totals_in};
+ghost use Rattle.std.specs.Prelude.{◌≡◌, ◌+◌, ◌<◌, ◌^◌, ℕ, [], ◌++◌, List, length, map, Some, slice_get, IfOk, OnOk, OnErr};
+ghost use Rattle.std.specs.List.{All};
+ghost use Rattle.ssb_conditions.specs.Rows.{IsCombination};
+ghost use Rattle.ssb_groups.specs.Added.{AddsRows};
+ghost use Rattle.ssb_groups.specs.Gathering.{AllTaken};
 ghost use Rattle.ssb_groups.specs.Keys.{IsKey, cells_in};
-ghost use Rattle.ssb_job.specs.Kept.{AreOneJob};
-ghost use Rattle.ssb_groups.specs.Gathering.{AddsRow, IsOverAt, IsPlain};
 ghost use Rattle.ssb_groups.specs.Rows.{SeenRow};
-ghost use Rattle.ssb_groups.specs.Stands.{Stands, least_of};
+ghost use Rattle.ssb_groups.specs.Seen.{seen};
+ghost use Rattle.ssb_groups.specs.Stands.{AreRanged, Stands, least, overflows};
+ghost use Rattle.ssb_groups.specs.Tallies.{AreTotals, lists, totals_at, totals_in};
+ghost use Rattle.ssb_job.specs.Kept.{AreOneJob};
+ghost use Rattle.ssb_plan.specs.JobShape.{from_tables};
 
 use crate::columns::Columns;
-use crate::guesses::Guesses;
+use crate::gather::lesser;
 use crate::key::GroupKey;
-use crate::table::{GroupTable, put, take_all_in};
-use crate::totals::Totals;
-use indexmap::IndexMap;
-use ssb_job::Job;
+use crate::room::Room;
+use crate::table::GroupTable;
+use crate::tallies::Tally;
+use ssb_job::{Block, Job};
 use std::alloc::{AllocError, Global};
 use std::marker::Model;
 use std::snapshot::Snapshot;
@@ -31,9 +35,10 @@ pub(crate) struct Store {
 }
 
 impl Model for Store {
-    ghost use Rattle.indexmap.specs.IndexMap.{IsUnique};
-    ghost use Rattle.ssb_groups.specs.Entries.{AreEntries, entries_of};
+    ghost use Rattle.indexmap.specs.IndexSet.{IsUnique};
+    ghost use Rattle.ssb_groups.specs.Places.{IsTable};
     ghost use Rattle.ssb_groups.specs.Stands.{GroupMap};
+    ghost use Rattle.ssb_groups.specs.Tallies.{entries_of, lists};
     ghost use Rattle.ssb_groups.specs.contracts.key.GroupKeyPartialEq.TheImpl as keys;
 
     ghost Value = { GroupMap };
@@ -43,99 +48,87 @@ impl Model for Store {
 
     ghost coded = { Prim.hlevel (codes, job_type.the_row.coded) };
 
-    ghost view = { λ s. record { job = s.job.value; entries = entries_of s.job.value s.table.entries; overflow = s.overflow; counted = s.counted } };
+    ghost view = { λ s. record { job = s.job.value; entries = entries_of s.job.value s.table.keys.keys (lists s.table.tallies.items); overflow = s.overflow; counted = s.counted } };
 
-    ghost invariant = { λ s. IsUnique keys.eq-value.it s.table × AreEntries s.job.value s.table.entries };
-}
-
-// The lesser of two numbers, either of which may be missing.
-fn lesser(a: Option<u32>, b: Option<u32>) -> Option<u32>
-    ensures { result ≡ least_of a b }
-{
-    match (a, b) {
-        (None, b) => b,
-        (Some(a), None) => Some(a),
-        (Some(a), Some(b)) => Some(a.min(b)),
-    }
+    ghost invariant = { λ s. IsUnique keys.eq-value.it s.table.keys × IsTable s.job.value s.table.keys.keys (lists s.table.tallies.items) };
 }
 
 impl Store {
     // The groups of a job over no row.
-    pub(crate) fn new(alloc: Global, job: &Job) -> Store
-        ensures stands { Stands result [] }
-        ensures job { result.job ≡ job.now }
-        ensures counted { result.counted ≡ 0 }
+    pub(crate) fn new(alloc: Global, job: &Job) -> Result<Store, AllocError>
+        ensures stands { IfOk result (λ s. Stands s []) }
+        ensures job { IfOk result (λ s. s.job ≡ job.now) }
+        ensures counted { IfOk result (λ s. s.counted ≡ 0) }
     {
-        Store {
+        Ok(Store {
             job: Snapshot::of(job),
-            table: IndexMap::new(alloc),
+            table: GroupTable::new(alloc, job.query().parts().aggregates.len())?,
             overflow: None,
             counted: 0,
-        }
+        })
     }
 
-    // Adds one more row, at which an argument is Over.
-    pub(crate) fn add_over(&mut self, fact: u32)
-        requires { self.old.counted + 1 < 2 ^ 32 }
-        ensures stands { AddsRow (IsOverAt fact) self.old self.new }
+    // Adds so many more rows, of which this is the least fact row at which an argument is Over.
+    pub(crate) fn add_over(&mut self, fact: u32, count: u32)
+        requires { self.old.counted + count < 2 ^ 32 }
+        ensures stands { (A B : List SeenRow) → length B ≡ count → AreRanged B → Some fact ≡ least (overflows B) → Stands self.old A → Stands self.new (A ++ B) }
         ensures job { self.new.job ≡ self.old.job }
-        ensures counted { self.new.counted ≡ self.old.counted + 1 }
+        ensures counted { self.new.counted ≡ self.old.counted + count }
     {
         self.overflow = lesser(self.overflow, Some(fact));
-        self.counted += 1;
+        self.counted += count;
     }
 
-    // Adds one more row, at which none is: its key, and the totals over it alone.
+    // Adds the combinations of a block, at which none is, by the totals over each alone. Where memory is refused, the
+    // groups stand as before.
     pub(crate) fn add_plain(
         &mut self,
-        alloc: Global,
         columns: &Columns,
-        guesses: &mut Guesses,
-        key: &GroupKey,
-        more: &Totals,
+        block: &Block,
+        room: &mut Room,
+        totals: &[Tally],
     ) -> Result<(), AllocError>
-        requires few { self.old.counted + 1 < 2 ^ 32 }
         requires columns { columns.now ≡ self.old.job }
-        requires key { IsKey self.old.job key.now }
-        requires more { AreTotals self.old.job more.now }
-        ensures stands { OnOk result (AddsRow (IsPlain self.old.job.query.aggregates (cells_in self.old.job key.now) (totals_in self.old.job more.now)) self.old self.new) }
-        ensures job { OnOk result (self.new.job ≡ self.old.job) }
-        ensures counted { OnOk result (self.new.counted ≡ self.old.counted + 1) }
+        requires rows { All (IsCombination (from_tables self.old.job)) block.now }
+        requires few { self.old.counted + length block.now < 2 ^ 32 }
+        requires many { length totals.now ≡ length self.old.job.query.aggregates }
+        requires totals { AllTaken self.old.job block.now (lists totals.now) }
+        requires plain { overflows (map (seen self.old.job) block.now) ≡ [] }
+        requires ranged { AreRanged (map (seen self.old.job) block.now) }
+        ensures stands { OnOk result (AddsRows self.old.job block.now self.old self.new) }
+        ensures job { self.new.job ≡ self.old.job }
+        ensures counted { OnOk result (self.new.counted ≡ self.old.counted + length block.now) }
         ensures err { OnErr result (self.new ≡ self.old) }
     {
         if self.overflow.is_none() {
-            put(alloc, columns, guesses, &mut self.table, key, more)?;
+            self.table.add_block(columns, block, room, totals)?;
         }
-        self.counted += 1;
+        self.counted += block.len() as u32;
         Ok(())
     }
 
-    // The rows of both. Where a growth is refused, both stand as before, and the other comes back. No
-    // sum is asked for where a row overflowed, so the tables are joined only where none did.
+    // The rows of both. Where a growth is refused, both stand as before. No sum is asked for where a row overflowed,
+    // so the tables are joined only where none did.
     pub(crate) fn merge(
         &mut self,
         columns: &Columns,
-        other: Store,
-    ) -> Result<(), (Store, AllocError)>
+        other: &Store,
+        room: &mut Room,
+    ) -> Result<(), AllocError>
         requires columns { columns.now ≡ self.old.job }
-        requires few { self.old.counted + other.counted < 2 ^ 32 }
-        requires one_job { AreOneJob self.old.job other.job }
-        ensures stands { OnOk result ((A B : List SeenRow) → Stands self.old A → Stands other B → Stands self.new (A ++ B)) }
+        requires few { self.old.counted + other.now.counted < 2 ^ 32 }
+        requires one_job { AreOneJob self.old.job other.now.job }
+        ensures stands { OnOk result ((A B : List SeenRow) → Stands self.old A → Stands other.now B → Stands self.new (A ++ B)) }
         ensures job { self.new.job ≡ self.old.job }
-        ensures counted { OnOk result (self.new.counted ≡ self.old.counted + other.counted) }
+        ensures counted { OnOk result (self.new.counted ≡ self.old.counted + other.now.counted) }
         ensures err { OnErr result (self.new ≡ self.old) }
-        ensures other { IfErr result (λ e. e.0 ≡ other) }
     {
         let overflow = lesser(self.overflow, other.overflow);
-        let counted = self.counted + other.counted;
         if overflow.is_none() {
-            if let Err(refused) = self.table.reserve(other.table.len()) {
-                return Err((other, refused));
-            }
-            take_all_in(columns, &mut self.table, other.table);
+            self.table.add_groups(columns, &other.table, room)?;
         }
         self.overflow = overflow;
-        self.counted = counted;
+        self.counted += other.counted;
         Ok(())
     }
 
@@ -154,16 +147,20 @@ impl Store {
     pub(crate) fn group_count(&self) -> usize
         ensures { result ≡ length self.now.entries }
     {
-        self.table.len()
+        self.table.keys.len()
     }
 
-    // The key and the totals of a group.
-    pub(crate) fn group(&self, at: usize) -> Option<(&GroupKey, &Totals)>
-        ensures found { IsSome result ↔ (at < length self.now.entries) }
-        ensures key { IfSome result (λ e. IsKey self.now.job e.0.now) }
-        ensures totals { IfSome result (λ e. AreTotals self.now.job e.1.now) }
-        ensures entry { IfSome result (λ e. slice_get self.now.entries at ≡ Some (cells_in self.now.job e.0.now, totals_in self.now.job e.1.now)) }
+    // The key of a group, and the tallies of all aggregates, in which its totals stand at this place.
+    pub(crate) fn group(&self, at: usize) -> (&GroupKey, &[Tally])
+        requires { at < length self.now.entries }
+        ensures key { IsKey self.now.job result.0.now }
+        ensures many { length result.1.now ≡ length self.now.job.query.aggregates }
+        ensures totals { AreTotals self.now.job (totals_at (lists result.1.now) at) }
+        ensures entry { slice_get self.now.entries at ≡ Some (cells_in self.now.job result.0.now, totals_in self.now.job (totals_at (lists result.1.now) at)) }
     {
-        self.table.get_index(at)
+        let Some(key) = self.table.keys.get_index(at) else {
+            unreachable!()
+        };
+        (key, self.table.tallies.as_slice())
     }
 }

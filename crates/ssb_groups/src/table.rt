@@ -1,142 +1,217 @@
-// The totals of each key.
+// The keys of groups, and their totals.
 
-ghost use Rattle.std.specs.Prelude.{◌≡◌, ◌+◌, ◌<◌, ◌≤◌, true, OnOk, OnErr};
-ghost use Rattle.indexmap.specs.IndexMap.{IsUnique, index_map_len, spare};
-ghost use Rattle.ssb_groups.specs.Entries.{AreEntries, AreTotals, IsAt, JoinsKey, JoinsTable};
-ghost use Rattle.ssb_groups.specs.Keys.{IsKey};
-ghost use Rattle.ssb_groups.specs.contracts.key.GroupKeyPartialEq.TheImpl as keys;
+ghost use Rattle.std.specs.Prelude.{◌≡◌, ◌<◌, ◌≤◌, ℕ, [], get_or, length, map, IfOk, OnErr, OnOk};
+ghost use Rattle.std.specs.List.{All};
+ghost use Rattle.indexmap.specs.IndexSet.{IsUnique};
+ghost use Rattle.ssb_conditions.specs.Rows.{IsCombination};
+ghost use Rattle.ssb_plan.specs.JobShape.{from_tables};
+ghost use Rattle.ssb_groups.specs.Gathering.{key_at};
+ghost use Rattle.ssb_groups.specs.Keys.{cells_in};
+ghost use Rattle.ssb_groups.specs.Places.{AreGrown, AreKeys, IsFront, IsTable, JoinsGrown, JoinsRows, OpenAll};
+ghost use Rattle.ssb_groups.specs.Tallies.{AreTallies, lists};
+ghost use Rattle.ssb_groups.specs.contracts.key.GroupKeyPartialEq.TheImpl as key_test;
 
 use crate::columns::Columns;
-use crate::guesses::Guesses;
 use crate::key::GroupKey;
-use crate::totals::Totals;
-use indexmap::IndexMap;
+use crate::places::{Keys, open};
+use crate::room::Room;
+use crate::tallies::{Tally, grow, join_all};
+use indexmap::IndexSet;
+use ssb_job::Block;
 use std::alloc::{AllocError, Global};
 
-/// Keys in the order in which they came.
-pub(crate) type GroupTable = IndexMap<GroupKey, Totals>;
+/// The groups over some rows: their keys, in the order in which they came, and a tally for each aggregate.
+#[derive(Drop)]
+pub(crate) struct GroupTable {
+    pub(crate) keys: Keys,
+    pub(crate) tallies: Vec<Tally>,
+}
 
-// Whether a key stands at a place.
-fn is_at(table: &GroupTable, place: usize, key: &GroupKey) -> bool
-    ensures { result ≡ true → IsAt table.now.entries key.now place }
+// So many empty tallies.
+pub(crate) fn no_tallies(alloc: Global, count: usize) -> Result<Vec<Tally>, AllocError>
+    ensures many { IfOk result (λ tallies. length tallies.items ≡ count) }
+    ensures none { IfOk result (λ tallies. (i : ℕ) → get_or (lists tallies.items) i [] ≡ []) }
 {
-    match table.get_index(place) {
-        Some((there, _)) => key == there,
-        None => false,
+    let mut tallies = Vec::new(alloc);
+    for _ in 0..count {
+        tallies.push(Vec::new(alloc))?;
     }
+    Ok(tallies)
 }
 
-// Joins totals to those of a key that stands at a place.
-fn join_at(columns: &Columns, table: &mut GroupTable, place: usize, key: &GroupKey, more: &Totals)
-    requires unique { IsUnique keys.eq-value.it table.old }
-    requires entries { AreEntries columns.now table.old.entries }
-    requires key { IsKey columns.now key.now }
-    requires more { AreTotals columns.now more.now }
-    requires here { IsAt table.old.entries key.now place }
-    ensures joined { JoinsKey columns.now key.now more.now table.old.entries table.new.entries }
-    ensures entries { AreEntries columns.now table.new.entries }
-    ensures unique { IsUnique keys.eq-value.it table.new }
-{
-    let Some(totals) = table.get_index_mut(place) else {
-        unreachable!()
-    };
-    columns.join(totals, more);
-}
-
-// Joins totals to those of a key, which is looked for where it is guessed to stand first.
-pub(crate) fn put(
-    alloc: Global,
+// Finds the places of the keys of a block's combinations, and adds the keys that are not there. Where memory is
+// refused, some may be added.
+fn open_block(
     columns: &Columns,
-    guesses: &mut Guesses,
-    table: &mut GroupTable,
-    key: &GroupKey,
-    more: &Totals,
+    keys: &mut Keys,
+    block: &Block,
+    room: &mut Room,
 ) -> Result<(), AllocError>
-    requires unique { IsUnique keys.eq-value.it table.old }
-    requires entries { AreEntries columns.now table.old.entries }
-    requires key { IsKey columns.now key.now }
-    requires more { AreTotals columns.now more.now }
-    ensures joined { OnOk result (JoinsKey columns.now key.now more.now table.old.entries table.new.entries) }
-    ensures entries { AreEntries columns.now table.new.entries }
-    ensures unique { IsUnique keys.eq-value.it table.new }
-    ensures err { OnErr result (table.new.entries ≡ table.old.entries) }
+    requires unique { IsUnique key_test.eq-value.it keys.old }
+    requires keys { AreKeys columns.now keys.old.keys }
+    requires rows { All (IsCombination (from_tables columns.now)) block.now }
+    ensures unique { IsUnique key_test.eq-value.it keys.new }
+    ensures keys { AreKeys columns.now keys.new.keys }
+    ensures front { IsFront keys.old.keys keys.new.keys }
+    ensures opened { OnOk result (OpenAll columns.now keys.old.keys keys.new.keys (map (key_at columns.now) block.now) room.new.places.items) }
 {
-    let guess = guesses.place(key);
-    if is_at(table, guess, key) {
-        join_at(columns, table, guess, key, more);
-        return Ok(());
-    }
-    put_anew(alloc, columns, guesses, table, key, more)
-}
-
-// The same, which is looked for among all keys.
-fn put_anew(
-    alloc: Global,
-    columns: &Columns,
-    guesses: &mut Guesses,
-    table: &mut GroupTable,
-    key: &GroupKey,
-    more: &Totals,
-) -> Result<(), AllocError>
-    requires unique { IsUnique keys.eq-value.it table.old }
-    requires entries { AreEntries columns.now table.old.entries }
-    requires key { IsKey columns.now key.now }
-    requires more { AreTotals columns.now more.now }
-    ensures joined { OnOk result (JoinsKey columns.now key.now more.now table.old.entries table.new.entries) }
-    ensures entries { AreEntries columns.now table.new.entries }
-    ensures unique { IsUnique keys.eq-value.it table.new }
-    ensures err { OnErr result (table.new.entries ≡ table.old.entries) }
-{
-    match table.get_index_of(key) {
-        Some(place) => {
-            guesses.note(key, place, table.len());
-            join_at(columns, table, place, key, more);
-        }
-        None => {
-            let place = table.len();
-            let copy = key.copy(alloc)?;
-            let totals = more.copy(alloc)?;
-            table.insert(copy, totals)?;
-            guesses.note(key, place, place);
-        }
+    room.places.clear();
+    for at in 0..block.len() {
+        columns.fill(&block.row(at), &mut room.cells)?;
+        columns.set_key(room.alloc, &room.cells, &mut room.key)?;
+        let place = open(room.alloc, keys, &mut room.guesses, &room.key)?;
+        room.places.push(place)?;
     }
     Ok(())
 }
 
-// Joins a group's totals to those of its key, where there is room for one group more.
-fn take_in(columns: &Columns, table: &mut GroupTable, key: GroupKey, more: Totals)
-    requires unique { IsUnique keys.eq-value.it table.old }
-    requires entries { AreEntries columns.now table.old.entries }
-    requires key { IsKey columns.now key }
-    requires more { AreTotals columns.now more }
-    requires room { 0 < spare table.old }
-    ensures joined { JoinsKey columns.now key more table.old.entries table.new.entries }
-    ensures entries { AreEntries columns.now table.new.entries }
-    ensures unique { IsUnique keys.eq-value.it table.new }
-    ensures room { spare table.old ≤ spare table.new + 1 }
+// The same of the keys of other groups.
+fn open_keys(
+    columns: &Columns,
+    keys: &mut Keys,
+    others: &[GroupKey],
+    room: &mut Room,
+) -> Result<(), AllocError>
+    requires unique { IsUnique key_test.eq-value.it keys.old }
+    requires keys { AreKeys columns.now keys.old.keys }
+    requires others { AreKeys columns.now others.now }
+    ensures unique { IsUnique key_test.eq-value.it keys.new }
+    ensures keys { AreKeys columns.now keys.new.keys }
+    ensures front { IsFront keys.old.keys keys.new.keys }
+    ensures opened { OnOk result (OpenAll columns.now keys.old.keys keys.new.keys (map (cells_in columns.now) others.now) room.new.places.items) }
 {
-    match table.get_mut(&key) {
-        Some(totals) => columns.join(totals, &more),
-        None => {
-            let Ok(_) = table.insert(key, more) else {
-                unreachable!()
-            };
-        }
+    room.places.clear();
+    for key in others {
+        let place = open(room.alloc, keys, &mut room.guesses, key)?;
+        room.places.push(place)?;
     }
+    Ok(())
 }
 
-// Joins the groups of another table, where there is room for as many more.
-pub(crate) fn take_all_in(columns: &Columns, table: &mut GroupTable, other: GroupTable)
-    requires unique { IsUnique keys.eq-value.it table.old }
-    requires others { IsUnique keys.eq-value.it other }
-    requires entries { AreEntries columns.now table.old.entries }
-    requires more { AreEntries columns.now other.entries }
-    requires room { index_map_len other ≤ spare table.old }
-    ensures joined { JoinsTable columns.now other.entries table.old.entries table.new.entries }
-    ensures entries { AreEntries columns.now table.new.entries }
-    ensures unique { IsUnique keys.eq-value.it table.new }
-{
-    for (key, totals) in other {
-        take_in(columns, table, key, totals);
+impl GroupTable {
+    // No group of so many aggregates.
+    pub(crate) fn new(alloc: Global, count: usize) -> Result<GroupTable, AllocError>
+        ensures unique { IfOk result (λ table. IsUnique key_test.eq-value.it table.keys) }
+        ensures none { IfOk result (λ table. table.keys.keys ≡ []) }
+        ensures many { IfOk result (λ table. length table.tallies.items ≡ count) }
+        ensures empty { IfOk result (λ table. (i : ℕ) → get_or (lists table.tallies.items) i [] ≡ []) }
+    {
+        Ok(GroupTable {
+            keys: IndexSet::new(alloc),
+            tallies: no_tallies(alloc, count)?,
+        })
+    }
+
+    // Joins to the totals at places those beside the places.
+    fn join(
+        &mut self,
+        columns: &Columns,
+        places: &[usize],
+        more: &[Tally],
+    ) -> Result<(), AllocError>
+        requires tallies { (n : ℕ) × (n ≤ length self.old.keys.keys) × AreTallies columns.now n (lists self.old.tallies.items) }
+        requires places { All (λ p. p < length self.old.keys.keys) places.now }
+        requires more { AreTallies columns.now (length places.now) (lists more.now) }
+        ensures joined { OnOk result (JoinsGrown columns.now places.now (lists more.now) (lists self.old.tallies.items) (lists self.new.tallies.items)) }
+        ensures tallies { OnOk result (AreTallies columns.now (length self.old.keys.keys) (lists self.new.tallies.items)) }
+        ensures grown { OnErr result (AreGrown (lists self.old.tallies.items) (lists self.new.tallies.items)) }
+        ensures keys { self.new.keys ≡ self.old.keys }
+    {
+        grow(self.tallies.as_mut_slice(), self.keys.len())?;
+        join_all(columns, self.tallies.as_mut_slice(), places, more);
+        Ok(())
+    }
+
+    // Adds the combinations of a block, whose totals alone these are. Where memory is refused, keys may be left.
+    fn try_block(
+        &mut self,
+        columns: &Columns,
+        block: &Block,
+        room: &mut Room,
+        more: &[Tally],
+    ) -> Result<(), AllocError>
+        requires unique { IsUnique key_test.eq-value.it self.old.keys }
+        requires table { IsTable columns.now self.old.keys.keys (lists self.old.tallies.items) }
+        requires rows { All (IsCombination (from_tables columns.now)) block.now }
+        requires more { AreTallies columns.now (length block.now) (lists more.now) }
+        ensures unique { IsUnique key_test.eq-value.it self.new.keys }
+        ensures front { IsFront self.old.keys.keys self.new.keys.keys }
+        ensures table { OnOk result (IsTable columns.now self.new.keys.keys (lists self.new.tallies.items)) }
+        ensures joined { OnOk result (JoinsRows columns.now (map (key_at columns.now) block.now) (lists more.now) self.old.keys.keys self.new.keys.keys (lists self.old.tallies.items) (lists self.new.tallies.items)) }
+        ensures grown { OnErr result (AreGrown (lists self.old.tallies.items) (lists self.new.tallies.items)) }
+    {
+        open_block(columns, &mut self.keys, block, room)?;
+        self.join(columns, &room.places, more)
+    }
+
+    // Adds other groups. Where memory is refused, keys may be left.
+    fn try_groups(
+        &mut self,
+        columns: &Columns,
+        other: &GroupTable,
+        room: &mut Room,
+    ) -> Result<(), AllocError>
+        requires unique { IsUnique key_test.eq-value.it self.old.keys }
+        requires table { IsTable columns.now self.old.keys.keys (lists self.old.tallies.items) }
+        requires other { IsTable columns.now other.now.keys.keys (lists other.now.tallies.items) }
+        ensures unique { IsUnique key_test.eq-value.it self.new.keys }
+        ensures front { IsFront self.old.keys.keys self.new.keys.keys }
+        ensures table { OnOk result (IsTable columns.now self.new.keys.keys (lists self.new.tallies.items)) }
+        ensures joined { OnOk result (JoinsRows columns.now (map (cells_in columns.now) other.now.keys.keys) (lists other.now.tallies.items) self.old.keys.keys self.new.keys.keys (lists self.old.tallies.items) (lists self.new.tallies.items)) }
+        ensures grown { OnErr result (AreGrown (lists self.old.tallies.items) (lists self.new.tallies.items)) }
+    {
+        open_keys(columns, &mut self.keys, other.keys.as_slice(), room)?;
+        self.join(columns, &room.places, &other.tallies)
+    }
+
+    // Adds the combinations of a block, whose totals alone these are. Where memory is refused, the groups are as
+    // before.
+    pub(crate) fn add_block(
+        &mut self,
+        columns: &Columns,
+        block: &Block,
+        room: &mut Room,
+        more: &[Tally],
+    ) -> Result<(), AllocError>
+        requires unique { IsUnique key_test.eq-value.it self.old.keys }
+        requires table { IsTable columns.now self.old.keys.keys (lists self.old.tallies.items) }
+        requires rows { All (IsCombination (from_tables columns.now)) block.now }
+        requires more { AreTallies columns.now (length block.now) (lists more.now) }
+        ensures unique { IsUnique key_test.eq-value.it self.new.keys }
+        ensures table { IsTable columns.now self.new.keys.keys (lists self.new.tallies.items) }
+        ensures joined { OnOk result (JoinsRows columns.now (map (key_at columns.now) block.now) (lists more.now) self.old.keys.keys self.new.keys.keys (lists self.old.tallies.items) (lists self.new.tallies.items)) }
+        ensures keys { OnErr result (self.new.keys.keys ≡ self.old.keys.keys) }
+        ensures grown { OnErr result (AreGrown (lists self.old.tallies.items) (lists self.new.tallies.items)) }
+    {
+        let was = self.keys.len();
+        let added = self.try_block(columns, block, room, more);
+        if added.is_err() {
+            self.keys.truncate(was);
+        }
+        added
+    }
+
+    // Adds other groups. Where memory is refused, the groups are as before.
+    pub(crate) fn add_groups(
+        &mut self,
+        columns: &Columns,
+        other: &GroupTable,
+        room: &mut Room,
+    ) -> Result<(), AllocError>
+        requires unique { IsUnique key_test.eq-value.it self.old.keys }
+        requires table { IsTable columns.now self.old.keys.keys (lists self.old.tallies.items) }
+        requires other { IsTable columns.now other.now.keys.keys (lists other.now.tallies.items) }
+        ensures unique { IsUnique key_test.eq-value.it self.new.keys }
+        ensures table { IsTable columns.now self.new.keys.keys (lists self.new.tallies.items) }
+        ensures joined { OnOk result (JoinsRows columns.now (map (cells_in columns.now) other.now.keys.keys) (lists other.now.tallies.items) self.old.keys.keys self.new.keys.keys (lists self.old.tallies.items) (lists self.new.tallies.items)) }
+        ensures keys { OnErr result (self.new.keys.keys ≡ self.old.keys.keys) }
+        ensures grown { OnErr result (AreGrown (lists self.old.tallies.items) (lists self.new.tallies.items)) }
+    {
+        let was = self.keys.len();
+        let added = self.try_groups(columns, other, room);
+        if added.is_err() {
+            self.keys.truncate(was);
+        }
+        added
     }
 }

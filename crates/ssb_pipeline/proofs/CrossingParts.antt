@@ -23,9 +23,11 @@ use Rattle.ssb_groups.specs.contracts.groups.Groups as Groups
 use Rattle.ssb_groups.specs.contracts.groups.Groups.TheInside as InGroups
 use Rattle.ssb_groups.specs.contracts.guesses.Guesses as Guesses
 use Rattle.ssb_groups.specs.contracts.key.GroupKey as Key
+use Rattle.ssb_groups.specs.contracts.kept.KeptTotal as Total
+use Rattle.ssb_groups.specs.contracts.room.Room as Room
 use Rattle.ssb_groups.specs.contracts.store.Store as Store
 use Rattle.ssb_groups.specs.contracts.store.Store.TheInside as InStore
-use Rattle.ssb_groups.specs.contracts.totals.Totals as Totals
+use Rattle.ssb_groups.specs.contracts.table.GroupTable as Groups_table
 use Rattle.ssb_job.specs.contracts.job.Job as Job
 use Rattle.ssb_keys.specs.contracts.domain.Domain as Domain
 use Rattle.ssb_plan.specs.contracts.input.ColumnRef as ColumnRef
@@ -43,18 +45,24 @@ use Rattle.ssb_pipeline.proofs.CrossingJobs.{job, tables}
 key_send : IsSend Key.the_row
 key_send = search (crosses, sendable) depth 20
 
-totals_send : IsSend Totals.the_row
-totals_send = search (crosses, sendable) depth 20
+total_send : IsSend Total.the_row
+total_send = search (crosses, sendable) depth 20
 
 guesses_send : IsSend Guesses.the_row
 guesses_send = search (crosses, sendable) depth 20
+
+room_send : IsSend Room.the_row
+room_send = search (crosses, sendable) depth 20
+
+table_send : IsSend Groups_table.the_row
+table_send = declared_send Groups_table.the_type (search (key_send, crosses, sendable) depth 40, (search (total_send, crosses, sendable) depth 20, tt))
 
 store_send : IsSend Store.the_row
 store_send =
     view_send InStore.the_row _ _ _ _ (declared_send InStore.the_type (
       search (crosses, sendable) depth 20,
       (
-        search (key_send, totals_send, crosses, sendable) depth 20,
+        table_send,
         (search (as_row_send, sendable) depth 20, (search (as_row_send, sendable) depth 20, tt)),
       ),
     ))
@@ -74,7 +82,7 @@ columns_send =
 
 groups_send : IsSend Groups.the_row
 groups_send =
-    view_send InGroups.the_row _ _ _ _ (declared_send InGroups.the_type (search (as_row_send, crosses, sendable) depth 20, (columns_send, (store_send, (search (as_row_send, crosses, sendable) depth 20, (key_send, (totals_send, (guesses_send, tt))))))))
+    view_send InGroups.the_row _ _ _ _ (declared_send InGroups.the_type (search (as_row_send, crosses, sendable) depth 20, (columns_send, (store_send, (room_send, (search (total_send, crosses, sendable) depth 20, tt))))))
 
 pub part_send : IsSend Part.the_row
 part_send =

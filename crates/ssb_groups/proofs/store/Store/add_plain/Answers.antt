@@ -1,70 +1,64 @@
-use Rattle.std.proofs.Common.{◌≡◌, ◌+◌, ◌^◌, ◌<◌, [], ◌∷◌, map, Some, None, cond, sym, ap, subst, ◌∙◌}
-use Rattle.std.specs.List.{IsDistinct}
-use Rattle.std.specs.Map.{lookup}
+use Rattle.std.proofs.Common.{◌≡◌, ◌∙◌, ◌+◌, ◌++◌, ◌<◌, ◌^◌, None, length, map, ap, subst, sym, arith}
+use Rattle.std.proofs.lemmas.List.{length-map}
 use Rattle.ssb_plan.specs.JobShape.{JobShape}
-use Rattle.ssb_groups.specs.Aggregates.{totals}
-use Rattle.ssb_groups.specs.Entries.{AreEntries, AreTotals, entries_of, totals_in}
-use Rattle.ssb_groups.specs.Joining.{FitEach, joinings_of, option_joined}
-use Rattle.ssb_groups.specs.Keys.{IsKey, cells_in}
-use Rattle.ssb_groups.specs.Rows.{key_eq}
+use Rattle.ssb_groups.specs.Gathering.{AllTaken}
+use Rattle.ssb_groups.specs.Places.{IsTable}
+use Rattle.ssb_groups.specs.Seen.{seen}
 use Rattle.ssb_groups.specs.Stands.{GroupMap, Stands}
-use Rattle.ssb_groups.specs.contracts.store.Store.{the_invariant, the_view}
+use Rattle.ssb_groups.specs.Tallies.{AreTallies, entries_of, lists}
+use Rattle.ssb_groups.specs.contracts.store.Store.{the_view}
 use Rattle.ssb_groups.specs.declared.store.Store.TheInside.{Inside}
-use Rattle.ssb_groups.proofs.StandsFacts.{Stands-plain, fits_row, none_from, not_none_from}
-use Rattle.ssb_groups.proofs.TableFacts.{keys_distinct}
+use Rattle.ssb_groups.proofs.PlaceFacts.{where-err}
+use Rattle.ssb_groups.proofs.StandsFacts.{Stands-skipped, none_from, not_none_from}
+use Rattle.ssb_groups.proofs.StoreFacts.{entries-grown, groups_of, stands-block}
+use Rattle.ssb_groups.proofs.TakenFacts.{taken-tallies}
 use Rattle.ssb_groups.proofs.store.Store.add_plain.Goals as goal
-use Rattle.ssb_groups.proofs.store.Store.add_plain.Goals.{then-is_none+in_ok-put, else-is_none}
+use Rattle.ssb_groups.proofs.store.Store.add_plain.Goals.{then-is_none+in_ok-add_block, else-is_none}
 
-pub put-requires-clause-entries : goal.put-requires-clause-entries
-put-requires-clause-entries c =
-    let j : c.self.inside.job.value ≡ c.args.columns.now = ap (λ (x : GroupMap). x.job) c.self.view_is ∙ sym c.requires.columns in
-    subst (λ (x : JobShape). AreEntries x c.self.inside.table.entries) j c.self.invariant.1
+pub add_block-requires-clause-more : goal.add_block-requires-clause-more
+add_block-requires-clause-more c =
+    subst (λ (x : JobShape). AreTallies x (length c.args.block.now) (lists c.args.totals.now)) (sym c.requires.columns)
+    (taken-tallies c.args.self.now.job c.args.block.now (lists c.args.totals.now) (length-map c.args.totals.now (λ t. t.items) ∙ c.requires.many) c.requires.totals)
 
-pub put-requires-clause-key : goal.put-requires-clause-key
-put-requires-clause-key c = subst (λ (x : JobShape). IsKey x c.args.key.now) (sym c.requires.columns) c.requires.key
-
-pub put-requires-clause-more : goal.put-requires-clause-more
-put-requires-clause-more c = subst (λ (x : JobShape). AreTotals x c.args.more.now) (sym c.requires.columns) c.requires.more
+pub returns-in_err-add_block-clause-err : goal.returns-in_err-add_block-clause-err
+returns-in_err-add_block-clause-err c =
+    let i : Inside = c.self.inside in
+    let e = c.in_err-add_block.ensures in
+    let new = c.add_block.new.self in
+    let same : entries_of i.job.value new.keys.keys (lists new.tallies.items) ≡ entries_of i.job.value i.table.keys.keys (lists i.table.tallies.items) =
+    ap (λ ks. entries_of i.job.value ks (lists new.tallies.items)) e.keys ∙ entries-grown i.job.value (lists i.table.tallies.items) (lists new.tallies.items) e.grown 0 i.table.keys.keys in
+    where-err c.from_residual.result _ (ap (λ es. record (the_view i) { entries = es }) same ∙ c.self.view_is)
 
 pub returns-clause-stands : goal.returns-clause-stands
-returns-clause-stands c = λ A r is before.
+returns-clause-stands c = λ A before.
     let i : Inside = c.if-is_none.self-inside in
     let g : GroupMap = the_view c.self.inside in
-    let n : GroupMap = the_view (record { job = i.job; table = i.table; overflow = i.overflow; counted = i.counted + 1 }) in
+    let n : GroupMap = the_view (record { job = i.job; table = i.table; overflow = i.overflow; counted = i.counted + c.len.result }) in
+    let B = map (seen c.args.self.now.job) c.args.block.now in
     let p : Stands g A = subst (λ x. Stands x A) (sym c.self.view_is) before in
-    let small : g.counted + 1 < 2 ^ 32 = subst (λ (x : GroupMap). x.counted + 1 < 2 ^ 32) (sym c.self.view_is) c.requires.few in
-    let job : c.args.columns.now ≡ g.job = c.requires.columns ∙ sym (ap (λ (x : GroupMap). x.job) c.self.view_is) in
-    let of-row : cells_in g.job c.args.key.now ≡ r.key = ap (λ (x : GroupMap). cells_in x.job c.args.key.now) c.self.view_is ∙ is.key in
-    let mine : totals_in g.job c.args.more.now ≡ totals g.job.query.aggregates (r ∷ []) =
-    ap (λ (x : GroupMap). totals_in x.job c.args.more.now) c.self.view_is ∙ is.more ∙ ap (λ (x : GroupMap). totals x.job.query.aggregates (r ∷ [])) (sym c.self.view_is) in
+    let job : g.job ≡ c.args.self.now.job = ap (λ (x : GroupMap). x.job) c.self.view_is in
+    let few : g.counted + length c.args.block.now < 2 ^ 32 = subst (λ (x : GroupMap). x.counted + length c.args.block.now < 2 ^ 32) (sym c.self.view_is) c.requires.few in
+    let many = length-map c.args.block.now (seen c.args.self.now.job) in
+    let long = c.len.ensures in
     elim c.if-is_none.branch [
-      | then-is_none+in_ok-put w ↦
+      | then-is_none+in_ok-add_block w ↦
           let none : g.overflow ≡ None = none_from g.overflow w.if-is_none.ensures in
-          let joins = rw job at w.in_ok-put.ensures.joined in
-          let entries = rw job at w.in_ok-put.ensures.entries in
-          Stands-plain g n A r is.plain is.ranged p (ap (λ (x : Inside). x.job.value) w.self-inside-is) (ap (λ (x : Inside). x.counted + 1) w.self-inside-is) (ap (λ (x : Inside). x.overflow) w.self-inside-is)
-          (subst (λ (x : Inside). IsDistinct key_eq (map (λ e. e.0) (entries_of x.job.value x.table.entries))) (sym w.self-inside-is) (keys_distinct g.job _ entries w.in_ok-put.ensures.unique))
-          (λ _ q.
-          ap (λ (x : Inside). lookup (key_eq q) (entries_of x.job.value x.table.entries)) w.self-inside-is
-          ∙ joins (λ xs e. subst (FitEach (joinings_of g.job) xs) (sym mine) (fits_row g A r p is.ranged none small (cells_in g.job c.args.key.now) xs e)) q
-          ∙ ap (λ m. option_joined (joinings_of g.job) (lookup (key_eq q) g.entries) (cond (key_eq q (cells_in g.job c.args.key.now)) (Some m) None)) mine
-          ∙ ap (λ k. option_joined (joinings_of g.job) (lookup (key_eq q) g.entries) (cond (key_eq q k) (Some (totals g.job.query.aggregates (r ∷ []))) None)) of-row)
+          let k : JobShape = c.args.columns.now in
+          let mine : c.self.inside.job.value ≡ k = job ∙ sym c.requires.columns in
+          let ks = c.self.inside.table.keys.keys in
+          let ts = lists c.self.inside.table.tallies.items in
+          let new = w.add_block.new.self in
+          let joined = w.in_ok-add_block.ensures in
+          let before : Stands (groups_of k ks ts None c.self.inside.counted) A = subst (λ o. Stands (groups_of k ks ts o c.self.inside.counted) A) none (subst (λ (x : JobShape). Stands (groups_of x ks ts g.overflow c.self.inside.counted) A) mine p) in
+          let table : IsTable k ks ts = subst (λ (x : JobShape). IsTable x ks ts) mine c.self.invariant.1 in
+          let taken : AllTaken k c.args.block.now (lists c.args.totals.now) = subst (λ (x : JobShape). AllTaken x c.args.block.now (lists c.args.totals.now)) (sym c.requires.columns) c.requires.totals in
+          let seen-by : B ≡ map (seen k) c.args.block.now = ap (λ (x : JobShape). map (seen x) c.args.block.now) (sym c.requires.columns) in
+          let after : Stands (groups_of k new.keys.keys (lists new.tallies.items) None (c.self.inside.counted + c.len.result)) (A ++ B) =
+          stands-block k ks new.keys.keys ts (lists new.tallies.items) c.self.inside.counted (c.self.inside.counted + c.len.result) A B before c.self.invariant.0 table joined.unique joined.table (omega (arith, long, many)) (omega (arith, few, many)) c.args.block.now (lists c.args.totals.now) seen-by joined.joined taken c.requires.plain c.requires.ranged in
+          subst (λ (x : Inside). Stands (the_view (record { job = x.job; table = x.table; overflow = x.overflow; counted = x.counted + c.len.result })) (A ++ B)) (sym w.self-inside-is)
+          (subst (λ o. Stands (groups_of c.self.inside.job.value new.keys.keys (lists new.tallies.items) o (c.self.inside.counted + c.len.result)) (A ++ B)) (sym none)
+          (subst (λ (x : JobShape). Stands (groups_of x new.keys.keys (lists new.tallies.items) None (c.self.inside.counted + c.len.result)) (A ++ B)) (sym mine) after))
       | else-is_none w ↦
-          Stands-plain g n A r is.plain is.ranged p (ap (λ (x : Inside). x.job.value) w.self-inside-is) (ap (λ (x : Inside). x.counted + 1) w.self-inside-is) (ap (λ (x : Inside). x.overflow) w.self-inside-is)
-          (subst (λ (x : Inside). IsDistinct key_eq (map (λ e. e.0) (entries_of x.job.value x.table.entries))) (sym w.self-inside-is) (keys_distinct g.job _ c.self.invariant.1 c.self.invariant.0))
-          (λ none _. absurd (not_none_from g.overflow w.if-is_none.ensures (sym (ap (λ (x : Inside). x.overflow) w.self-inside-is) ∙ none)))
+          Stands-skipped g n A B p c.requires.ranged c.requires.plain (not_none_from g.overflow w.if-is_none.ensures) (ap (λ (x : Inside). x.job.value) w.self-inside-is) (ap (λ (x : Inside). x.counted + c.len.result) w.self-inside-is ∙ ap (λ m. c.self.inside.counted + m) (long ∙ sym many)) (ap (λ (x : Inside). x.overflow) w.self-inside-is)
+          (ap (λ (x : Inside). entries_of x.job.value x.table.keys.keys (lists x.table.tallies.items)) w.self-inside-is)
     ]
-
-pub invariant_of-self-2 : goal.invariant_of-self-2
-invariant_of-self-2 c =
-    let i : Inside = c.self.inside in
-    let job : c.args.columns.now ≡ i.job.value = c.requires.columns ∙ sym (ap (λ (x : GroupMap). x.job) c.self.view_is) in
-    elim c.if-is_none.branch [
-      | then-is_none+in_ok-put w ↦ subst the_invariant (sym w.self-inside-is) (w.in_ok-put.ensures.unique, subst (λ (x : JobShape). AreEntries x w.put.new.table.entries) job w.in_ok-put.ensures.entries)
-      | else-is_none w ↦ subst the_invariant (sym w.self-inside-is) c.self.invariant
-    ]
-
-pub invariant_of-self : goal.invariant_of-self
-invariant_of-self c =
-    let job : c.args.columns.now ≡ c.self.inside.job.value = c.requires.columns ∙ sym (ap (λ (x : GroupMap). x.job) c.self.view_is) in
-    (c.put.ensures.unique, subst (λ (x : JobShape). AreEntries x c.put.new.table.entries) job c.in_err-put.ensures.entries)

@@ -1,90 +1,62 @@
-use Rattle.std.proofs.Common.{◌≡◌, ◌+◌, ◌^◌, ◌<◌, map, None, sym, ap, subst, ◌∙◌, refl, arith}
-use Rattle.std.specs.List.{IsDistinct}
-use Rattle.std.specs.Map.{lookup}
-use Rattle.ssb_groups.specs.Joining.{joinings_of, option_joined}
+use Rattle.std.proofs.Common.{◌≡◌, ◌∙◌, ◌+◌, ◌++◌, ◌<◌, ◌^◌, None, ap, refl, subst, sym, arith}
 use Rattle.ssb_plan.specs.JobShape.{JobShape}
-use Rattle.ssb_groups.specs.Entries.{AreEntries, entries_of}
-use Rattle.ssb_groups.specs.Rows.{key_eq}
-use Rattle.ssb_groups.specs.Stands.{GroupMap, Stands, least_of}
-use Rattle.ssb_groups.specs.contracts.store.Store.{the_invariant, the_view}
+use Rattle.ssb_groups.specs.Places.{IsTable}
+use Rattle.ssb_groups.specs.Stands.{GroupMap, Stands, least_of, overflows}
+use Rattle.ssb_groups.specs.Tallies.{entries_of, lists}
+use Rattle.ssb_groups.specs.contracts.store.Store.{the_view}
 use Rattle.ssb_groups.specs.declared.store.Store.TheInside.{Inside}
-use Rattle.ssb_groups.proofs.MergeFacts.{fits_both}
-use Rattle.ssb_groups.proofs.StandsFacts.{Stands-join, none_from, none_left, none_right, not_none_from}
-use Rattle.ssb_groups.proofs.TableFacts.{keys_distinct}
-use Rattle.std.proofs.lemmas.Grind.{common_steps}
+use Rattle.ssb_groups.proofs.PlaceFacts.{where-err}
+use Rattle.ssb_groups.proofs.StandsFacts.{Stands-join, least-nothing, none_from, none_left, none_right, not_none_from}
+use Rattle.ssb_groups.proofs.StoreFacts.{entries-grown, groups_of, stands-groups}
 use Rattle.ssb_groups.proofs.store.Store.merge.Goals as goal
-use Rattle.ssb_groups.proofs.store.Store.merge.Goals.{then-is_none+in_default, else-is_none}
+use Rattle.ssb_groups.proofs.store.Store.merge.Goals.{then-is_none+in_ok-add_groups, else-is_none}
 
-pub take_all_in-requires-clause-entries : goal.take_all_in-requires-clause-entries
-take_all_in-requires-clause-entries c =
-    let j : c.self.inside.job.value ≡ c.args.columns.now = ap (λ (x : GroupMap). x.job) c.self.view_is ∙ sym c.requires.columns in
-    subst (λ es. AreEntries c.args.columns.now es) (sym c.reserve.ensures.entries) (subst (λ (x : JobShape). AreEntries x c.self.inside.table.entries) j c.self.invariant.1)
-
-pub take_all_in-requires-clause-more : goal.take_all_in-requires-clause-more
-take_all_in-requires-clause-more c =
-    let j : c.other.inside.job.value ≡ c.args.columns.now = ap (λ (x : GroupMap). x.job) c.other.view_is ∙ sym c.requires.one_job ∙ sym c.requires.columns in
-    subst (λ (x : JobShape). AreEntries x c.other.inside.table.entries) j c.other.invariant.1
+pub returns-in_err-add_groups-clause-err : goal.returns-in_err-add_groups-clause-err
+returns-in_err-add_groups-clause-err c =
+    let i : Inside = c.self.inside in
+    let e = c.in_err-add_groups.ensures in
+    let new = c.add_groups.new.self in
+    let same : entries_of i.job.value new.keys.keys (lists new.tallies.items) ≡ entries_of i.job.value i.table.keys.keys (lists i.table.tallies.items) =
+    ap (λ ks. entries_of i.job.value ks (lists new.tallies.items)) e.keys ∙ entries-grown i.job.value (lists i.table.tallies.items) (lists new.tallies.items) e.grown 0 i.table.keys.keys in
+    where-err c.from_residual.result _ (ap (λ es. record (the_view i) { entries = es }) same ∙ c.self.view_is)
 
 pub returns-clause-stands : goal.returns-clause-stands
-returns-clause-stands c = λ A B mine others.
-    let i : Inside = c.if-is_none.self-inside in
+returns-clause-stands c = λ A B before others.
     let g : GroupMap = the_view c.self.inside in
     let h : GroupMap = the_view c.other.inside in
     let over = c.lesser-overflow.result in
-    let n : GroupMap = the_view (record { job = i.job; table = i.table; overflow = over; counted = g.counted + h.counted }) in
-    let p : Stands g A = subst (λ x. Stands x A) (sym c.self.view_is) mine in
+    let p : Stands g A = subst (λ x. Stands x A) (sym c.self.view_is) before in
     let q : Stands h B = subst (λ x. Stands x B) (sym c.other.view_is) others in
     let few : g.counted + h.counted < 2 ^ 32 = rw (← c.self.view_is, ← c.other.view_is) at c.requires.few in
     let one : g.job ≡ h.job = rw (← c.self.view_is, ← c.other.view_is) at c.requires.one_job in
-    let job : c.args.columns.now ≡ g.job = c.requires.columns ∙ sym (ap (λ (x : GroupMap). x.job) c.self.view_is) in
-    let spelt : entries_of g.job c.other.inside.table.entries ≡ h.entries = ap (λ (x : JobShape). entries_of x c.other.inside.table.entries) one in
+    let k : JobShape = c.args.columns.now in
+    let mine : g.job ≡ k = ap (λ (x : GroupMap). x.job) c.self.view_is ∙ sym c.requires.columns in
+    let theirs : h.job ≡ k = sym one ∙ mine in
     let least : over ≡ least_of g.overflow h.overflow = c.lesser-overflow.ensures in
+    let ks = c.self.inside.table.keys.keys in
+    let ts = lists c.self.inside.table.tallies.items in
+    let os = c.other.inside.table.keys.keys in
+    let us = lists c.other.inside.table.tallies.items in
+    let count = c.self.inside.counted + c.other.inside.counted in
     elim c.if-is_none.branch [
-      | then-is_none+in_default w ↦
-          let none : least_of g.overflow h.overflow ≡ None = sym least ∙ none_from over w.if-is_none.ensures in
-          let fits = fits_both g h A B p q (none_left g.overflow h.overflow none) (none_right g.overflow h.overflow none) (sym one) few in
-          let kept = w.reserve.ensures.entries in
-          let joins = rw job at w.take_all_in.ensures.joined in
-          let joined = joins (λ k xs ys a b. fits k xs ys (ap (λ es. lookup (key_eq k) (entries_of g.job es)) (sym kept) ∙ a) (ap (lookup (key_eq k)) (sym spelt) ∙ b)) in
-          let entries = rw job at w.take_all_in.ensures.entries in
-          Stands-join g h n A B p q (ap (λ (x : Inside). x.job.value) w.self-inside-is) (sym one) refl least
-          (subst (λ (x : Inside). IsDistinct key_eq (map (λ e. e.0) (entries_of x.job.value x.table.entries))) (sym w.self-inside-is) (keys_distinct g.job _ entries w.take_all_in.ensures.unique))
-          (λ _ k. ap (λ (x : Inside). lookup (key_eq k) (entries_of x.job.value x.table.entries)) w.self-inside-is ∙ joined k
-          ∙ ap (λ es. option_joined (joinings_of g.job) (lookup (key_eq k) (entries_of g.job es)) (lookup (key_eq k) (entries_of g.job c.other.inside.table.entries))) kept
-          ∙ ap (λ es. option_joined (joinings_of g.job) (lookup (key_eq k) g.entries) (lookup (key_eq k) es)) spelt
-          ∙ ap (λ (x : Inside). option_joined (joinings_of x.job.value) (lookup (key_eq k) g.entries) (lookup (key_eq k) h.entries)) (sym w.self-inside-is))
+      | then-is_none+in_ok-add_groups w ↦
+          let none : over ≡ None = none_from over w.if-is_none.ensures in
+          let no : g.overflow ≡ None = none_left g.overflow h.overflow (sym least ∙ none) in
+          let nor : h.overflow ≡ None = none_right g.overflow h.overflow (sym least ∙ none) in
+          let new = w.add_groups.new.self in
+          let joined = w.in_ok-add_groups.ensures in
+          let mine-stand : Stands (groups_of k ks ts None c.self.inside.counted) A = subst (λ o. Stands (groups_of k ks ts o c.self.inside.counted) A) no (subst (λ (x : JobShape). Stands (groups_of x ks ts g.overflow c.self.inside.counted) A) mine p) in
+          let their-stand : Stands (groups_of k os us None c.other.inside.counted) B = subst (λ o. Stands (groups_of k os us o c.other.inside.counted) B) nor (subst (λ (x : JobShape). Stands (groups_of x os us h.overflow c.other.inside.counted) B) theirs q) in
+          let table : IsTable k ks ts = subst (λ (x : JobShape). IsTable x ks ts) mine c.self.invariant.1 in
+          let their-table : IsTable k os us = subst (λ (x : JobShape). IsTable x os us) theirs c.other.invariant.1 in
+          let counted = q.counted in
+          let after : Stands (groups_of k new.keys.keys (lists new.tallies.items) None count) (A ++ B) =
+          stands-groups k ks new.keys.keys ts (lists new.tallies.items) c.self.inside.counted count A B mine-stand c.self.invariant.0 table joined.unique joined.table (ap (λ m. c.self.inside.counted + m) counted) (omega (arith, few, counted)) os us c.other.inside.counted their-stand c.other.invariant.0 their-table joined.joined
+          (least-nothing (overflows B) (sym q.overflow ∙ nor)) in
+          subst (λ (x : Inside). Stands (the_view (record { job = x.job; table = x.table; overflow = over; counted = x.counted + c.other.inside.counted })) (A ++ B)) (sym w.self-inside-is)
+          (subst (λ o. Stands (groups_of c.self.inside.job.value new.keys.keys (lists new.tallies.items) o count) (A ++ B)) (sym none)
+          (subst (λ (x : JobShape). Stands (groups_of x new.keys.keys (lists new.tallies.items) None count) (A ++ B)) (sym mine) after))
       | else-is_none w ↦
-          Stands-join g h n A B p q (ap (λ (x : Inside). x.job.value) w.self-inside-is) (sym one) refl least
-          (subst (λ (x : Inside). IsDistinct key_eq (map (λ e. e.0) (entries_of x.job.value x.table.entries))) (sym w.self-inside-is) (keys_distinct g.job _ c.self.invariant.1 c.self.invariant.0))
-          (λ none _. absurd (not_none_from over w.if-is_none.ensures none))
+          subst (λ (x : Inside). Stands (the_view (record { job = x.job; table = x.table; overflow = over; counted = x.counted + c.other.inside.counted })) (A ++ B)) (sym w.self-inside-is)
+          (Stands-join g h (the_view (record { job = c.self.inside.job; table = c.self.inside.table; overflow = over; counted = count })) A B p q refl (sym one) refl least p.distinct (λ none _. absurd (not_none_from over w.if-is_none.ensures none)))
     ]
-
-pub invariant_of-self-2 : goal.invariant_of-self-2
-invariant_of-self-2 c =
-    let i : Inside = c.self.inside in
-    let job : c.args.columns.now ≡ i.job.value = c.requires.columns ∙ sym (ap (λ (x : GroupMap). x.job) c.self.view_is) in
-    elim c.if-is_none.branch [
-      | then-is_none+in_default w ↦ subst the_invariant (sym w.self-inside-is) (w.take_all_in.ensures.unique, subst (λ (x : JobShape). AreEntries x w.take_all_in.new.table.entries) job w.take_all_in.ensures.entries)
-      | else-is_none w ↦ subst the_invariant (sym w.self-inside-is) c.self.invariant
-    ]
-
-pub returns-in-Err-clause-err : goal.returns-in-Err-clause-err
-returns-in-Err-clause-err c =
-    let g : GroupMap = the_view c.self.inside in
-    ap (λ es. record g { entries = entries_of c.self.inside.job.value es }) c.reserve.ensures.entries ∙ c.self.view_is
-
-pub returns-clause-job : goal.returns-clause-job
-returns-clause-job c =
-    elim c.if-is_none.branch [
-      | then-is_none+in_default w ↦ ap (λ (x : Inside). x.job.value) w.self-inside-is ∙ ap (λ (x : GroupMap). x.job) c.self.view_is
-      | else-is_none w ↦ ap (λ (x : Inside). x.job.value) w.self-inside-is ∙ ap (λ (x : GroupMap). x.job) c.self.view_is
-    ]
-
-pub returns-in-Err-clause-job : goal.returns-in-Err-clause-job
-returns-in-Err-clause-job c = ap (λ (x : GroupMap). x.job) c.self.view_is
-
-pub invariant_of-self : goal.invariant_of-self
-invariant_of-self c = grind (arith, common_steps)
-
-pub take_all_in-requires-clause-room : goal.take_all_in-requires-clause-room
-take_all_in-requires-clause-room c = grind (arith, common_steps)

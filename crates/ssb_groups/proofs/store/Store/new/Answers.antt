@@ -1,7 +1,7 @@
 use Rattle.std.proofs.Common.{refl, ap}
-use Rattle.ssb_groups.specs.Entries.{entries_of}
+use Rattle.ssb_groups.specs.Tallies.{entries_of, lists}
 use Rattle.ssb_groups.proofs.StandsFacts.{Stands-nothing}
 use Rattle.ssb_groups.proofs.store.Store.new.Goals as goal
 
 pub returns-clause-stands : goal.returns-clause-stands
-returns-clause-stands c = Stands-nothing _ refl refl (ap (entries_of c.of.result.value) c.new.ensures.empty)
+returns-clause-stands c = Stands-nothing _ refl refl (ap (λ ks. entries_of c.of.result.value ks (lists c.in_ok-new.field-0.tallies.items)) c.in_ok-new.ensures.none)

@@ -1,0 +1,32 @@
+// Room that is used again for each block.
+
+use crate::guesses::Guesses;
+use crate::key::GroupKey;
+use ssb_keys::Kept;
+use std::alloc::Global;
+
+/// What finding places needs, whose memory is used again; what it holds between two calls is of no matter.
+#[derive(Drop)]
+pub(crate) struct Room {
+    pub(crate) alloc: Global,
+    /// What stands for the values of the group columns of one combination.
+    pub(crate) cells: Vec<Kept>,
+    /// Its key.
+    pub(crate) key: GroupKey,
+    /// The place of each combination's key.
+    pub(crate) places: Vec<usize>,
+    pub(crate) guesses: Guesses,
+}
+
+impl Room {
+    // It takes no memory yet.
+    pub(crate) fn new(alloc: Global) -> Room {
+        Room {
+            alloc,
+            cells: Vec::new(alloc),
+            key: GroupKey::Number(0),
+            places: Vec::new(alloc),
+            guesses: Guesses::new(alloc),
+        }
+    }
+}

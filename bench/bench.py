@@ -4,6 +4,7 @@
 Usage: bench.py load FOLDER [--old PROGRAM]
        bench.py query FOLDER [--old PROGRAM] [--queries NAME..] [--morsels N..] [--times N]
        bench.py answer FOLDER [--old PROGRAM] [--queries NAME..] [--morsels N..] [--times N]
+       bench.py groups FOLDER [--old PROGRAM] [--old-ssb PROGRAM] [--queries NAME..] [--morsels N..] [--times N]
        bench.py threads FOLDER [--queries NAME..] [--workers N..] [--parts N..] [--morsels N..]
                                 [--batches N..] [--times N]
        bench.py session FOLDER [--old PROGRAM] [--tiny N]
@@ -52,6 +53,32 @@ TEXTS = {
     "sum-joined": f"select sum(c_custkey) {CUSTOMERS}\n",
     "max-joined-text": f"select max(c_name) {CUSTOMERS}\n",
 }
+
+# What `groups` answers: few and many groups, of joined rows and of the fact table's own, and sums without GROUP BY.
+FACTS = "from lineorder"
+ALL_JOINS = (
+    "from lineorder, date, customer, supplier, part where lo_orderdate = d_datekey and lo_custkey = c_custkey "
+    "and lo_suppkey = s_suppkey and lo_partkey = p_partkey"
+)
+
+
+def grouped(columns, rows, more=""):
+    """A query of the revenue of each group of rows, and more of each."""
+    return f"select {columns}, sum(lo_revenue){more} {rows} group by {columns}"
+
+
+GROUPINGS = {
+    "joins-grouped": TEXTS["joins-grouped"],
+    "four-columns": grouped("d_year, c_nation, s_region, p_mfgr", ALL_JOINS, ", count(*)"),
+    "c_phone": grouped("c_phone", CUSTOMERS),
+    "lo_custkey": grouped("lo_custkey", FACTS),
+    "lo_orderkey": f"{grouped('lo_orderkey', FACTS)} having sum(lo_revenue) > 40000000",
+    "sum-number": TEXTS["sum-number"],
+    "sum-product": "select sum(lo_extendedprice * lo_discount) from lineorder\n",
+}
+
+# The workers and the batches by which `groups` answers, from one part; an old program takes batches of 1.
+SHARES = [(1, 1), (1, 64), (4, 64)]
 
 # Behind each list a filter of a later column, which keeps no row: what is timed is then the list's own filter.
 LATER = "lo_shipmode = 'NONE'"
@@ -115,6 +142,11 @@ def line_count(path):
     """How many lines a file has."""
     with open(path, "rb") as lines:
         return sum(1 for _ in lines)
+
+
+def programs_of(new, old):
+    """The new program, and the old one where there is one."""
+    return {NEW: new} | ({OLD: old} if old else {})
 
 
 def load_commands(given, programs, query):
@@ -191,7 +223,7 @@ def load(given, texts):
     rows = line_count(fact)
     size = sum(path.stat().st_size for path in given.folder.glob("*.tbl"))
     measure.print_setting(given, f"{rows:,} fact rows, files of {size / 1e6:.1f} MB")
-    programs = {NEW: given.ssb} | ({OLD: given.old} if given.old else {})
+    programs = programs_of(given.ssb, given.old)
     query = measure.write_texts(texts, {COUNTING: COUNT})[COUNTING]
     runs = measure.run_all(load_commands(given, programs, query), given.runs)
     check_load(runs, programs, rows)
@@ -201,9 +233,8 @@ def load(given, texts):
         print_old(runs)
 
 
-def paths_of(given, texts, others):
-    """The files of the queries that are to be answered, by their names: of the benchmark's, and others."""
-    known = {**thirteen(), **others}
+def paths_of(given, texts, known):
+    """The files of those of the known queries that are to be answered, by their names."""
     names = given.queries or list(known)
     for name in names:
         if name not in known:
@@ -211,9 +242,18 @@ def paths_of(given, texts, others):
     return measure.write_texts(texts, {name: known[name] for name in names})
 
 
-def answering(program, given, path, morsel, *shared):
-    """The command that answers a query again and again: by one thread alone, or by workers, from parts, in batches."""
-    return [program, "run", given.folder, path, morsel, given.times, *shared]
+def answering(program, word, given, path, morsel, *shared):
+    """The command that answers a query again and again: by one thread alone, or by workers, from parts, in batches.
+
+    The word says from where on: `run` over a job that is there, `answer` from the query's text.
+    """
+    return [program, word, given.folder, path, morsel, given.times, *shared]
+
+
+def against(new, old):
+    """The milliseconds and the peak memory of some answering runs against those of others."""
+    ratios = [least(new) / least(old) for least in (measure.least_told, measure.least_peak)]
+    return [f"{ratio:.2f}" for ratio in ratios]
 
 
 def least_of_all(given, commands):
@@ -224,13 +264,13 @@ def least_of_all(given, commands):
 
 def query(given, texts):
     """Answers over loaded tables by one worker: for sizes of a morsel, and by an old ssb_bench."""
-    paths = paths_of(given, texts, TEXTS)
+    paths = paths_of(given, texts, {**thirteen(), **TEXTS})
     first, *others = given.morsels
     commands = {}
     for name, path in paths.items():
-        commands |= {(name, morsel): answering(given.ssb_bench, given, path, morsel) for morsel in given.morsels}
+        commands |= {(name, morsel): answering(given.ssb_bench, "run", given, path, morsel) for morsel in given.morsels}
         if given.old:
-            commands[name, OLD] = answering(given.old, given, path, first)
+            commands[name, OLD] = answering(given.old, "run", given, path, first)
     found = least_of_all(given, commands)
     rows = []
     for name in paths:
@@ -244,13 +284,13 @@ def query(given, texts):
 
 
 def answer(given, texts):
-    """Answers from the text on, whose job is made each time, by one worker: also of long lists, and by an old ssb_bench."""
-    paths = paths_of(given, texts, LISTS)
+    """Answers from the text on, whose job is made each time, by one worker, long lists too, and by an old ssb_bench."""
+    paths = paths_of(given, texts, {**thirteen(), **LISTS})
     rows = line_count(given.folder / "lineorder.tbl")
     morsel = given.morsels[0]
-    programs = {NEW: given.ssb_bench} | ({OLD: given.old} if given.old else {})
+    programs = programs_of(given.ssb_bench, given.old)
     commands = {
-        (name, program): [path, "answer", given.folder, paths[name], morsel, given.times]
+        (name, program): answering(path, "answer", given, paths[name], morsel)
         for name in paths
         for program, path in programs.items()
     }
@@ -260,10 +300,7 @@ def answer(given, texts):
     table = []
     for name in paths:
         row = [name, f"{took[name, NEW]:.2f}", f"{1e6 * took[name, NEW] / rows:.2f}"]
-        if given.old:
-            peaks = [measure.least_peak(runs[name, program]) for program in (NEW, OLD)]
-            row += [f"{took[name, NEW] / took[name, OLD]:.2f}", f"{peaks[0] / peaks[1]:.2f}"]
-        table.append(row)
+        table.append(row + (against(runs[name, NEW], runs[name, OLD]) if given.old else []))
     head = ["Query", "Milliseconds", "Nanoseconds a fact row"]
     measure.print_table([*head, *(["new / old", "Peak memory, new / old"] if given.old else [])], table)
     ratios = [took[name, NEW] / took[name, OLD] for name in paths if given.old and name in thirteen()]
@@ -271,16 +308,55 @@ def answer(given, texts):
         print(f"\nnew / old, geometric mean of {len(ratios)} of the thirteen: {statistics.geometric_mean(ratios):.2f}")
 
 
+def check_rows(given, texts, paths):
+    """Ends the script where a session of some queries has other rows by other workers, batches or builds."""
+    session_path = texts / "session.sql"
+    session_path.write_text(";\n".join(path.read_text(encoding="utf-8") for path in paths.values()), encoding="utf-8")
+    commands = {
+        f"{name}, {workers} workers, batch {batch}": shell(
+            program, given.folder, session_path, "--morsel", given.morsels[0], "--workers", workers, "--batch", batch
+        )
+        for name, program in programs_of(given.ssb, given.old_ssb).items()
+        for workers, batch in SHARES
+    }
+    runs = measure.run_all(commands, 1)
+    wanted = next(iter(runs.values()))[0].output
+    for name, some in runs.items():
+        measure.check_outputs(name, some, wanted)
+
+
+def groups(given, texts):
+    """Groupings and sums from the text on, by workers in batches, and by an old ssb_bench; ssb's rows are compared."""
+    paths = paths_of(given, texts, GROUPINGS)
+    morsel = given.morsels[0]
+    commands = {}
+    for (name, path), (workers, batch) in itertools.product(paths.items(), SHARES):
+        command = answering(given.ssb_bench, "answer", given, path, morsel, workers, 1, batch)
+        commands[name, NEW, workers, batch] = command
+        if given.old:
+            commands[name, OLD, workers] = answering(given.old, "answer", given, path, morsel, workers, 1, 1)
+    measure.print_setting(given, f"{given.folder}, {given.times} answers a run, morsels of {morsel:,}")
+    check_rows(given, texts, paths)
+    runs = measure.run_all(commands, given.runs)
+    rows = []
+    for name, (workers, batch) in itertools.product(paths, SHARES):
+        new = runs[name, NEW, workers, batch]
+        row = [name, str(workers), str(batch), f"{measure.least_told(new):.2f}", f"{measure.least_peak(new) / 1e6:.1f}"]
+        rows.append(row + (against(new, runs[name, OLD, workers]) if given.old else []))
+    head = ["Query", "Workers", "Batch", "Milliseconds", "Peak memory, MB"]
+    measure.print_table([*head, *(["new / old", "Peak memory, new / old"] if given.old else [])], rows)
+
+
 def threads(given, texts):
     """Answers over loaded tables by workers in threads, against one thread alone."""
-    paths = paths_of(given, texts, TEXTS)
+    paths = paths_of(given, texts, {**thirteen(), **TEXTS})
     choices = list(itertools.product(given.workers, given.parts, given.morsels, given.batches))
     commands = {}
     for name, path in paths.items():
         for morsel in given.morsels:
-            commands[name, ALONE, morsel] = answering(given.ssb_bench, given, path, morsel)
+            commands[name, ALONE, morsel] = answering(given.ssb_bench, "run", given, path, morsel)
         for workers, parts, morsel, batch in choices:
-            command = answering(given.ssb_bench, given, path, morsel, workers, parts, batch)
+            command = answering(given.ssb_bench, "run", given, path, morsel, workers, parts, batch)
             commands[name, workers, parts, morsel, batch] = command
     found = least_of_all(given, commands)
     first = given.morsels[0]
@@ -292,10 +368,9 @@ def threads(given, texts):
     measure.print_table(["Query", f"Milliseconds alone, in morsels of {first:,}", *head], rows)
 
 
-def shell(given, path):
+def shell(program, folder, path, *options):
     """The command of a session whose input is a file."""
-    program = [given.ssb, "shell", "--data", given.folder, "--workers", WORKERS]
-    return ["sh", "-c", 'exec "$@" <"$0"', path, *program]
+    return ["sh", "-c", 'exec "$@" <"$0"', path, program, "shell", "--data", folder, *options]
 
 
 def tiny_shell(program, folder, path, workers):
@@ -309,10 +384,9 @@ def tiny_session(given, folder):
     path = folder / "tiny.sql"
     for name, text in (("catalog", TINY_CATALOG), ("t.tbl", TINY_ROWS), (path.name, given.tiny * TINY)):
         (folder / name).write_text(text, encoding="utf-8")
-    programs = {NEW: given.ssb} | ({OLD: given.old} if given.old else {})
     commands = {
         (name, workers): tiny_shell(program, folder, path, workers)
-        for name, program in programs.items()
+        for name, program in programs_of(given.ssb, given.old).items()
         for workers in ((1, WORKERS) if name == NEW else (1,))
     }
     runs = measure.run_all(commands, given.runs)
@@ -334,7 +408,8 @@ def session(given, texts):
     statements = {NOTHING: "", THIRTEEN: queries, THRICE: 3 * queries, FEW: FEW * NO_ROW, MANY: MANY * NO_ROW}
     paths = measure.write_texts(texts, statements)
     measure.print_setting(given, f"{given.folder}, {WORKERS} workers")
-    runs = measure.run_all({name: shell(given, path) for name, path in paths.items()}, given.runs)
+    commands = {name: shell(given.ssb, given.folder, path, "--workers", WORKERS) for name, path in paths.items()}
+    runs = measure.run_all(commands, given.runs)
     took = {name: measure.least_seconds(some) for name, some in runs.items()}
     peak = {name: measure.least_peak(some) / 1e6 for name, some in runs.items()}
     own = (took[THRICE] - took[THIRTEEN]) / 2
@@ -391,6 +466,7 @@ COMMANDS = {
     load: (["ssb", "ssb_bench"], ["folder", "--old"]),
     query: (["ssb_bench"], ["folder", "--old", "--queries", "--morsels", "--times"]),
     answer: (["ssb_bench"], ["folder", "--old", "--queries", "--morsels", "--times"]),
+    groups: (["ssb", "ssb_bench"], ["folder", "--old", "--old-ssb", "--queries", "--morsels", "--times"]),
     threads: (["ssb_bench"], ["folder", "--queries", "--workers", "--parts", "--morsels", "--batches", "--times"]),
     session: (["ssb"], ["folder", "--old", "--tiny"]),
     check: (["ssb"], []),

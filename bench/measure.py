@@ -1,6 +1,7 @@
 """What the commands of `bench.py` share: their words, runs of programs, figures, and tables of these."""
 
 import argparse
+import itertools
 import os
 import re
 import subprocess
@@ -34,6 +35,7 @@ NUMBERS = {**NUMBER, "nargs": "+"}
 OPTIONS = {
     "folder": {"type": Path, "metavar": "FOLDER", "help": "tables that make_tables.py made"},
     "--old": {**PROGRAM, "help": "an earlier build, which runs in turns with the new one"},
+    "--old-ssb": {**PROGRAM, "help": "an earlier ssb, whose rows have to be the same"},
     "--queries": {"nargs": "+", "metavar": "NAME", "help": "all where left out"},
     "--workers": {**NUMBERS, "default": [1, 2, 4], "help": "threads that answer"},
     "--parts": {**NUMBERS, "default": [1, 4], "help": "parts from which workers take morsels"},
@@ -57,11 +59,11 @@ def parsed(doc, commands, words):
     choices = parser.add_subparsers(required=True, metavar="COMMAND")
     for act, (programs, own) in commands.items():
         choice = choices.add_parser(act.__name__, help=act.__doc__, description=act.__doc__)
-        choice.set_defaults(act=act, programs=programs, folder=None, old=None)
+        choice.set_defaults(act=act, programs=programs, folder=None, old=None, old_ssb=None)
         for word in [*own, *EVERYWHERE]:
             choice.add_argument(word, **OPTIONS[word])
     given = parser.parse_args(words)
-    for path in [*(getattr(given, name) for name in given.programs), given.old]:
+    for path in [*(getattr(given, name) for name in given.programs), given.old, given.old_ssb]:
         if path is not None and not path.is_file():
             raise SystemExit(f"no program at {path}: `rt run` in its crate builds it")
     if given.folder is not None and not (given.folder / "catalog").is_file():
@@ -113,10 +115,12 @@ def run_all(commands, times):
 
 
 def check_outputs(name, runs, wanted):
-    """Ends the script where some run did not print what is wanted."""
+    """Ends the script where some run did not print what is wanted, and tells the first line that is not."""
     for some in runs:
-        if some.output != wanted:
-            raise SystemExit(f"{name}: printed {some.output!r}, wanted {wanted!r}")
+        lines = itertools.zip_longest(some.output.splitlines(True), wanted.splitlines(True), fillvalue="")
+        for ours, theirs in lines:
+            if ours != theirs:
+                raise SystemExit(f"{name}: printed {ours!r}, wanted {theirs!r}")
 
 
 def least_seconds(runs):

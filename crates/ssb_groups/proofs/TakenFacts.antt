@@ -12,25 +12,20 @@ use Rattle.ssb_trees.specs.declared.aggregate.SetFunction.{SetFunction}
 use Rattle.ssb_trees.specs.declared.aggregate.SetFunction.TheVariants as function
 use Rattle.ssb_trees.specs.declared.expr.Expr.{Expr}
 use Rattle.ssb_conditions.specs.Rows.{column_value}
-use Rattle.ssb_plan.specs.Inputs.{input_of, values_of}
 use Rattle.ssb_plan.specs.JobShape.{JobShape, from_tables}
-use Rattle.ssb_plan.specs.declared.input.ColumnRef.{ColumnRef}
-use Rattle.ssb_plan.specs.declared.input.Input.TheVariants as input
-use Rattle.ssb_groups.specs.Refs.{input_texts, input_value, ref_value}
 use Rattle.ssb_groups.specs.Aggregates.{agg, arguments_at}
-use Rattle.ssb_groups.specs.Gathering.{AllTaken, AreTaken, AreTakenPlain, IsTaken, facts_where, key_at, over_at, texts_by}
+use Rattle.ssb_groups.specs.Gathering.{AllTaken, AreTaken, IsTaken, facts_where, key_at, over_at}
 use Rattle.ssb_groups.specs.Keys.{IsKept, kept_total, spelt_cell}
 use Rattle.ssb_groups.specs.Outcomes.{kept_outcome}
 use Rattle.ssb_groups.specs.Places.{AllOver}
 use Rattle.ssb_groups.specs.Seen.{argument, fact_of, seen}
 use Rattle.ssb_groups.specs.Stands.{AreRanged, EachRanged, IsRanged, has_over, is_over, least, least_of, overflows}
 use Rattle.ssb_groups.specs.Tallies.{AreTallies, texts_of}
-use Rattle.ssb_groups.specs.Value.{column_outcome, over, known}
+use Rattle.ssb_groups.specs.Value.{over, known}
 use Rattle.ssb_groups.specs.declared.kept.KeptTotal.{KeptTotal}
 use Rattle.ssb_groups.specs.declared.kept.KeptTotal.TheVariants as total
 use Rattle.ssb_keys.specs.declared.kept.Kept.{Kept}
 use Rattle.ssb_keys.specs.declared.kept.Kept.TheVariants as kept
-use Rattle.ssb_groups.proofs.InputFacts.{input-value, texts-are}
 use Rattle.ssb_groups.proofs.RowFacts.{least-append, least_of-assoc}
 
 -- ---- one aggregate
@@ -221,33 +216,3 @@ module _ (j : JobShape) where
   pub keys-seen : (block : List (List ℕ)) → map (key_at j) block ≡ map (λ r. r.key) (map (seen j) block)
   keys-seen [] = refl
   keys-seen (rows ∷ block) = ap (λ ks. key_at j rows ∷ ks) (keys-seen block)
-
-  -- ---- an aggregate over a column
-
-  -- one combination more, at which the argument is not Over
-  pub plain-more : (a : Aggregate BoundColumn) (block : List (List ℕ)) (ts : List KeptTotal) (rows : List ℕ) (t : KeptTotal) → AreTakenPlain j a block ts → IsTaken j rows a (record { over = over_at j a rows; total = t }) → over_at j a rows ≡ false
-      → AreTakenPlain j a (block ++ rows ∷ []) (ts ++ t ∷ [])
-  plain-more a block ts rows t h is plain = record {
-    taken = taken-more j a block ts rows t h.taken is;
-    plain = facts-more (over_at j a) block rows ∙ ap₂ (λ ns b. ns ++ cond b (fact_of j rows ∷ []) []) h.plain plain;
-  }
-
-  module _ (f : SetFunction) (e : Expr BoundColumn) (r : ColumnRef) (rows : List ℕ) (cell : Kept) (t : KeptTotal) (input-is : input_of j.query (aggregate.Of f e) ≡ input.Column r) (value : spelt_cell (values_of j.tables r) cell ≡ ref_value j rows r)
-      (ranged : IsRanged (known (spelt_cell (values_of j.tables r) cell))) (outcome : column_outcome (spelt_cell (values_of j.tables r) cell) ≡ known (spelt_cell (values_of j.tables r) cell))
-      (spelt : spelt_cell (texts_by f (values_of j.tables r)) (kept_total t) ≡ agg (aggregate.Of f e) (known (spelt_cell (values_of j.tables r) cell) ∷ [])) (kept : IsKept (texts_by f (values_of j.tables r)) (kept_total t)) where
-    taken-argument : argument (column_value (from_tables j) rows) (aggregate.Of f e) ≡ known (spelt_cell (values_of j.tables r) cell)
-    taken-argument = sym (input-value j rows (aggregate.Of f e)) ∙ ap (input_value j rows) input-is ∙ ap column_outcome (sym value) ∙ outcome
-
-    texts : texts_of j (aggregate.Of f e) ≡ texts_by f (values_of j.tables r)
-    texts = texts-are j f e ∙ ap (λ x. texts_by f (input_texts j.tables x)) input-is
-
-    pub taken-value : IsTaken j rows (aggregate.Of f e) (record { over = over_at j (aggregate.Of f e) rows; total = t })
-    taken-value = record {
-      over = refl;
-      alone = ap (λ vs. spelt_cell vs (kept_total t)) texts ∙ spelt ∙ ap (λ x. agg (aggregate.Of f e) (x ∷ [])) (sym taken-argument);
-      kept = subst (λ vs. IsKept vs (kept_total t)) (sym texts) kept;
-      ranged = subst IsRanged (sym taken-argument) ranged;
-    }
-
-    pub taken-plain : over_at j (aggregate.Of f e) rows ≡ false
-    taken-plain = ap is_over taken-argument

@@ -36,14 +36,6 @@ pub record IsTaken (j : JobShape) (rows : List ℕ) (a : Aggregate BoundColumn) 
   pub kept : IsKept (values_by j.tables (joining_of j a)) (kept_total t.total)
   pub ranged : IsRanged (argument (column_value (from_tables j) rows) a)
 
--- the fact rows, from 1, of the combinations that pass a test
-abbrev pub facts_where : JobShape → (List ℕ → Bool) → List (List ℕ) → List ℕ
-facts_where j test block = map (fact_of j) (filter test block)
-
--- whether what an aggregate takes of a combination is Over
-abbrev pub over_at : JobShape → Aggregate BoundColumn → List ℕ → Bool
-over_at j a rows = is_over (argument (column_value (from_tables j) rows) a)
-
 -- of combinations and one aggregate: the aggregate over each alone
 abbrev pub AreTaken : JobShape → Aggregate BoundColumn → List (List ℕ) → List KeptTotal → Type 0
 AreTaken j a [] [] = ⊤
@@ -51,14 +43,17 @@ AreTaken j a [] (t ∷ ts) = ⊥
 AreTaken j a (rows ∷ block) [] = ⊥
 AreTaken j a (rows ∷ block) (t ∷ ts) = IsTaken j rows a (record { over = is_over (argument (column_value (from_tables j) rows) a); total = t }) × AreTaken j a block ts
 
--- the same where none is Over
-pub record AreTakenPlain (j : JobShape) (a : Aggregate BoundColumn) (block : List (List ℕ)) (ts : List KeptTotal) : Type 0 where
-  pub taken : AreTaken j a block ts
-  pub plain : facts_where j (over_at j a) block ≡ []
-
 -- of all aggregates
 abbrev pub AllTaken : JobShape → List (List ℕ) → List (List KeptTotal) → Type 0
 AllTaken j block tallies = (i : ℕ) (a : Aggregate BoundColumn) → slice_get j.query.aggregates i ≡ Some a → AreTaken j a block (get_or tallies i [])
+
+-- the fact rows, from 1, of the combinations that pass a test
+abbrev pub facts_where : JobShape → (List ℕ → Bool) → List (List ℕ) → List ℕ
+facts_where j test block = map (fact_of j) (filter test block)
+
+-- whether what an aggregate takes of a combination is Over
+abbrev pub over_at : JobShape → Aggregate BoundColumn → List ℕ → Bool
+over_at j a rows = is_over (argument (column_value (from_tables j) rows) a)
 
 -- the values of the group columns in a combination
 abbrev pub key_at : JobShape → List ℕ → Key

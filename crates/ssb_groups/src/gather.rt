@@ -11,23 +11,22 @@ ghost use Rattle.ssb_conditions.specs.Rows.{IsCombination};
 ghost use Rattle.ssb_plan.specs.Inputs.{has_column, input_columns, input_of};
 ghost use Rattle.ssb_plan.specs.JobShape.{from_tables};
 ghost use Rattle.ssb_groups.specs.Aggregates.{agg};
-ghost use Rattle.ssb_groups.specs.Gathering.{AllTaken, AreTaken, AreTakenPlain, IsTaken, facts_where, over_at, texts_by};
+ghost use Rattle.ssb_groups.specs.Gathering.{AllTaken, AreTaken, IsTaken, facts_where, over_at, texts_by};
 ghost use Rattle.ssb_groups.specs.Keys.{IsKept, kept_total, spelt_cell};
 ghost use Rattle.ssb_groups.specs.Outcomes.{kept_outcome};
 ghost use Rattle.ssb_groups.specs.Refs.{input_texts, input_value};
 ghost use Rattle.ssb_groups.specs.Seen.{fact_of, seen};
 ghost use Rattle.ssb_groups.specs.Stands.{IsRanged, least, least_of, overflows};
 ghost use Rattle.ssb_groups.specs.Tallies.{lists};
-ghost use Rattle.ssb_groups.specs.Value.{column_outcome, known};
-ghost use Rattle.ssb_plan.specs.declared.input.Input.TheVariants as inputs;
+ghost use Rattle.ssb_groups.specs.Value.{known};
 
-use crate::column::{cell, fill_cells};
+use crate::column::cell;
 use crate::evaluate::number;
 use crate::kept::KeptTotal;
 use crate::tallies::Tally;
 use ssb_job::{Block, Job, JoinedRow};
 use ssb_keys::Kept;
-use ssb_plan::{ColumnRef, Input};
+use ssb_plan::Input;
 use ssb_query::BoundColumn;
 use ssb_trees::{Aggregate, SetFunction};
 use std::alloc::AllocError;
@@ -134,45 +133,9 @@ fn least_with(job: &Job, row: &JoinedRow, taken: Taken, so_far: Option<u32>) -> 
     }
 }
 
-// A value of a column, which is never Over.
-#[inline(always)]
-fn known(cell: Kept) -> Kept
-    ensures same { result ≡ cell }
-    ensures known { (values : List Cell) → column_outcome (spelt_cell values cell) ≡ known (spelt_cell values cell) }
-    ensures ranged { (values : List Cell) → IsRanged (known (spelt_cell values cell)) }
-{
-    match cell {
-        Kept::Null => Kept::Null,
-        Kept::Number(number) => Kept::Number(number),
-        Kept::Code(code) => Kept::Code(code),
-    }
-}
-
-// Fills a tally with a set function over a column's value in each combination of a block alone: the column is read in
-// a loop of its own.
-fn gather_values(
-    job: &Job,
-    block: &Block,
-    function: SetFunction,
-    column: ColumnRef,
-    cells: &mut Vec<Kept>,
-    totals: &mut Tally,
-) -> Result<(), AllocError>
-    requires rows { All (IsCombination (from_tables job.now)) block.now }
-    requires there { has_column job.now.query job.now.tables column ≡ true }
-    ensures { OnOk result ((e : AnyExpr AnyColumn) → input_of job.now.query (aggregates.Of function e) ≡ inputs.Column column → AreTakenPlain job.now (aggregates.Of function e) block.now totals.new.items) }
-{
-    fill_cells(job.tables(), block, column, cells)?;
-    totals.clear();
-    for at in 0..cells.len() {
-        totals.push(alone(function, known(cells[at])))?;
-    }
-    Ok(())
-}
-
-// Fills a tally with an aggregate over each combination of a block alone, one after the other. The least row of the fact table at which
+// Fills a tally with an aggregate over each combination of a block alone. The least row of the fact table at which
 // its argument is Over, or the one that is given where that is less.
-fn gather_rows(
+fn gather_column(
     job: &Job,
     block: &Block,
     place: usize,
@@ -199,38 +162,11 @@ fn gather_rows(
     Ok(found)
 }
 
-// Fills a tally with an aggregate over each combination of a block alone. The least row of the fact table at which
-// its argument is Over, or the one that is given where that is less.
-fn gather_column(
-    job: &Job,
-    block: &Block,
-    place: usize,
-    so_far: Option<u32>,
-    cells: &mut Vec<Kept>,
-    totals: &mut Tally,
-) -> Result<Option<u32>, AllocError>
-    requires rows { All (IsCombination (from_tables job.now)) block.now }
-    requires place { place < length job.now.query.aggregates }
-    ensures least { IfOk result (λ n. (a : AnyAggregate AnyColumn) → slice_get job.now.query.aggregates place ≡ Some a → n ≡ least_of so_far (least (facts_where job.now (over_at job.now a) block.now))) }
-    ensures taken { OnOk result ((a : AnyAggregate AnyColumn) → slice_get job.now.query.aggregates place ≡ Some a → AreTaken job.now a block.now totals.new.items) }
-{
-    let aggregates = job.query().parts().aggregates.as_slice();
-    let inputs = job.plan().inputs.as_slice();
-    if let Aggregate::Of(function, _) = &aggregates[place] {
-        if let Input::Column(column) = &inputs[place] {
-            gather_values(job, block, *function, *column, cells, totals)?;
-            return Ok(so_far);
-        }
-    }
-    gather_rows(job, block, place, so_far, totals)
-}
-
 // Fills tallies with the aggregates over each combination of a block alone. The least row of the fact table at which
 // an argument is Over.
 pub(crate) fn gather(
     job: &Job,
     block: &Block,
-    cells: &mut Vec<Kept>,
     totals: &mut [Tally],
 ) -> Result<Option<u32>, AllocError>
     requires rows { All (IsCombination (from_tables job.now)) block.now }
@@ -241,7 +177,7 @@ pub(crate) fn gather(
 {
     let mut found = None;
     for at in 0..totals.len() {
-        found = gather_column(job, block, at, found, cells, &mut totals[at])?;
+        found = gather_column(job, block, at, found, &mut totals[at])?;
     }
     Ok(found)
 }

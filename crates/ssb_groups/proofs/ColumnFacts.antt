@@ -1,9 +1,10 @@
 -- How the key of a combination is read in the group columns, and spelt again.
-use Rattle.std.proofs.Common.{◌≡◌, ◌∙◌, ◌<◌, ◌≤◌, ◌+◌, ◌++◌, ℕ, zero, suc, Bool, true, true≢false, bytes_eq, cond, get_or, List, [], ◌∷◌, Option, None, Some, Contains, length, drop, fold, map, slice_get, refl, sym, ap, ap₂, subst, arith, append-nil, append_assoc}
-use Rattle.std.specs.Prelude.{unwrap_or, option_map}
+use Rattle.std.proofs.Common.{◌≡◌, ◌∙◌, ◌<◌, ◌≤◌, ◌+◌, ◌++◌, ℕ, zero, suc, Bool, true, true≢false, bytes_eq, cond, get_or, List, [], ◌∷◌, Option, None, Some, Result, Ok, Err, Contains, length, drop, fold, map, slice_get, refl, sym, ap, ap₂, subst, arith, append-nil, append_assoc}
+use Rattle.std.specs.Prelude.{OnOk, unwrap_or, option_map}
 use Rattle.std.specs.List.{list_all, position_or_len}
 use Rattle.std.proofs.Math.Dec.{ltb}
 use Rattle.std.proofs.lemmas.Bool.{eqb-true, ltb-true, lt-ltb}
+use Rattle.std.proofs.lemmas.List.{get_or-map, length-map, same_lists}
 use Rattle.std.proofs.lemmas.Option.{same_Some, slice_get-map, slice_get_read, slice_get_within, get_or_from_slice_get, slice_get-get_or}
 use Rattle.ssb_terms.specs.declared.rule.ColType.{ColType}
 use Rattle.ssb_terms.specs.declared.rule.ColType.TheVariants as kinds
@@ -20,7 +21,7 @@ use Rattle.ssb_plan.specs.JobShape.{JobShape, from_tables}
 use Rattle.ssb_plan.specs.declared.input.ColumnRef.{ColumnRef}
 use Rattle.ssb_groups.specs.Keys as keys
 use Rattle.ssb_groups.specs.Keys.{AreKept, IsKept, column_values, key_cell, key_columns, key_of, kept_cell, spelt, spelt_cell}
-use Rattle.ssb_groups.specs.Refs.{HasRow, IsColumn, bound, cell_in, values_at}
+use Rattle.ssb_groups.specs.Refs.{AreCellsOf, HasRow, IsColumn, bound, cell_in, values_at}
 use Rattle.ssb_keys.specs.declared.kept.Kept.{Kept}
 use Rattle.ssb_keys.specs.declared.kept.Kept.TheVariants as kept
 
@@ -255,3 +256,32 @@ is-at j tables rs cells key i t ks has cs all lt = record {
 
     inside : i < length key
     inside = cell-there (key_columns j) key i all (slice_get_within (key_columns j) i _ column)
+
+-- ---- the cells of a block
+
+read-one : (values : List Cell) (o : Option Cell) (x : Kept) → option_map (kept_cell values) o ≡ Some x → kept_cell values (unwrap_or o null) ≡ x
+read-one values None x e = cc
+read-one values (Some v) x e = same_Some (kept_cell values v) x e
+
+-- what is read of the rows of one table is what stands there in each combination
+pub cells-of-block : (tables : List Columns) (r : ColumnRef) (block : List (List ℕ)) (rows : List ℕ) (cells : List Kept) → ((at : ℕ) (row : List ℕ) → slice_get block at ≡ Some row → unwrap_or (slice_get row r.place) 0 ≡ get_or rows at 0)
+    → AreCellsOf (values_of tables r) rows (length block) cells → cells ≡ map (λ row. cell_in tables row r) block
+cells-of-block tables r block rows cells there are =
+    same_lists cells (map (λ row. cell_in tables row r) block) (are.many ∙ sym (length-map block (λ row. cell_in tables row r))) (λ k d lt.
+    let many = are.many in
+    let below : k < length block = omega (arith, lt, many) in
+    let row = get_or block k [] in
+    let at : slice_get block k ≡ Some row = slice_get-get_or block k [] below in
+    get-same cells k d lt
+    ∙ sym (read-one (values_of tables r) (slice_get (values_of tables r) (get_or rows k 0)) (get_or cells k kept.Null) (are.each k below))
+    ∙ ap (λ n. kept_cell (values_of tables r) (unwrap_or (slice_get (values_of tables r) n) null)) (sym (there k row at))
+    ∙ sym (get_or-map (λ x. cell_in tables x r) block k [] d below))
+  where
+    get-same : (xs : List Kept) (k : ℕ) (d : Kept) → k < length xs → get_or xs k d ≡ get_or xs k kept.Null
+    get-same [] k d lt = absurd (omega (arith, lt))
+    get-same (x ∷ xs) zero d lt = refl
+    get-same (x ∷ xs) (suc k) d lt = get-same xs k d (omega (arith, lt))
+
+pub ok-map : {X E : Type 0} (r : Result X E) (P Q : Type 0) → (P → Q) → OnOk r P → OnOk r Q
+ok-map (Ok x) P Q f h = f h
+ok-map (Err x) P Q f h = tt

@@ -22,7 +22,7 @@ use Rattle.ssb_trees.specs.declared.aggregate.SetFunction.TheVariants as functio
 use Rattle.ssb_trees.specs.declared.expr.Expr.{Expr}
 use Rattle.ssb_trees.specs.declared.expr.Expr.TheOpen.{Expr-F}
 use Rattle.ssb_trees.specs.declared.expr.Expr.TheFolds.{fold-Expr}
-use Rattle.ssb_groups.specs.Gathering.{texts_by}
+use Rattle.ssb_groups.specs.Alone.{texts_by}
 use Rattle.ssb_groups.specs.Joining.{AreJoinings, IsJoining, joining_of, sole_ref, values_by}
 use Rattle.ssb_groups.specs.Refs.{IsSomeColumn, input_texts, input_value, ref_value, values_at}
 use Rattle.ssb_groups.specs.Seen.{argument}

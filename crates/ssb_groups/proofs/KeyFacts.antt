@@ -11,12 +11,12 @@ use Rattle.std.proofs.lemmas.Option.{same_Some}
 use Rattle.ssb_cells.specs.Cell.{Cell, null, number, text}
 use Rattle.ssb_cells.specs.Codes.{code_of, texts_of}
 use Rattle.ssb_cells.proofs.CodeFacts.{code-of}
-use Rattle.ssb_keys.specs.Domains.{cells, size}
+use Rattle.ssb_keys.specs.Domains.{AreIn, cells, size}
 use Rattle.ssb_keys.specs.Domains.{number as number_of}
 use Rattle.ssb_keys.specs.declared.domain.Domain.{Domain}
 use Rattle.ssb_keys.proofs.DomainFacts.{cells-number, number-below, number-cells}
 use Rattle.ssb_plan.specs.JobShape.{JobShape}
-use Rattle.ssb_groups.specs.Keys.{AreCells, AreKept, HasCells, HasNumbers, IsCopy, IsKept, IsKey, cells_alone, cells_in, domains_of, kept_in, key_columns, spelt, spelt_cell}
+use Rattle.ssb_groups.specs.Keys.{AreKept, HasCells, HasNumbers, IsCopy, IsKept, IsKey, cells_alone, cells_in, domains_of, kept_in, key_columns, spelt, spelt_cell}
 use Rattle.ssb_groups.specs.Rows.{cell_eq, key_eq}
 use Rattle.ssb_groups.specs.contracts.key.GroupKeyPartialEq.TheImpl as group_keys
 use Rattle.ssb_keys.specs.contracts.kept.KeptPartialEq.TheImpl as key_cells
@@ -166,5 +166,5 @@ alone-key j (form.Number n) cs has is e = cc
 alone-key j (form.Cells v) cs has is e = record { form = has; kept = subst (AreKept (key_columns j)) (sym (same_Some v.items cs e)) is }
 
 -- the key that is the number of cells
-pub number-key : (j : JobShape) (cs : List Kept) → HasNumbers j → AreCells j cs → IsKey j (form.Number (number_of (domains_of j) cs))
-number-key j cs has is = record { form = (has, number-below (domains_of j) cs is.there); kept = subst (AreKept (key_columns j)) (sym (cells-number (domains_of j) cs is.there)) is.kept }
+pub number-key : (j : JobShape) (cs : List Kept) → HasNumbers j → AreIn (domains_of j) cs → AreKept (key_columns j) cs → IsKey j (form.Number (number_of (domains_of j) cs))
+number-key j cs has there is = record { form = (has, number-below (domains_of j) cs there); kept = subst (AreKept (key_columns j)) (sym (cells-number (domains_of j) cs there)) is }

@@ -8,9 +8,11 @@ pub mod GroupFacts
 pub mod InputFacts
 pub mod JoiningFacts
 pub mod KeyFacts
+pub mod NumberedKeys
 pub mod Permuted
 pub mod PlaceFacts
 pub mod PlacedRows
+pub mod PlainFacts
 pub mod RowFacts
 pub mod StandsFacts
 pub mod StoreFacts

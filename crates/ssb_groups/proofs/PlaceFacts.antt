@@ -1,8 +1,8 @@
 -- Where keys stand among the keys of groups.
-use Rattle.std.proofs.Common.{◌≡◌, ◌∙◌, inr, ℕ, zero, suc, true, false, true≢false, List, [], ◌∷◌, ◌++◌, length, get_or, take, slice_get, Result, Ok, Err, is_err, Some, refl, sym, ap, ap₂, subst, ◌||◌}
+use Rattle.std.proofs.Common.{◌≡◌, ◌∙◌, ◌+◌, Bool, arith, cond, not, inl, inr, ℕ, zero, suc, true, false, true≢false, List, [], ◌∷◌, ◌++◌, length, get_or, take, slice_get, Result, Ok, Err, is_err, Some, refl, sym, ap, ap₂, subst, ◌||◌}
 use Rattle.std.specs.Prelude.{OnErr, if◌then◌else◌, position}
 use Rattle.std.specs.Cmp.Lexicographic.{pointwise}
-use Rattle.std.specs.List.{list_any}
+use Rattle.std.specs.List.{list_any, position_or_len}
 use Rattle.indexmap.specs.IndexSet.{insert_key}
 use Rattle.std.proofs.lemmas.List.Quantifiers.{position-Some}
 use Rattle.std.proofs.lemmas.Option.{same_Some, slice_get-get_or}
@@ -85,3 +85,25 @@ on-err (Err x) P e h = h
 pub where-err : {X E : Type 0} (r : Result X E) (P : Type 0) → P → OnErr r P
 where-err (Ok x) P h = tt
 where-err (Err x) P h = h
+
+-- where no key passes a test, the place behind all
+behind-all : (test : GroupKey → Bool) (ks : List GroupKey) → list_any test ks ≡ false → position_or_len test ks ≡ length ks
+behind-all test [] none = refl
+behind-all test (k ∷ ks) none = by (test k) none (behind-all test ks)
+  where
+    by : (b : Bool) → (b || list_any test ks) ≡ false → (list_any test ks ≡ false → position_or_len test ks ≡ length ks) → cond (not b) (1 + position_or_len test ks) 0 ≡ suc (length ks)
+    by true e rest = absurd (true≢false e)
+    by false e rest = let same = rest e in omega (arith, same)
+
+-- a key that is inserted where it is not there has its place
+pub opens-inserted : (j : JobShape) (ks new : List GroupKey) (k : GroupKey) (p : ℕ) → AreKeys j ks → IsKey j k → new ≡ insert_key keys_equal ks k → p ≡ position_or_len (keys_equal k) ks → (there : GroupKey) × (slice_get new p ≡ Some there) × (keys_equal k there ≡ true)
+    → Opens j ks new (cells_in j k) p × AreKeys j new
+opens-inserted j ks new k p are is made at found = by (list_any (keys_equal k) ks) refl made
+  where
+    by : (b : Bool) → list_any (keys_equal k) ks ≡ b → new ≡ (if b then ks else ks ++ k ∷ []) → Opens j ks new (cells_in j k) p × AreKeys j new
+    by true e same =
+        let keys = subst (AreKeys j) (sym same) are in
+        (record { placed = placed-by j new k found.0 p keys is found.1 found.2; grown = inl same }, keys)
+    by false e same =
+        let keys = subst (AreKeys j) (sym same) (keys-more j ks k are is) in
+        (record { placed = placed-by j new k found.0 p keys is found.1 found.2; grown = inr (k, same, at ∙ behind-all (keys_equal k) ks e) }, keys)

@@ -168,16 +168,16 @@ within (y ∷ xs) zero x e = omega arith
 within (y ∷ xs) (suc k) x e = let lt = within xs k x e in omega (arith, lt)
 
 -- a property of the tallies up to a place, where it holds of those before it, and one more is changed
-pub done-more : (P : ℕ → List KeptTotal → Type 0) (tallies : List (List KeptTotal)) (k : ℕ) (x : List KeptTotal) → k < length tallies → ((i : ℕ) → i < k → P i (get_or tallies i [])) → P k x → (i : ℕ) → i < k + 1 → P i (get_or (set tallies k x) i [])
-done-more P tallies k x lt before here i below = by (nat_eq i k) refl
+pub done-more : {T : Type 0} (d : T) (P : ℕ → T → Type 0) (xs : List T) (k : ℕ) (x : T) → k < length xs → ((i : ℕ) → i < k → P i (get_or xs i d)) → P k x → (i : ℕ) → i < k + 1 → P i (get_or (set xs k x) i d)
+done-more d P xs k x lt before here i below = by (nat_eq i k) refl
   where
-    by : (b : Bool) → nat_eq i k ≡ b → P i (get_or (set tallies k x) i [])
+    by : (b : Bool) → nat_eq i k ≡ b → P i (get_or (set xs k x) i d)
     by true e =
         let is : i ≡ k = eqb-true i k e in
-        subst (λ n. P n (get_or (set tallies k x) n [])) (sym is) (subst (P k) (sym (get_or-set_same tallies k x [] lt)) here)
+        subst (λ n. P n (get_or (set xs k x) n d)) (sym is) (subst (P k) (sym (get_or-set_same xs k x d lt)) here)
     by false e =
         let other : i ≢ k = λ h. cc (sym (eq-eqb i k h) ∙ e) in
-        subst (P i) (sym (get_or-set_other tallies k i x [] other)) (before i (omega (arith, below, other)))
+        subst (P i) (sym (get_or-set_other xs k i x d other)) (before i (omega (arith, below, other)))
 
 -- ---- room for more groups
 

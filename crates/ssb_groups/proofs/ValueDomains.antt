@@ -11,9 +11,8 @@ use Rattle.ssb_cells.specs.Codes.{code_of}
 use Rattle.ssb_cells.specs.Tables.{Filled, Columns}
 use Rattle.std.proofs.lemmas.Nat.{div_below}
 use Rattle.std.proofs.lemmas.Option.{same_Some}
-use Rattle.ssb_keys.specs.Domains.{AreIn, IsIn, IsLawful, cell, cells, radix, size}
+use Rattle.ssb_keys.specs.Domains.{IsIn, IsLawful, cell, cells, radix, size}
 use Rattle.ssb_keys.specs.declared.domain.Domain.{Domain}
-use Rattle.ssb_keys.specs.declared.kept.Kept.{Kept}
 use Rattle.ssb_keys.specs.declared.kept.Kept.TheVariants as kept
 use Rattle.ssb_plan.specs.Inputs.{has_column, table_at, values_in}
 use Rattle.ssb_plan.specs.JobShape.{JobShape}
@@ -87,12 +86,6 @@ pub cell-is-in : (tables : List Columns) (rows : List ℕ) (r : ColumnRef) → I
 cell-is-in tables rows r h = read-in (slice_get (table_at tables r.table) r.column) (unwrap_or (slice_get rows r.place) 0) h
 
 -- ---- several columns
-
-pub one-more-in : (ds : List Domain) (cs : List Kept) (d : Domain) (c : Kept) → AreIn ds cs → IsIn d c → AreIn (ds ++ d ∷ []) (cs ++ c ∷ [])
-one-more-in [] [] d c p q = (q, tt)
-one-more-in [] (k ∷ cs) d c p q = absurd p
-one-more-in (e ∷ ds) [] d c p q = absurd p
-one-more-in (e ∷ ds) (k ∷ cs) d c p q = (p.0, one-more-in ds cs d c p.1 q)
 
 pub size-append : (ds : List Domain) (d : Domain) → size (ds ++ d ∷ []) ≡ size ds * radix d
 size-append [] d = omega arith

@@ -9,6 +9,7 @@ use Rattle.ssb_cells.specs.Codes.{code_of, texts_of}
 use Rattle.ssb_cells.specs.Tables.{Filled, Columns}
 use Rattle.ssb_conditions.specs.Rows.{column_value}
 use Rattle.ssb_keys.specs.Domains.{AreIn, IsLawful, cells, size}
+use Rattle.ssb_keys.specs.Domains.{number as number_of}
 use Rattle.ssb_keys.specs.declared.domain.Domain.{Domain}
 use Rattle.ssb_keys.specs.declared.domain.Domain.TheVariants as domain
 use Rattle.ssb_plan.specs.Inputs.{column_ref, table_at, values_in}
@@ -119,6 +120,21 @@ HasNumbers j = size (domains_of j) ≤ 2 ^ 62
 abbrev pub HasCells : JobShape → Type 0
 HasCells j = 2 ^ 62 < size (domains_of j)
 
+-- the domains of a job's group columns, where its keys are numbers
+pub record HasDomains (j : JobShape) (ds : List Domain) : Type 0 where
+  pub domains : ds ≡ domains_of j
+  pub few : HasNumbers j
+
+-- the number of a combination's key
+pub record IsNumberOf (j : JobShape) (rows : List ℕ) (n : ℕ) : Type 0 where
+  pub number : n ≡ number_of (domains_of j) (key_of j rows)
+  pub there : AreIn (domains_of j) (key_of j rows)
+
+-- those of a block's combinations
+pub record AreNumbersOf (j : JobShape) (block : List (List ℕ)) (ns : List ℕ) : Type 0 where
+  pub many : length ns ≡ length block
+  pub each : (i : ℕ) (rows : List ℕ) → slice_get block i ≡ Some rows → IsNumberOf j rows (get_or ns i 0)
+
 -- what stands for the values of a key
 abbrev pub kept_in : JobShape → GroupKey → List Kept
 kept_in j (form.Number n) = cells (domains_of j) n
@@ -137,11 +153,6 @@ IsForm j (form.Cells v) = HasCells j
 pub record IsKey (j : JobShape) (k : GroupKey) : Type 0 where
   pub form : IsForm j k
   pub kept : AreKept (key_columns j) (kept_in j k)
-
--- what stands for the values of each group column is among its domain
-pub record AreCells (j : JobShape) (cells : List Kept) : Type 0 where
-  pub there : AreIn (domains_of j) cells
-  pub kept : AreKept (key_columns j) cells
 
 abbrev pub AreLawful : List Domain → Type 0
 AreLawful [] = ⊤
@@ -165,6 +176,9 @@ abbrev pub IsOfKind : ColType → Kept → Type 0
 IsOfKind kinds.Int (kept.Code code) = ⊥
 IsOfKind kinds.Text (kept.Number n) = ⊥
 IsOfKind kind cell = ⊤
+
+abbrev pub AreOfKind : ColType → List Kept → Type 0
+AreOfKind kind cells = (n : ℕ) → n < length cells → IsOfKind kind (get_or cells n kept.Null)
 
 -- the cells of a key that has them one by one
 abbrev pub cells_alone : GroupKey → Option (List Kept)

@@ -1,9 +1,11 @@
 pub mod Added
 pub mod Aggregates
+pub mod Alone
 pub mod Gathering
 pub mod Joining
 pub mod Keys
 pub mod Outcomes
+pub mod Pairs
 pub mod Places
 pub mod Refs
 pub mod Rows

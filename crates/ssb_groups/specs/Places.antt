@@ -1,6 +1,6 @@
 -- Where the groups of rows stand among all groups.
 -- For the contracts inside this crate.
-use Rattle.std.specs.Prelude.{◌≡◌, ◌⊎◌, ⊤, ℕ, ◌+◌, ◌<◌, ◌≤◌, ◌^◌, true, nat_eq, cond, List, [], ◌∷◌, ◌++◌, length, get_or, Some, slice_get}
+use Rattle.std.specs.Prelude.{◌≡◌, ◌⊎◌, ⊤, ℕ, ◌+◌, ◌<◌, ◌≤◌, ◌^◌, true, nat_eq, cond, List, [], ◌∷◌, ◌++◌, length, get_or, Option, None, Some, slice_get}
 use Rattle.std.specs.List.{All}
 use Rattle.ssb_cells.specs.Cell.{Cell}
 use Rattle.ssb_cells.specs.Tables.{Columns}
@@ -14,7 +14,9 @@ use Rattle.ssb_groups.specs.Rows.{Key, SeenRow, key_eq}
 use Rattle.ssb_groups.specs.Stands.{AreRanged}
 use Rattle.ssb_groups.specs.Tallies.{AllTell, AreTallies, Tells, texts_of, total_at}
 use Rattle.ssb_groups.specs.declared.key.GroupKey.{GroupKey}
+use Rattle.ssb_groups.specs.declared.key.GroupKey.TheVariants as form
 use Rattle.ssb_groups.specs.declared.joining.Joining.{Joining}
+use Rattle.ssb_groups.specs.declared.places.Found.{Found}
 use Rattle.ssb_groups.specs.declared.kept.KeptTotal.{KeptTotal}
 use Rattle.ssb_groups.specs.declared.kept.KeptTotal.TheVariants as total
 
@@ -24,6 +26,10 @@ use Rattle.ssb_groups.specs.declared.kept.KeptTotal.TheVariants as total
 abbrev pub AreKeys : JobShape → List GroupKey → Type 0
 AreKeys j [] = ⊤
 AreKeys j (k ∷ ks) = IsKey j k × AreKeys j ks
+
+-- the values of a key that is a number
+abbrev pub number_cells : JobShape → ℕ → Key
+number_cells j n = cells_in j (form.Number n)
 
 -- a key of these values stands at a place
 pub record IsPlaced (j : JobShape) (ks : List GroupKey) (values : Key) (place : ℕ) : Type 0 where
@@ -37,6 +43,11 @@ ArePlaced j ks [] [] = ⊤
 ArePlaced j ks [] (p ∷ ps) = ⊥
 ArePlaced j ks (v ∷ vs) [] = ⊥
 ArePlaced j ks (v ∷ vs) (p ∷ ps) = IsPlaced j ks v p × ArePlaced j ks vs ps
+
+-- a key that is a number, where there is one, stands at its place
+abbrev pub IsFound : JobShape → List GroupKey → Option Found → Type 0
+IsFound j ks None = ⊤
+IsFound j ks (Some f) = IsPlaced j ks (number_cells j f.number) f.place
 
 -- a list begins with another
 abbrev pub IsFront : List GroupKey → List GroupKey → Type 0

@@ -1,6 +1,6 @@
 -- What is read of a combination where a job's columns stand in the tables.
 -- Source: own; for the contracts inside this crate.
-use Rattle.std.specs.Prelude.{ℕ, ◌<◌, pos, List, [], ◌∷◌, length, Option, None, Some, slice_get, unwrap_or, ⊤}
+use Rattle.std.specs.Prelude.{◌≡◌, ℕ, ◌<◌, pos, List, [], ◌∷◌, length, get_or, option_map, Option, None, Some, slice_get, unwrap_or, ⊤}
 use Rattle.ssb_cells.specs.Cell.{Cell, null, number}
 use Rattle.ssb_cells.specs.Tables.{rows_in, Columns}
 use Rattle.ssb_conditions.specs.Rows.{column_value}
@@ -13,6 +13,7 @@ use Rattle.ssb_query.specs.declared.column.BoundColumn.{BoundColumn}
 use Rattle.ssb_groups.specs.Keys.{kept_cell}
 use Rattle.ssb_groups.specs.Value.{Outcome, column_outcome, known, number_of}
 use Rattle.ssb_keys.specs.declared.kept.Kept.{Kept}
+use Rattle.ssb_keys.specs.declared.kept.Kept.TheVariants as kept
 
 -- a column is one of these tables'
 pub record IsColumn (tables : List Columns) (r : ColumnRef) : Type 0 where
@@ -33,6 +34,11 @@ abbrev pub cell_in : List Columns → List ℕ → ColumnRef → Kept
 cell_in tables rows r =
     let values : List Cell = values_of tables r in
     kept_cell values (unwrap_or (slice_get values (unwrap_or (slice_get rows r.place) 0)) null)
+
+-- what stands for the values of so many rows of a column
+pub record AreCellsOf (values : List Cell) (rows : List ℕ) (count : ℕ) (cells : List Kept) : Type 0 where
+  pub many : length cells ≡ count
+  pub each : (at : ℕ) → at < count → option_map (kept_cell values) (slice_get values (get_or rows at 0)) ≡ Some (get_or cells at kept.Null)
 
 -- where there may be no column, there is no text
 

@@ -1,21 +1,21 @@
 // The columns of a job's groups and of its aggregates: how the key of a row is read in them, how totals are
 // joined, and how both are spelt.
 
-ghost use Rattle.std.specs.Prelude.{◌≡◌, ◌<◌, true, get_or, length, map, IfOk, OnOk};
-ghost use Rattle.std.specs.List.{list_all};
+ghost use Rattle.std.specs.Prelude.{◌≡◌, ◌<◌, true, get_or, length, map, IfNone, IfOk, IfSome, OnOk};
+ghost use Rattle.std.specs.List.{All, list_all};
 ghost use Rattle.ssb_cells.specs.Values.{cell_of};
 ghost use Rattle.ssb_conditions.specs.Rows.{IsCombination};
 ghost use Rattle.ssb_plan.specs.Inputs.{column_ref, has_column, values_of};
 ghost use Rattle.ssb_plan.specs.JobShape.{from_tables};
 ghost use Rattle.ssb_groups.specs.Tallies.{AreTotals, lists, totals_at, totals_in};
 ghost use Rattle.ssb_groups.specs.Joining.{AreJoinings, IsJoining, joinings_of, values_by};
-ghost use Rattle.ssb_groups.specs.Keys.{AreCells, AreKept, AreLawful, IsKept, IsKey, cells_in, domains_of, kept_in, kept_total, key_columns, key_of, spelt, spelt_cell};
-ghost use Rattle.ssb_keys.specs.Domains.{AreIn, cells, size};
+ghost use Rattle.ssb_groups.specs.Keys.{AreKept, AreLawful, AreNumbersOf, HasCells, HasDomains, IsKept, IsKey, cells_in, domains_of, kept_in, kept_total, key_columns, key_of, spelt, spelt_cell};
+ghost use Rattle.ssb_keys.specs.Domains.{cells, size};
 ghost use Rattle.ssb_groups.specs.Refs.{IsColumn, IsSomeColumn, values_at};
 ghost use Rattle.ssb_groups.specs.Totals.{total_cell};
 ghost use Rattle.ssb_groups.specs.declared.kept.KeptTotal.TheVariants as totals;
 
-use crate::column::{cell_in, text_in};
+use crate::column::{cell_in, fill_cells, text_in};
 use crate::domains::domains_of;
 use crate::joining::Joining;
 use crate::kept::KeptTotal;
@@ -23,8 +23,8 @@ use crate::key::GroupKey;
 use crate::tallies::Tally;
 use crate::totals::Total;
 use ssb_cells::{Table, Value};
-use ssb_job::{Job, JoinedRow};
-use ssb_keys::{Domain, Kept, number};
+use ssb_job::{Block, Job, JoinedRow};
+use ssb_keys::{Domain, Kept, add_digits};
 use ssb_plan::ColumnRef;
 use std::alloc::{AllocError, Global};
 use std::marker::Model;
@@ -181,8 +181,7 @@ impl Columns {
     // the list has had as many.
     pub(crate) fn fill(&self, row: &JoinedRow, cells: &mut Vec<Kept>) -> Result<(), AllocError>
         requires { IsCombination (from_tables self.now) row.now }
-        ensures cells { OnOk result (cells.new.items ≡ key_of self.now row.now) }
-        ensures there { OnOk result (AreIn (domains_of self.now) cells.new.items) }
+        ensures { OnOk result (cells.new.items ≡ key_of self.now row.now) }
     {
         let tables = self.tables.as_slice();
         let rows = row.as_slice();
@@ -193,20 +192,38 @@ impl Columns {
         Ok(())
     }
 
-    // Makes a key that of these cells. It takes no memory once the key has had as many.
-    pub(crate) fn set_key(
-        &self,
-        alloc: Global,
-        cells: &[Kept],
-        key: &mut GroupKey,
-    ) -> Result<(), AllocError>
-        requires { AreCells self.now cells.now }
-        ensures kept { OnOk result (kept_in self.now key.new ≡ cells.now) }
-        ensures key { OnOk result (IsKey self.now key.new) }
+    // The domains of the group columns, where keys are numbers.
+    pub(crate) fn domains(&self) -> Option<&[Domain]>
+        ensures some { IfSome result (λ domains. HasDomains self.now domains.now) }
+        ensures none { IfNone result (HasCells self.now) }
     {
         match &self.domains {
-            Some(domains) => *key = GroupKey::Number(number(domains, cells)),
-            None => key.set_cells(alloc, cells)?,
+            Some(domains) => Some(domains.as_slice()),
+            None => None,
+        }
+    }
+
+    // Makes a list the numbers of the keys of a block's combinations, a column after the other.
+    pub(crate) fn number_keys(
+        &self,
+        domains: &[Domain],
+        block: &Block,
+        cells: &mut Vec<Kept>,
+        numbers: &mut Vec<u64>,
+    ) -> Result<(), AllocError>
+        requires domains { HasDomains self.now domains.now }
+        requires rows { All (IsCombination (from_tables self.now)) block.now }
+        ensures { OnOk result (AreNumbersOf self.now block.now numbers.new.items) }
+    {
+        let tables = self.tables.as_slice();
+        let keys = self.keys.as_slice();
+        let count = domains.len();
+        numbers.clear();
+        numbers.resize(block.len(), 0)?;
+        for done in 0..count {
+            let at = count - 1 - done;
+            fill_cells(tables, block, keys[at], cells)?;
+            add_digits(domains[at], cells.as_slice(), numbers.as_mut_slice());
         }
         Ok(())
     }

@@ -1,8 +1,7 @@
 // What the aggregates take of a row.
 
-ghost use Rattle.std.specs.Prelude.{◌≡◌, ◌<◌, ◌∷◌, [], true, cond, List, length, map, slice_get, None, Some, IfOk, IfSome, OnOk};
+ghost use Rattle.std.specs.Prelude.{◌≡◌, ◌<◌, ℕ, pos, true, cond, get_or, length, map, slice_get, None, Some, IfOk, IfSome, OnOk};
 ghost use Rattle.std.specs.List.{All, list_all};
-ghost use Rattle.ssb_cells.specs.Cell.{Cell};
 ghost use Rattle.ssb_query.specs.declared.column.BoundColumn.{BoundColumn as AnyColumn};
 ghost use Rattle.ssb_trees.specs.declared.aggregate.Aggregate.{Aggregate as AnyAggregate};
 ghost use Rattle.ssb_trees.specs.declared.aggregate.Aggregate.TheVariants as aggregates;
@@ -10,23 +9,27 @@ ghost use Rattle.ssb_trees.specs.declared.expr.Expr.{Expr as AnyExpr};
 ghost use Rattle.ssb_conditions.specs.Rows.{IsCombination};
 ghost use Rattle.ssb_plan.specs.Inputs.{has_column, input_columns, input_of};
 ghost use Rattle.ssb_plan.specs.JobShape.{from_tables};
-ghost use Rattle.ssb_groups.specs.Aggregates.{agg};
-ghost use Rattle.ssb_groups.specs.Gathering.{AllTaken, AreTaken, IsTaken, facts_where, over_at, texts_by};
-ghost use Rattle.ssb_groups.specs.Keys.{IsKept, kept_total, spelt_cell};
+ghost use Rattle.ssb_groups.specs.Gathering.{AllTaken, AreTaken, AreTakenPlain, IsTaken, facts_where, over_at};
+ghost use Rattle.ssb_groups.specs.Keys.{IsKept};
 ghost use Rattle.ssb_groups.specs.Outcomes.{kept_outcome};
+ghost use Rattle.ssb_groups.specs.Pairs.{IsPairOf};
 ghost use Rattle.ssb_groups.specs.Refs.{input_texts, input_value};
 ghost use Rattle.ssb_groups.specs.Seen.{fact_of, seen};
 ghost use Rattle.ssb_groups.specs.Stands.{IsRanged, least, least_of, overflows};
 ghost use Rattle.ssb_groups.specs.Tallies.{lists};
-ghost use Rattle.ssb_groups.specs.Value.{known};
+ghost use Rattle.ssb_groups.specs.declared.kept.KeptTotal.TheVariants as tally;
+ghost use Rattle.ssb_plan.specs.declared.input.Input.TheVariants as inputs;
 
-use crate::column::cell;
+use crate::alone::{alone, alone_all, apply_all};
+use crate::column::{cell, fill_cells};
 use crate::evaluate::number;
 use crate::kept::KeptTotal;
+use crate::pair::{Pair, pair_of};
+use crate::room::Room;
 use crate::tallies::Tally;
 use ssb_job::{Block, Job, JoinedRow};
 use ssb_keys::Kept;
-use ssb_plan::Input;
+use ssb_plan::{ColumnRef, Input};
 use ssb_query::BoundColumn;
 use ssb_trees::{Aggregate, SetFunction};
 use std::alloc::AllocError;
@@ -54,29 +57,6 @@ fn value(job: &Job, row: &JoinedRow, input: &Input) -> Option<Kept>
         Input::Rows => Some(Kept::Number(1)),
         Input::Column(column) => Some(cell(job, row, *column)),
         Input::Number(expr) => number(job, row, expr).kept(),
-    }
-}
-
-// A set function over one value alone.
-fn alone(function: SetFunction, cell: Kept) -> KeptTotal
-    ensures spelt { (values : List Cell) (e : AnyExpr AnyColumn) → spelt_cell (texts_by function values) (kept_total result) ≡ agg (aggregates.Of function e) (known (spelt_cell values cell) ∷ []) }
-    ensures kept { (values : List Cell) → IsKept values cell → IsKept (texts_by function values) (kept_total result) }
-{
-    match function {
-        SetFunction::Sum => match cell {
-            Kept::Null => KeptTotal::Null,
-            Kept::Number(number) => KeptTotal::Number(i128::from(number)),
-            Kept::Code(_) => KeptTotal::Number(0),
-        },
-        SetFunction::Count => match cell {
-            Kept::Null => KeptTotal::Number(0),
-            Kept::Number(_) | Kept::Code(_) => KeptTotal::Number(1),
-        },
-        SetFunction::Min | SetFunction::Max => match cell {
-            Kept::Null => KeptTotal::Null,
-            Kept::Number(number) => KeptTotal::Number(i128::from(number)),
-            Kept::Code(code) => KeptTotal::Code(code),
-        },
     }
 }
 
@@ -133,9 +113,96 @@ fn least_with(job: &Job, row: &JoinedRow, taken: Taken, so_far: Option<u32>) -> 
     }
 }
 
-// Fills a tally with an aggregate over each combination of a block alone. The least row of the fact table at which
+// Fills a tally with COUNT(*) over each of so many combinations alone.
+fn gather_count(count: usize, totals: &mut Tally) -> Result<(), AllocError>
+    ensures many { OnOk result (length totals.new.items ≡ count) }
+    ensures each { OnOk result ((n : ℕ) → n < count → get_or totals.new.items n tally.Null ≡ tally.Number (pos 1)) }
+{
+    totals.clear();
+    totals.resize(count, KeptTotal::Number(1))
+}
+
+// Fills a tally with a set function over a column's value in each combination of a block alone.
+fn gather_values(
+    job: &Job,
+    block: &Block,
+    function: SetFunction,
+    column: ColumnRef,
+    cells: &mut Vec<Kept>,
+    totals: &mut Tally,
+) -> Result<(), AllocError>
+    requires rows { All (IsCombination (from_tables job.now)) block.now }
+    requires there { has_column job.now.query job.now.tables column ≡ true }
+    ensures { OnOk result ((e : AnyExpr AnyColumn) → input_of job.now.query (aggregates.Of function e) ≡ inputs.Column column → AreTakenPlain job.now (aggregates.Of function e) block.now totals.new.items) }
+{
+    fill_cells(job.tables(), block, column, cells)?;
+    totals.resize(cells.len(), KeptTotal::Null)?;
+    alone_all(function, cells.as_slice(), totals.as_mut_slice());
+    Ok(())
+}
+
+// Fills a tally with a set function over an expression of two columns in each combination of a block alone. Whether
+// it is nowhere Over: if it is, the tally is of no matter.
+fn gather_pairs(
+    job: &Job,
+    block: &Block,
+    function: SetFunction,
+    pair: Pair,
+    room: &mut Room,
+    totals: &mut Tally,
+) -> Result<bool, AllocError>
+    requires rows { All (IsCombination (from_tables job.now)) block.now }
+    requires left { has_column job.now.query job.now.tables pair.left ≡ true }
+    requires right { has_column job.now.query job.now.tables pair.right ≡ true }
+    ensures { IfOk result (λ plain. (e : AnyExpr AnyColumn) (x : AnyExpr ColumnRef) → plain ≡ true → input_of job.now.query (aggregates.Of function e) ≡ inputs.Number x → IsPairOf x pair → AreTakenPlain job.now (aggregates.Of function e) block.now totals.new.items) }
+{
+    fill_cells(job.tables(), block, pair.left, &mut room.cells)?;
+    fill_cells(job.tables(), block, pair.right, &mut room.right_cells)?;
+    totals.resize(room.cells.len(), KeptTotal::Null)?;
+    Ok(apply_all(
+        pair.operation,
+        function,
+        room.cells.as_slice(),
+        room.right_cells.as_slice(),
+        totals.as_mut_slice(),
+    ))
+}
+
+// Fills a tally with an aggregate over each combination of a block alone, by loops over columns. Whether there are such
+// loops for what it takes, and it is nowhere Over: if not, the tally is of no matter.
+fn gather_plain(
+    job: &Job,
+    block: &Block,
+    aggregate: &Aggregate<BoundColumn>,
+    input: &Input,
+    room: &mut Room,
+    totals: &mut Tally,
+) -> Result<bool, AllocError>
+    requires rows { All (IsCombination (from_tables job.now)) block.now }
+    requires input { input.now ≡ input_of job.now.query aggregate.now }
+    requires there { list_all (has_column job.now.query job.now.tables) (input_columns input.now) ≡ true }
+    ensures { IfOk result (λ plain. plain ≡ true → AreTakenPlain job.now aggregate.now block.now totals.new.items) }
+{
+    match (aggregate, input) {
+        (Aggregate::Rows, _) => {
+            gather_count(block.len(), totals)?;
+            Ok(true)
+        }
+        (Aggregate::Of(function, _), Input::Column(column)) => {
+            gather_values(job, block, *function, *column, &mut room.cells, totals)?;
+            Ok(true)
+        }
+        (Aggregate::Of(function, _), Input::Number(expr)) => match pair_of(expr) {
+            Some(pair) => gather_pairs(job, block, *function, pair, room, totals),
+            None => Ok(false),
+        },
+        (Aggregate::Of(_, _), Input::Rows) => Ok(false),
+    }
+}
+
+// Fills a tally with an aggregate over each combination of a block alone, one after the other. The least row of the fact table at which
 // its argument is Over, or the one that is given where that is less.
-fn gather_column(
+fn gather_rows(
     job: &Job,
     block: &Block,
     place: usize,
@@ -162,11 +229,36 @@ fn gather_column(
     Ok(found)
 }
 
+// Fills a tally with an aggregate over each combination of a block alone, by loops over columns where it takes one, or
+// two that are nowhere Over together. The least row of the fact table at which its argument is Over, or the one that is
+// given where that is less.
+fn gather_column(
+    job: &Job,
+    block: &Block,
+    place: usize,
+    so_far: Option<u32>,
+    room: &mut Room,
+    totals: &mut Tally,
+) -> Result<Option<u32>, AllocError>
+    requires rows { All (IsCombination (from_tables job.now)) block.now }
+    requires place { place < length job.now.query.aggregates }
+    ensures least { IfOk result (λ n. (a : AnyAggregate AnyColumn) → slice_get job.now.query.aggregates place ≡ Some a → n ≡ least_of so_far (least (facts_where job.now (over_at job.now a) block.now))) }
+    ensures taken { OnOk result ((a : AnyAggregate AnyColumn) → slice_get job.now.query.aggregates place ≡ Some a → AreTaken job.now a block.now totals.new.items) }
+{
+    let aggregates = job.query().parts().aggregates.as_slice();
+    let inputs = job.plan().inputs.as_slice();
+    if gather_plain(job, block, &aggregates[place], &inputs[place], room, totals)? {
+        return Ok(so_far);
+    }
+    gather_rows(job, block, place, so_far, totals)
+}
+
 // Fills tallies with the aggregates over each combination of a block alone. The least row of the fact table at which
 // an argument is Over.
 pub(crate) fn gather(
     job: &Job,
     block: &Block,
+    room: &mut Room,
     totals: &mut [Tally],
 ) -> Result<Option<u32>, AllocError>
     requires rows { All (IsCombination (from_tables job.now)) block.now }
@@ -177,7 +269,7 @@ pub(crate) fn gather(
 {
     let mut found = None;
     for at in 0..totals.len() {
-        found = gather_column(job, block, at, found, &mut totals[at])?;
+        found = gather_column(job, block, at, found, room, &mut totals[at])?;
     }
     Ok(found)
 }

@@ -138,7 +138,7 @@ impl Groups {
         ensures counted { OnOk result (self.new.counted ≡ self.old.counted + length block.now) }
         ensures err { OnErr result (self.new ≡ self.old) }
     {
-        match gather(job, block, &mut self.totals)? {
+        match gather(job, block, &mut self.room, &mut self.totals)? {
             Some(fact) => {
                 self.store.add_over(fact, block.len() as u32);
                 Ok(())

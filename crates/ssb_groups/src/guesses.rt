@@ -13,14 +13,18 @@ pub(crate) struct Guesses {
     places: Vec<u32>,
 }
 
-// Where the guess of a key stands among so many, a power of two: by the high bits of a product with an odd number, so
-// that keys which differ anywhere stand apart. Only numbers have one of their own.
+// How many low bits of a number say by themselves where its guess stands.
+const LOW_BITS: u32 = 20;
+
+// Where the guess of a key stands among so many, a power of two. Small numbers stand side by side, so that no two share a
+// place where there are as many places as numbers; what is above their low bits is mixed in. Only numbers have a place
+// of their own.
 #[inline(always)]
 fn spot(key: &GroupKey, count: usize) -> usize {
     match key {
         GroupKey::Number(number) => {
-            let mixed = number.wrapping_mul(0x9E37_79B9_7F4A_7C15) >> 32;
-            mixed as usize & count.wrapping_sub(1)
+            let high = (*number >> LOW_BITS).wrapping_mul(0x9E37_79B9_7F4A_7C15) >> 32;
+            (*number ^ high) as usize & count.wrapping_sub(1)
         }
         GroupKey::Cells(_) => 0,
     }

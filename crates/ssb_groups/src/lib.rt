@@ -4,12 +4,13 @@
 //!   `add_block`, `merge`; [`Group`] and [`Total`], which they lend.
 //! - Callers: `ssb_pipeline`, whose parts hold groups; `ssb_rows`, which makes rows of them.
 //! - Files: `groups`, `store`, `table`; `places`, `guesses`, `room`: where keys stand; `key`, `kept`, `column`,
-//!   `columns`, `domains`: keys; `evaluate`, `outcome`, `gather`: what a block adds; `totals`, `tallies`, `joining`:
+//!   `columns`, `domains`: keys; `gather`, `alone`, `pair`, `evaluate`, `outcome`: what a block adds; `totals`, `tallies`, `joining`:
 //!   aggregates.
 //! - Definitions: `Value`, `Aggregates`, `Rows`, `Seen`, `Stands`, `Added`: what groups stand for; `Keys`,
-//!   `Refs`, `Places`, `Tallies`, `Joining`, `Gathering`, `Outcomes`, `Totals`: how they are kept.
+//!   `Refs`, `Places`, `Tallies`, `Joining`, `Gathering`, `Alone`, `Pairs`, `Outcomes`, `Totals`: how they are kept.
 #![tactic(auto)]
 
+mod alone;
 mod column;
 mod columns;
 mod domains;
@@ -21,6 +22,7 @@ mod joining;
 mod kept;
 mod key;
 mod outcome;
+mod pair;
 mod places;
 mod room;
 mod store;

@@ -9,8 +9,12 @@ use std::alloc::Global;
 #[derive(Drop)]
 pub(crate) struct Room {
     pub(crate) alloc: Global,
-    /// What stands for the values of the group columns of one combination.
+    /// What stands for the values of a column, or of the group columns of one combination.
     pub(crate) cells: Vec<Kept>,
+    /// What stands for the values of a second column.
+    pub(crate) right_cells: Vec<Kept>,
+    /// The number of each combination's key.
+    pub(crate) numbers: Vec<u64>,
     /// Its key.
     pub(crate) key: GroupKey,
     /// The place of each combination's key.
@@ -24,6 +28,8 @@ impl Room {
         Room {
             alloc,
             cells: Vec::new(alloc),
+            right_cells: Vec::new(alloc),
+            numbers: Vec::new(alloc),
             key: GroupKey::Number(0),
             places: Vec::new(alloc),
             guesses: Guesses::new(alloc),

@@ -6,14 +6,14 @@ ghost use Rattle.indexmap.specs.IndexSet.{IsUnique};
 ghost use Rattle.ssb_conditions.specs.Rows.{IsCombination};
 ghost use Rattle.ssb_plan.specs.JobShape.{from_tables};
 ghost use Rattle.ssb_groups.specs.Gathering.{key_at};
-ghost use Rattle.ssb_groups.specs.Keys.{cells_in};
+ghost use Rattle.ssb_groups.specs.Keys.{HasCells, cells_in};
 ghost use Rattle.ssb_groups.specs.Places.{AreGrown, AreKeys, IsFront, IsTable, JoinsGrown, JoinsRows, OpenAll};
 ghost use Rattle.ssb_groups.specs.Tallies.{AreTallies, lists};
 ghost use Rattle.ssb_groups.specs.contracts.key.GroupKeyPartialEq.TheImpl as key_test;
 
 use crate::columns::Columns;
 use crate::key::GroupKey;
-use crate::places::{Keys, open};
+use crate::places::{Keys, open, open_numbers};
 use crate::room::Room;
 use crate::tallies::{Tally, grow, join_all};
 use indexmap::IndexSet;
@@ -39,8 +39,34 @@ pub(crate) fn no_tallies(alloc: Global, count: usize) -> Result<Vec<Tally>, Allo
     Ok(tallies)
 }
 
-// Finds the places of the keys of a block's combinations, and adds the keys that are not there. Where memory is
-// refused, some may be added.
+// Finds the places of the keys of a block's combinations, one after the other, and adds those that are not there. Where
+// memory is refused, some may be added.
+fn open_rows(
+    columns: &Columns,
+    keys: &mut Keys,
+    block: &Block,
+    room: &mut Room,
+) -> Result<(), AllocError>
+    requires cells { HasCells columns.now }
+    requires unique { IsUnique key_test.eq-value.it keys.old }
+    requires keys { AreKeys columns.now keys.old.keys }
+    requires rows { All (IsCombination (from_tables columns.now)) block.now }
+    ensures unique { IsUnique key_test.eq-value.it keys.new }
+    ensures keys { AreKeys columns.now keys.new.keys }
+    ensures front { IsFront keys.old.keys keys.new.keys }
+    ensures opened { OnOk result (OpenAll columns.now keys.old.keys keys.new.keys (map (key_at columns.now) block.now) room.new.places.items) }
+{
+    room.places.clear();
+    for at in 0..block.len() {
+        columns.fill(&block.row(at), &mut room.cells)?;
+        room.key.set_cells(room.alloc, &room.cells)?;
+        let place = open(room.alloc, keys, &mut room.guesses, &room.key)?;
+        room.places.push(place)?;
+    }
+    Ok(())
+}
+
+// The same, by the numbers of the keys where they have some.
 fn open_block(
     columns: &Columns,
     keys: &mut Keys,
@@ -55,14 +81,18 @@ fn open_block(
     ensures front { IsFront keys.old.keys keys.new.keys }
     ensures opened { OnOk result (OpenAll columns.now keys.old.keys keys.new.keys (map (key_at columns.now) block.now) room.new.places.items) }
 {
-    room.places.clear();
-    for at in 0..block.len() {
-        columns.fill(&block.row(at), &mut room.cells)?;
-        columns.set_key(room.alloc, &room.cells, &mut room.key)?;
-        let place = open(room.alloc, keys, &mut room.guesses, &room.key)?;
-        room.places.push(place)?;
-    }
-    Ok(())
+    let Some(domains) = columns.domains() else {
+        return open_rows(columns, keys, block, room);
+    };
+    columns.number_keys(domains, block, &mut room.cells, &mut room.numbers)?;
+    open_numbers(
+        room.alloc,
+        columns,
+        keys,
+        &mut room.guesses,
+        &room.numbers,
+        &mut room.places,
+    )
 }
 
 // The same of the keys of other groups.

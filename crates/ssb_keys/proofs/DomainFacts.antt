@@ -1,7 +1,6 @@
 -- Values and numbers determine one another.
-use Rattle.std.proofs.Common.{◌≡◌, ◌∙◌, ℕ, zero, suc, ◌+◌, ◌*◌, ◌/◌, ◌%◌, ◌<◌, ◌≤◌, ℤ, pos, List, [], ◌∷◌, drop, get_or, length, refl, ap, ap₂, subst, arith}
+use Rattle.std.proofs.Common.{◌≡◌, ◌∙◌, ℕ, zero, suc, ◌+◌, ◌*◌, ◌/◌, ◌%◌, ◌<◌, ℤ, pos, List, [], ◌∷◌, refl, ap, ap₂, subst, arith}
 use Rattle.std.specs.Prelude.{◌-ℤ◌, ◌+ℤ◌, ◌≤ℤ◌, unsigned_abs}
-use Rattle.std.proofs.Math.Nat.{mul-le-mul_right}
 use Rattle.std.proofs.lemmas.Nat.{div-mul-add, mod-mul-add, mul-add-lt, div-add-mod', div_below, mod_below}
 use Rattle.std.proofs.lemmas.Int.{ints}
 use Rattle.ssb_keys.specs.Domains.{AreIn, IsIn, cell, cells, digit, number, radix, size}
@@ -85,51 +84,3 @@ number-cells (d ∷ ds) n h =
     let turned : radix d * size ds ≡ size ds * radix d = omega arith in
     let rest = number-cells ds (n / radix d) (div_below n (radix d) (size ds) some (subst (λ m. n < m) turned h)) in
     ap₂ (λ x y. x * radix d + y) rest (digit-cell d (n % radix d)) ∙ div-add-mod' n (radix d)
-
--- ---- one column after the other
-
-pub as-many : (ds : List Domain) (cs : List Kept) → AreIn ds cs → length cs ≡ length ds
-as-many [] [] p = refl
-as-many [] (c ∷ cs) p = absurd p
-as-many (d ∷ ds) [] p = absurd p
-as-many (d ∷ ds) (c ∷ cs) p = let rest = as-many ds cs p.1 in omega (arith, rest)
-
-pub in-at : (ds : List Domain) (cs : List Kept) (i : ℕ) (d : Domain) (c : Kept) → AreIn ds cs → i < length ds → IsIn (get_or ds i d) (get_or cs i c)
-in-at [] cs i d c p h = absurd (omega (arith, h))
-in-at (e ∷ ds) [] i d c p h = absurd p
-in-at (e ∷ ds) (k ∷ cs) zero d c p h = p.0
-in-at (e ∷ ds) (k ∷ cs) (suc i) d c p h = in-at ds cs i d c p.1 (omega (arith, h))
-
-in-drop : (ds : List Domain) (cs : List Kept) (i : ℕ) → AreIn ds cs → AreIn (drop i ds) (drop i cs)
-in-drop [] [] zero p = tt
-in-drop [] [] (suc i) p = tt
-in-drop [] (c ∷ cs) i p = absurd p
-in-drop (d ∷ ds) [] i p = absurd p
-in-drop (d ∷ ds) (c ∷ cs) zero p = p
-in-drop (d ∷ ds) (c ∷ cs) (suc i) p = in-drop ds cs i p.1
-
-size-drop : (ds : List Domain) (cs : List Kept) (i : ℕ) → AreIn ds cs → size (drop i ds) ≤ size ds
-size-drop [] [] zero p = omega arith
-size-drop [] [] (suc i) p = omega arith
-size-drop [] (c ∷ cs) i p = absurd p
-size-drop (d ∷ ds) [] i p = absurd p
-size-drop (d ∷ ds) (c ∷ cs) zero p = omega arith
-size-drop (d ∷ ds) (c ∷ cs) (suc i) p =
-    let rest = size-drop ds cs i p.1 in
-    let some = digit-below d c p.0 in
-    let more : 1 * size ds ≤ radix d * size ds = mul-le-mul_right (size ds) (omega (arith, some)) in
-    omega (arith, rest, more)
-
--- the number of the columns from one on
-pub number-from : (ds : List Domain) (cs : List Kept) (i : ℕ) (d : Domain) (c : Kept) → AreIn ds cs → i < length ds
-    → number (drop i ds) (drop i cs) ≡ number (drop (suc i) ds) (drop (suc i) cs) * radix (get_or ds i d) + digit (get_or ds i d) (get_or cs i c)
-number-from [] cs i d c p h = absurd (omega (arith, h))
-number-from (e ∷ ds) [] i d c p h = absurd p
-number-from (e ∷ ds) (k ∷ cs) zero d c p h = refl
-number-from (e ∷ ds) (k ∷ cs) (suc i) d c p h = number-from ds cs i d c p.1 (omega (arith, h))
-
-pub number-from-below : (ds : List Domain) (cs : List Kept) (i m : ℕ) → AreIn ds cs → size ds ≤ m → number (drop i ds) (drop i cs) < m
-number-from-below ds cs i m p h =
-    let below = number-below (drop i ds) (drop i cs) (in-drop ds cs i p) in
-    let fewer = size-drop ds cs i p in
-    omega (arith, below, fewer, h)

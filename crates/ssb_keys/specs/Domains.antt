@@ -58,6 +58,11 @@ number [] cs = 0
 number (d ∷ ds) [] = 0
 number (d ∷ ds) (c ∷ cs) = number ds cs * radix d + digit d c
 
+-- a number may have a digit more, that of a value
+pub record HasDigit (d : Domain) (n : ℕ) (c : Kept) : Type 0 where
+  pub there : IsIn d c
+  pub room : n * radix d + digit d c < 2 ^ 62
+
 -- the values of a number
 abbrev pub cells : List Domain → ℕ → List Kept
 cells [] n = []

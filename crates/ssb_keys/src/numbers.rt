@@ -1,24 +1,20 @@
 // The values of several columns, as one number.
 
-ghost use Rattle.std.specs.Prelude.{◌≡◌, ◌≤◌, ◌^◌};
-ghost use Rattle.ssb_keys.specs.Domains as spec;
-ghost use Rattle.ssb_keys.specs.Domains.{AreIn, size};
+ghost use Rattle.std.specs.Prelude.{◌≡◌, ◌<◌, ◌+◌, ◌*◌, ℕ, get_or, length};
+ghost use Rattle.ssb_keys.specs.Domains.{HasDigit, digit, radix};
+ghost use Rattle.ssb_keys.specs.declared.kept.Kept.TheVariants as kept;
 
 use crate::domain::Domain;
 use crate::kept::Kept;
 
-/// The number of a value of each domain. There may be 2^62 numbers.
-pub fn number(domains: &[Domain], cells: &[Kept]) -> u64
-    requires there { AreIn domains.now cells.now }
-    requires few { size domains.now ≤ 2 ^ 62 }
-    ensures { result ≡ spec.number domains.now cells.now }
+/// Puts the digit of a value of this domain below the digits of each number. There may be 2^62 numbers.
+pub fn add_digits(domain: Domain, cells: &[Kept], numbers: &mut [u64])
+    requires many { length numbers.old ≡ length cells.now }
+    requires room { (n : ℕ) → n < length cells.now → HasDigit domain (get_or numbers.old n 0) (get_or cells.now n kept.Null) }
+    ensures many { length numbers.new ≡ length numbers.old }
+    ensures each { (n : ℕ) → n < length cells.now → get_or numbers.new n 0 ≡ get_or numbers.old n 0 * radix domain + digit domain (get_or cells.now n kept.Null) }
 {
-    let count = domains.len();
-    let mut number = 0;
-    for done in 0..count {
-        let at = count - 1 - done;
-        let domain = domains[at];
-        number = number * domain.radix() + domain.digit(cells[at]);
+    for at in 0..numbers.len() {
+        numbers[at] = numbers[at] * domain.radix() + domain.digit(cells[at]);
     }
-    number
 }

@@ -37,7 +37,7 @@ loop-at-preserved c =
           (least-next j (take l.at aggs) a block l.found c.in_ok-found.found l.invariant.least (c.in_ok-found.ensures.least a one.1));
       taken = λ i b below at.
           subst (λ ts. AreTaken j b block (get_or ts i [])) (sym (map-set items l.totals l.at x))
-          (done-more (λ n t. (b : Aggregate BoundColumn) → slice_get aggs n ≡ Some b → AreTaken j b block t) (lists l.totals) l.at (items x) (omega (arith, lt, many, all, length-map l.totals items)) (λ n less b e. l.invariant.taken n b less e) (λ b e. c.in_ok-found.ensures.taken b e) i below b at);
+          (done-more [] (λ n t. (b : Aggregate BoundColumn) → slice_get aggs n ≡ Some b → AreTaken j b block t) (lists l.totals) l.at (items x) (omega (arith, lt, many, all, length-map l.totals items)) (λ n less b e. l.invariant.taken n b less e) (λ b e. c.in_ok-found.ensures.taken b e) i below b at);
       many = length-set l.totals l.at x ∙ many;
     }
 

@@ -7,7 +7,8 @@ use Rattle.ssb_conditions.specs.Rows.{column_value}
 use Rattle.ssb_plan.specs.Inputs.{input_of}
 use Rattle.ssb_plan.specs.JobShape.{JobShape, from_tables}
 use Rattle.ssb_groups.specs.Aggregates.{agg}
-use Rattle.ssb_groups.specs.Gathering.{IsTaken, texts_by}
+use Rattle.ssb_groups.specs.Alone.{texts_by}
+use Rattle.ssb_groups.specs.Gathering.{IsTaken}
 use Rattle.ssb_groups.specs.Joining.{joining_of, values_by}
 use Rattle.ssb_groups.specs.Keys.{IsKept, kept_total, spelt_cell}
 use Rattle.ssb_groups.specs.Outcomes.{kept_outcome}
@@ -37,7 +38,7 @@ returns-in-Of c =
     let texts : values_by j.tables (joining_of j (aggregate.Of f e)) ≡ texts_by f values = texts-are j f e ∙ ap (λ i. texts_by f (input_texts j.tables i)) (sym input) in
     let value : input_value j c.args.row.now c.args.input.now ≡ argument cell (aggregate.Of f e) = ap (input_value j c.args.row.now) input ∙ input-value j c.args.row.now (aggregate.Of f e) in
     let o = c.value-value.result in
-    let alone : spelt_cell (texts_by f values) (kept_total c.alone.result) ≡ agg (aggregate.Of f e) (known (spelt_cell values c.unwrap_or.result) ∷ []) = c.alone.ensures.spelt values e in
+    let alone : spelt_cell (texts_by f values) (kept_total c.alone.result) ≡ agg (aggregate.Of f e) (known (spelt_cell values c.unwrap_or.result) ∷ []) = (c.alone.ensures values).spelt e in
     let is : IsTaken j c.args.row.now (aggregate.Of f e) (record { over = c.is_none.result; total = c.alone.result }) =
     record {
       over = none-over values o c.is_none.result c.is_none.ensures ∙ ap is_over (c.value-value.ensures.value ∙ value);
@@ -46,7 +47,7 @@ returns-in-Of c =
           ∙ ap (λ x. agg (aggregate.Of f e) (x ∷ [])) (c.value-value.ensures.value ∙ value);
       kept =
           subst (λ v. IsKept v (kept_total c.alone.result)) (sym texts)
-          (c.alone.ensures.kept values (subst (IsKept values) (sym c.unwrap_or.ensures) (kept-or values o c.value-value.ensures.kept)));
+          ((c.alone.ensures values).kept (subst (IsKept values) (sym c.unwrap_or.ensures) (kept-or values o c.value-value.ensures.kept)));
       ranged = subst IsRanged value c.value-value.ensures.ranged;
     } in
     subst (λ (a : Aggregate BoundColumn). IsTaken j c.args.row.now a (record { over = c.is_none.result; total = c.alone.result })) (sym c.in-Of.is) is

@@ -35,5 +35,5 @@ loop-at-preserved c =
           (λ p. c.lengthen.ensures.same p ∙ ap (λ t. get_or t p total.Null) (sym here)));
       long = λ i below.
           subst (λ ts. c.args.groups ≤ length (get_or ts i [])) (sym (map-set items l.tallies l.at x))
-          (done-more (λ n t. c.args.groups ≤ length t) (lists l.tallies) l.at (items x) (omega (arith, lt, length-map l.tallies items)) l.invariant.long c.in_ok-lengthen.ensures.long i below);
+          (done-more [] (λ n t. c.args.groups ≤ length t) (lists l.tallies) l.at (items x) (omega (arith, lt, length-map l.tallies items)) l.invariant.long c.in_ok-lengthen.ensures.long i below);
     }

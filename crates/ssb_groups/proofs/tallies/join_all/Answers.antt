@@ -95,7 +95,7 @@ loop-at-preserved c =
     record {
       done = λ i lt.
           subst (λ xs. IsJoined c.tables-tables.result.now (get_or c.joinings-joinings.result.now i joining.Adds) c.args.places.now (get_or (lists c.args.more.now) i []) (get_or (lists c.args.tallies.now) i []) (get_or xs i [])) (sym changed)
-          (done-more (λ n t. IsJoined c.tables-tables.result.now (get_or c.joinings-joinings.result.now n joining.Adds) c.args.places.now (get_or (lists c.args.more.now) n []) (get_or (lists c.args.tallies.now) n []) t) (lists l.tallies) l.at x there l.invariant.done
+          (done-more [] (λ n t. IsJoined c.tables-tables.result.now (get_or c.joinings-joinings.result.now n joining.Adds) c.args.places.now (get_or (lists c.args.more.now) n []) (get_or (lists c.args.tallies.now) n []) t) (lists l.tallies) l.at x there l.invariant.done
           (subst (λ t. IsJoined c.tables-tables.result.now (get_or c.joinings-joinings.result.now l.at joining.Adds) c.args.places.now (get_or (lists c.args.more.now) l.at []) t x) old
           (subst (λ t. IsJoined c.tables-tables.result.now (get_or c.joinings-joinings.result.now l.at joining.Adds) c.args.places.now t c.as_mut_slice-tally.result.now x) more c.join_column.ensures)) i lt);
       later = λ i past. ap (λ xs. get_or xs i []) changed ∙ get_or-set_other (lists l.tallies) l.at i x [] (λ h. absurd (omega (arith, past, h))) ∙ l.invariant.later i (omega (arith, past));

@@ -1,10 +1,6 @@
-use Rattle.std.proofs.Common.{◌≡◌, ◌++◌, drop, map, take}
-use Rattle.ssb_keys.specs.Domains.{AreIn}
-use Rattle.ssb_groups.specs.Keys.{domain_of}
+use Rattle.std.proofs.Common.{◌≡◌, ◌++◌, drop, map}
 use Rattle.ssb_groups.specs.Refs.{cell_in}
 use Rattle.ssb_groups.proofs.columns.Columns.fill.Given as goal
 
 abbrev pub invariant-loop-column : goal.invariant-loop-column
-invariant-loop-column l =
-    (l.cells.items ++ map (cell_in l.tables l.rows) (drop l.column-index l.column-items) ≡ map (cell_in l.tables l.rows) l.column-items)
-    × AreIn (map (domain_of l.tables) (take l.column-index l.column-items)) l.cells.items
+invariant-loop-column l = l.cells.items ++ map (cell_in l.tables l.rows) (drop l.column-index l.column-items) ≡ map (cell_in l.tables l.rows) l.column-items

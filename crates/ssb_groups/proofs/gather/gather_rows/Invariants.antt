@@ -1,7 +1,7 @@
 use Rattle.std.proofs.Common.{◌≡◌, take}
 use Rattle.ssb_groups.specs.Gathering.{AreTaken, facts_where, over_at}
 use Rattle.ssb_groups.specs.Stands.{least, least_of}
-use Rattle.ssb_groups.proofs.gather.gather_column.Given as goal
+use Rattle.ssb_groups.proofs.gather.gather_rows.Given as goal
 
 abbrev pub invariant-loop-at : goal.invariant-loop-at
 invariant-loop-at l =

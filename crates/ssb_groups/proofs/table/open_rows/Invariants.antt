@@ -3,7 +3,7 @@ use Rattle.indexmap.specs.IndexSet.{IsUnique}
 use Rattle.ssb_groups.specs.Gathering.{key_at}
 use Rattle.ssb_groups.specs.Places.{AreKeys, OpenAll}
 use Rattle.ssb_groups.specs.contracts.key.GroupKeyPartialEq.TheImpl as key_test
-use Rattle.ssb_groups.proofs.table.open_block.Given as goal
+use Rattle.ssb_groups.proofs.table.open_rows.Given as goal
 
 abbrev pub invariant-loop-at : goal.invariant-loop-at
 invariant-loop-at l =

@@ -7,7 +7,7 @@ ghost use Rattle.ssb_job.specs.Kept.{AreOneJob};
 
 use crate::ends::{Done, Stop};
 use crate::files::small_job;
-use crate::numbers::{are_counts, numbers_job};
+use crate::numbers::{are_squares, numbers_job};
 use ssb_groups::Groups;
 use ssb_job::{Block, Job};
 use ssb_pipeline::{Part, Partial, ReturnFault, Ticket};
@@ -94,7 +94,7 @@ pub(crate) fn give_back(alloc: Global) -> Result<Done, Stop> {
     let done = give_all_back(alloc, &job, &mut part)?;
     drop(job);
     let groups = part.into_groups();
-    are_counts(alloc, &groups, 40, 1, 40)?;
+    are_squares(alloc, &groups, 40, 1, 40)?;
     drop(groups);
     Ok(done)
 }
@@ -117,8 +117,8 @@ fn groups_of_section(
 fn merge_again(alloc: Global, groups: &mut Groups, second: Groups) -> Result<Done, Stop>
     requires { AreOneJob groups.old.job second.job }
 {
-    are_counts(alloc, groups, 20, 1, 20)?;
-    are_counts(alloc, &second, 20, 21, 40)?;
+    are_squares(alloc, groups, 20, 1, 20)?;
+    are_squares(alloc, &second, 20, 21, 40)?;
     if groups.counted().checked_add(second.counted()).is_none() {
         return Err(Stop::Wrong);
     }
@@ -148,7 +148,7 @@ pub(crate) fn merge_sections(alloc: Global) -> Result<Done, Stop> {
     let second = groups_of_section(alloc, &job, 1)?;
     drop(job);
     let done = merge(alloc, &mut groups, second)?;
-    are_counts(alloc, &groups, 40, 1, 40)?;
+    are_squares(alloc, &groups, 40, 1, 40)?;
     drop(groups);
     Ok(done)
 }
@@ -198,7 +198,7 @@ pub(crate) fn partial_of_ticket(alloc: Global) -> Result<Done, Stop> {
     let done = bring_first_back(alloc, &job, &mut part)?;
     drop(job);
     let groups = part.into_groups();
-    are_counts(alloc, &groups, 10, 1, 10)?;
+    are_squares(alloc, &groups, 10, 1, 10)?;
     drop(groups);
     Ok(done)
 }

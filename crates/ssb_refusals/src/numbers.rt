@@ -1,5 +1,5 @@
-// A table of numbers that all differ, counted by number: as many groups as rows, so that groups outgrow
-// their room more than once.
+// A table of numbers that all differ, and the sum of the squares of each: as many groups as rows, so that groups outgrow
+// their room more than once, and an expression of two columns.
 
 use crate::ends::Stop;
 use crate::files::job_over;
@@ -16,22 +16,23 @@ const CATALOG: &[u8] = b"numbers|number|int|null\n";
 const NUMBERS: &[u8] = b"1\n2\n3\n4\n5\n6\n7\n8\n9\n10\n11\n12\n13\n14\n15\n16\n17\n18\n19\n20
 21\n22\n23\n24\n25\n26\n27\n28\n29\n30\n31\n32\n33\n34\n35\n36\n37\n38\n39\n40\n";
 
-const COUNTS: &str = "select count(*), number from numbers group by number";
+const SQUARES: &str = "select sum(number * number), number from numbers group by number";
 
 fn sources(alloc: Global) -> Result<Vec<In<&'static [u8]>>, AllocError> {
     Ok(vec![in alloc; In::new(NUMBERS)]?)
 }
 
-/// The job of counting the numbers.
+/// The job of squaring the numbers.
 pub(crate) fn numbers_job(alloc: Global) -> Result<Arc<Job, Global>, Stop> {
-    job_over(alloc, CATALOG, sources(alloc)?, COUNTS)
+    job_over(alloc, CATALOG, sources(alloc)?, SQUARES)
 }
 
-// Whether a group counts one number, from the least to the most.
+// Whether a group has the square of one number, from the least to the most.
 fn is_one_of(group: &Group, least: i64, most: i64) -> bool {
     match (group.key.as_slice(), group.totals.as_slice()) {
-        ([Value::Int(number)], [Total::Number(count)]) => {
-            least <= *number && *number <= most && *count == 1
+        ([Value::Int(number)], [Total::Number(square)]) => {
+            let wide = i128::from(*number);
+            least <= *number && *number <= most && *square == wide.wrapping_mul(wide)
         }
         _ => false,
     }
@@ -39,7 +40,7 @@ fn is_one_of(group: &Group, least: i64, most: i64) -> bool {
 
 /// An error where the groups are others than those of `count` numbers, from the least to the most, or a
 /// growth was refused.
-pub(crate) fn are_counts(
+pub(crate) fn are_squares(
     alloc: Global,
     groups: &Groups,
     count: usize,

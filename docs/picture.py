@@ -30,7 +30,7 @@ BOXES = [
     (660, 60, 210, 84, STAGE, ["order and write", "ssb_rows", "HAVING, ORDER BY, text", "to the output"]),
     (40, 400, 200, 84, VALUE, ["Parts", "a queue for each section", "each holds its Part:", "what is out, what is back, groups"]),
     (340, 370, 200, 44, STAGE, ["take, hand_out, put", "the least morsel not yet out"]),
-    (640, 400, 220, 84, STAGE, ["Partial::of, with no part held", "join_range: rows by columns,", "then their kept combinations", "add: to groups of the morsel"]),
+    (640, 400, 220, 84, STAGE, ["Partial::of, with no part held", "join_range: rows by columns,", "then their kept combinations", "add_block: to the morsel's groups"]),
     (340, 470, 200, 44, STAGE, ["take, give_back, put", "merges groups, marks the morsel"]),
     (640, 580, 220, 44, STAGE, ["give_up", "memory was refused"]),
     (340, 580, 200, 64, STAGE, ["finish", "sweeps what is left,", "merges the sections"]),

@@ -13,7 +13,7 @@ use Rattle.ssb_groups.specs.Places.{rows_at}
 use Rattle.ssb_groups.specs.Rows.{Key, SeenRow, key_eq}
 use Rattle.ssb_groups.specs.Stands.{AreRanged, GroupMap, Stands, group, least, least_of, overflows, summary}
 use Rattle.ssb_groups.specs.Tallies.{AllTell, AreTallies, IsTotal, entries_of, texts_of, total_at, totals_at, totals_in}
-use Rattle.ssb_groups.specs.declared.key.GroupKey.{GroupKey}
+use Rattle.ssb_groups.specs.GroupKeys.{GroupKey}
 use Rattle.ssb_groups.specs.declared.kept.KeptTotal.{KeptTotal}
 use Rattle.ssb_groups.proofs.Bounds.{summary_is}
 use Rattle.ssb_groups.proofs.GroupFacts.{AreApart, entries-keys, get-none, get-within, group-same, group_at, group_of, lookup-at, lookup-none, others-apart, search-key, summary-none, summary-some, totals-are, totals-each}

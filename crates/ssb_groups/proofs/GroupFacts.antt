@@ -13,7 +13,7 @@ use Rattle.ssb_groups.specs.Places.{AreKeys, IsPlaced}
 use Rattle.ssb_groups.specs.Rows.{Key, SeenRow, key_eq}
 use Rattle.ssb_groups.specs.Stands.{AreRanged, group, summary}
 use Rattle.ssb_groups.specs.Tallies.{AreTallies, AreTotals, entries_from, texts_of, total_at, totals_at, totals_in}
-use Rattle.ssb_groups.specs.declared.key.GroupKey.{GroupKey}
+use Rattle.ssb_groups.specs.GroupKeys.{GroupKey}
 use Rattle.ssb_groups.specs.declared.kept.KeptTotal.{KeptTotal}
 use Rattle.ssb_groups.specs.declared.kept.KeptTotal.TheVariants as total
 use Rattle.ssb_groups.proofs.KeyFacts.{key_eq_laws, key_same, keys_equal}

@@ -1,5 +1,5 @@
 -- Keys are equal where their values are.
-use Rattle.std.proofs.Common.{◌≡◌, ◌∙◌, ◌<◌, ℕ, ℤ, pos, nat_eq, bytes_eq, Bool, true, false, true≢false, ◌&&◌, List, [], ◌∷◌, Some, length, get_or, refl, sym, ap, ap₂, subst, arith}
+use Rattle.std.proofs.Common.{◌≡◌, ◌∙◌, ◌<◌, ℕ, ℤ, pos, nat_eq, bytes_eq, Bool, true, false, true≢false, ◌&&◌, List, [], ◌∷◌, length, get_or, refl, sym, ap, ap₂, subst, arith}
 use Rattle.std.specs.Bool.{Decides}
 use Rattle.std.specs.Cmp.{IsEquivalence}
 use Rattle.std.specs.Cmp.Lexicographic.{pointwise, bytes_decides}
@@ -16,12 +16,11 @@ use Rattle.ssb_keys.specs.Domains.{number as number_of}
 use Rattle.ssb_keys.specs.declared.domain.Domain.{Domain}
 use Rattle.ssb_keys.proofs.DomainFacts.{cells-number, number-below, number-cells}
 use Rattle.ssb_plan.specs.JobShape.{JobShape}
-use Rattle.ssb_groups.specs.Keys.{AreKept, HasCells, HasNumbers, IsCopy, IsKept, IsKey, cells_alone, cells_in, domains_of, kept_in, key_columns, spelt, spelt_cell}
+use Rattle.ssb_groups.specs.Keys.{AreKept, HasNumbers, IsKept, IsKey, cells_in, domains_of, key_columns, spelt, spelt_cell}
 use Rattle.ssb_groups.specs.Rows.{cell_eq, key_eq}
-use Rattle.ssb_groups.specs.contracts.key.GroupKeyPartialEq.TheImpl as group_keys
-use Rattle.ssb_keys.specs.contracts.kept.KeptPartialEq.TheImpl as key_cells
-use Rattle.ssb_groups.specs.declared.key.GroupKey.{GroupKey}
-use Rattle.ssb_groups.specs.declared.key.GroupKey.TheVariants as form
+use Rattle.ssb_groups.specs.GroupKeys.{cells_equal}
+use Rattle.ssb_groups.specs.GroupKeys.{GroupKey}
+use Rattle.ssb_groups.specs.GroupKeys as form
 use Rattle.ssb_keys.specs.declared.kept.Kept.{Kept}
 use Rattle.ssb_keys.specs.declared.kept.Kept.TheVariants as kept
 
@@ -62,13 +61,14 @@ cell_eq_laws = record { refl = cell_itself; symm = cell_flip; congr = cell_alike
 pub key_eq_laws : IsEquivalence key_eq
 key_eq_laws = lists_equiv cell_eq_laws
 
--- ---- the derived comparisons
+-- ---- the comparison of keys
 
-abbrev pub cells_equal : Kept → Kept → Bool
-cells_equal = key_cells.eq-value.it
-
+-- the same number, or the same cells
 abbrev pub keys_equal : GroupKey → GroupKey → Bool
-keys_equal = group_keys.eq-value.it
+keys_equal (form.Number n) (form.Number m) = nat_eq n m
+keys_equal (form.Number n) (form.Cells ys) = false
+keys_equal (form.Cells xs) (form.Number m) = false
+keys_equal (form.Cells xs) (form.Cells ys) = pointwise cells_equal xs ys
 
 -- codes of one column are equal exactly where their texts are
 codes_same : (values : List Cell) (a b : ℕ) → a < length (texts_of values) → b < length (texts_of values) → nat_eq a b ≡ bytes_eq (get_or (texts_of values) a []) (get_or (texts_of values) b [])
@@ -137,33 +137,9 @@ numbers_same ds n m p q =
 -- keys of one job are equal exactly where their values are
 pub key_same : (j : JobShape) (x y : GroupKey) → IsKey j x → IsKey j y → keys_equal x y ≡ key_eq (cells_in j x) (cells_in j y)
 key_same j (form.Number n) (form.Number m) p q = numbers_same (domains_of j) n m p.form.1 q.form.1 ∙ cells_same (key_columns j) _ _ p.kept q.kept
-key_same j (form.Number n) (form.Cells w) p q = absurd (omega (arith, p.form.0, q.form))
-key_same j (form.Cells v) (form.Number m) p q = absurd (omega (arith, p.form, q.form.0))
-key_same j (form.Cells v) (form.Cells w) p q = cells_same (key_columns j) v.items w.items p.kept q.kept
-
--- ---- the forms of a key
-
--- a copy of a key is one of the same values
-pub copy-cells : (j : JobShape) (k g : GroupKey) → IsCopy k g → cells_in j g ≡ cells_in j k
-copy-cells j (form.Number n) (form.Number m) same = ap (λ x. spelt (key_columns j) (cells (domains_of j) x)) same
-copy-cells j (form.Number n) (form.Cells w) same = absurd same
-copy-cells j (form.Cells v) (form.Number m) same = absurd same
-copy-cells j (form.Cells v) (form.Cells w) same = ap (spelt (key_columns j)) same
-
-pub copy-key : (j : JobShape) (k g : GroupKey) → IsCopy k g → IsKey j k → IsKey j g
-copy-key j (form.Number n) (form.Number m) same is = subst (λ x. IsKey j (form.Number x)) (sym same) is
-copy-key j (form.Number n) (form.Cells w) same is = absurd same
-copy-key j (form.Cells v) (form.Number m) same is = absurd same
-copy-key j (form.Cells v) (form.Cells w) same is = record { form = is.form; kept = subst (AreKept (key_columns j)) (sym same) is.kept }
-
--- a key of cells one by one
-pub alone-kept : (j : JobShape) (k : GroupKey) (cs : List Kept) → cells_alone k ≡ Some cs → kept_in j k ≡ cs
-alone-kept j (form.Number n) cs e = cc
-alone-kept j (form.Cells v) cs e = same_Some v.items cs e
-
-pub alone-key : (j : JobShape) (k : GroupKey) (cs : List Kept) → HasCells j → AreKept (key_columns j) cs → cells_alone k ≡ Some cs → IsKey j k
-alone-key j (form.Number n) cs has is e = cc
-alone-key j (form.Cells v) cs has is e = record { form = has; kept = subst (AreKept (key_columns j)) (sym (same_Some v.items cs e)) is }
+key_same j (form.Number n) (form.Cells ys) p q = absurd (omega (arith, p.form.0, q.form))
+key_same j (form.Cells xs) (form.Number m) p q = absurd (omega (arith, p.form, q.form.0))
+key_same j (form.Cells xs) (form.Cells ys) p q = cells_same (key_columns j) xs ys p.kept q.kept
 
 -- the key that is the number of cells
 pub number-key : (j : JobShape) (cs : List Kept) → HasNumbers j → AreIn (domains_of j) cs → AreKept (key_columns j) cs → IsKey j (form.Number (number_of (domains_of j) cs))

@@ -5,6 +5,7 @@ pub mod AnyRows
 pub mod Bounds
 pub mod ColumnFacts
 pub mod GroupFacts
+pub mod GroupKeysFacts
 pub mod InputFacts
 pub mod JoiningFacts
 pub mod KeyFacts

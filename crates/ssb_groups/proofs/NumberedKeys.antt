@@ -14,7 +14,7 @@ use Rattle.ssb_plan.specs.declared.input.ColumnRef.{ColumnRef}
 use Rattle.ssb_groups.specs.Gathering.{key_at}
 use Rattle.ssb_groups.specs.Keys.{AreNumbersOf, HasNumbers, IsKey, IsNumberOf, cells_in, domain_of, domains_of, key_columns, key_of, spelt}
 use Rattle.ssb_groups.specs.Places.{number_cells}
-use Rattle.ssb_groups.specs.declared.key.GroupKey.TheVariants as form
+use Rattle.ssb_groups.specs.GroupKeys as form
 use Rattle.ssb_groups.proofs.ColumnFacts.{key-kept, key-spelt}
 use Rattle.ssb_groups.proofs.KeyFacts.{number-key}
 use Rattle.ssb_groups.proofs.ValueDomains.{some-radix}

@@ -1,18 +1,14 @@
 -- Where keys stand among the keys of groups.
-use Rattle.std.proofs.Common.{◌≡◌, ◌∙◌, ◌+◌, Bool, arith, cond, not, inl, inr, ℕ, zero, suc, true, false, true≢false, List, [], ◌∷◌, ◌++◌, length, get_or, take, slice_get, Result, Ok, Err, is_err, Some, refl, sym, ap, ap₂, subst, ◌||◌}
-use Rattle.std.specs.Prelude.{OnErr, if◌then◌else◌, position}
-use Rattle.std.specs.Cmp.Lexicographic.{pointwise}
+use Rattle.std.proofs.Common.{◌≡◌, ◌∙◌, ◌+◌, Bool, arith, cond, not, inl, inr, ℕ, zero, suc, true, false, true≢false, List, [], ◌∷◌, ◌++◌, length, take, slice_get, Result, Ok, Err, is_err, Some, refl, sym, ap, subst, ◌||◌}
+use Rattle.std.specs.Prelude.{OnErr, if◌then◌else◌}
 use Rattle.std.specs.List.{list_any, position_or_len}
 use Rattle.indexmap.specs.IndexSet.{insert_key}
-use Rattle.std.proofs.lemmas.List.Quantifiers.{position-Some}
-use Rattle.std.proofs.lemmas.Option.{same_Some, slice_get-get_or}
+use Rattle.std.proofs.lemmas.Option.{same_Some}
 use Rattle.ssb_plan.specs.JobShape.{JobShape}
-use Rattle.ssb_groups.specs.Keys.{IsCopy, IsKey, cells_in}
+use Rattle.ssb_groups.specs.Keys.{IsKey, cells_in}
 use Rattle.ssb_groups.specs.Places.{AreKeys, IsPlaced, Opens}
-use Rattle.ssb_groups.specs.Rows.{key_eq}
-use Rattle.ssb_groups.specs.declared.key.GroupKey.{GroupKey}
-use Rattle.ssb_groups.specs.declared.key.GroupKey.TheVariants as form
-use Rattle.ssb_groups.proofs.KeyFacts.{cells_equal, copy-cells, key_eq_laws, key_same, keys_equal}
+use Rattle.ssb_groups.specs.GroupKeys.{GroupKey}
+use Rattle.ssb_groups.proofs.KeyFacts.{key_same, keys_equal}
 
 -- ---- lists of keys
 
@@ -39,35 +35,6 @@ get-last (y ∷ xs) x = get-last xs x
 -- a key that passes the test of another stands for the same values
 pub placed-by : (j : JobShape) (ks : List GroupKey) (k there : GroupKey) (p : ℕ) → AreKeys j ks → IsKey j k → slice_get ks p ≡ Some there → keys_equal k there ≡ true → IsPlaced j ks (cells_in j k) p
 placed-by j ks k there p are is at same = record { key = there; there = at; same = sym (key_same j k there is (key-at j ks p there are at)) ∙ same }
-
--- a key stands where it is found
-pub placed-found : (j : JobShape) (ks : List GroupKey) (k : GroupKey) (p : ℕ) → AreKeys j ks → IsKey j k → Some p ≡ position (keys_equal k) ks → IsPlaced j ks (cells_in j k) p
-placed-found j ks k p are is found =
-    let at = position-Some (keys_equal k) ks p (form.Number 0) (sym found) in
-    placed-by j ks k (get_or ks p (form.Number 0)) p are is (slice_get-get_or ks p (form.Number 0) at.0) at.1
-
--- a copy of a key, behind the others
-pub opens-last : (j : JobShape) (ks : List GroupKey) (k copy : GroupKey) → IsCopy k copy → Opens j ks (ks ++ copy ∷ []) (cells_in j k) (length ks)
-opens-last j ks k copy same = record {
-  placed = record { key = copy; there = get-last ks copy; same = subst (λ v. key_eq (cells_in j k) v ≡ true) (sym (copy-cells j k copy same)) (key_eq_laws.refl (cells_in j k)) };
-  grown = inr (copy, refl, refl);
-}
-
--- a copy passes the tests that the key passes
-copy-test : (k g x : GroupKey) → IsCopy k g → keys_equal g x ≡ keys_equal k x
-copy-test (form.Number n) (form.Number m) x same = ap (λ i. keys_equal (form.Number i) x) same
-copy-test (form.Number n) (form.Cells w) x same = absurd same
-copy-test (form.Cells v) (form.Number m) x same = absurd same
-copy-test (form.Cells v) (form.Cells w) (form.Number i) same = refl
-copy-test (form.Cells v) (form.Cells w) (form.Cells u) same = ap (λ cs. pointwise cells_equal cs u.items) same
-
-copy-among : (k g : GroupKey) (ks : List GroupKey) → IsCopy k g → list_any (keys_equal g) ks ≡ list_any (keys_equal k) ks
-copy-among k g [] same = refl
-copy-among k g (x ∷ ks) same = ap₂ (λ a b. a || b) (copy-test k g x same) (copy-among k g ks same)
-
--- a copy of a key that is not there goes behind the others
-pub inserted : (k g : GroupKey) (ks : List GroupKey) → IsCopy k g → false ≡ list_any (keys_equal k) ks → insert_key keys_equal ks g ≡ ks ++ g ∷ []
-inserted k g ks same none = ap (λ b. if b then ks else ks ++ g ∷ []) (copy-among k g ks same ∙ sym none)
 
 -- the front of a list is what it begins with
 pub front-taken : {X : Type 0} (xs rest ys : List X) → ys ≡ xs ++ rest → take (length xs) ys ≡ xs

@@ -10,7 +10,7 @@ use Rattle.ssb_groups.specs.Keys.{cells_in}
 use Rattle.ssb_groups.specs.Places.{AllRanged, ArePlaced, CanJoin, IsPlaced, OpenAll, Opens, rows_at}
 use Rattle.ssb_groups.specs.Rows.{Key, SeenRow, key_eq}
 use Rattle.ssb_groups.specs.Stands.{AreRanged, GroupMap, Stands, group, overflows}
-use Rattle.ssb_groups.specs.declared.key.GroupKey.{GroupKey}
+use Rattle.ssb_groups.specs.GroupKeys.{GroupKey}
 use Rattle.ssb_groups.specs.declared.kept.KeptTotal.{KeptTotal}
 use Rattle.ssb_groups.proofs.AddedFacts.{AddsAt, AreKeptAs, no-rows, rows-here}
 use Rattle.ssb_groups.proofs.GroupFacts.{AreApart, get-within, group-same, group_at, group_of, group_of-ranged, group_of-short, group-ranged, places-apart, values_of}

@@ -17,7 +17,7 @@ use Rattle.ssb_plan.specs.declared.input.Input.TheVariants as input
 use Rattle.ssb_groups.specs.Aggregates.{agg}
 use Rattle.ssb_groups.specs.Alone.{AreAlone, AreApplied, IsTotalOf, texts_by}
 use Rattle.ssb_groups.specs.Gathering.{AreTaken, AreTakenPlain, IsTaken, facts_where, over_at}
-use Rattle.ssb_groups.specs.Keys.{IsKept, column_values, key_cell, kept_total, spelt_cell}
+use Rattle.ssb_groups.specs.Keys.{IsKept, column_values, key_cell, spelt_cell}
 use Rattle.ssb_groups.specs.Outcomes.{exact}
 use Rattle.ssb_groups.specs.Pairs.{IsPairOf}
 use Rattle.ssb_groups.specs.Refs.{bound, cell_in, input_texts, input_value, ref_value}
@@ -25,8 +25,6 @@ use Rattle.ssb_groups.specs.Seen.{argument, fact_of}
 use Rattle.ssb_groups.specs.Stands.{IsRanged, is_over}
 use Rattle.ssb_groups.specs.Tallies.{texts_of}
 use Rattle.ssb_groups.specs.Value.{apply, column_number, column_outcome, known}
-use Rattle.ssb_groups.specs.declared.kept.KeptTotal.{KeptTotal}
-use Rattle.ssb_groups.specs.declared.kept.KeptTotal.TheVariants as total
 use Rattle.ssb_groups.specs.declared.pair.Pair.{Pair}
 use Rattle.ssb_keys.specs.declared.kept.Kept.{Kept}
 use Rattle.ssb_keys.specs.declared.kept.Kept.TheVariants as kept
@@ -34,13 +32,13 @@ use Rattle.ssb_groups.proofs.ColumnFacts.{place-cell, place-values, respells-by}
 use Rattle.ssb_groups.proofs.InputFacts.{input-value, texts-are}
 
 -- what is taken of one combination, at which it is not Over
-record IsPlain (j : JobShape) (a : Aggregate BoundColumn) (rows : List ℕ) (t : KeptTotal) : Type 0 where
+record IsPlain (j : JobShape) (a : Aggregate BoundColumn) (rows : List ℕ) (t : Kept) : Type 0 where
   taken : IsTaken j rows a (record { over = over_at j a rows; total = t })
   plain : over_at j a rows ≡ false
 
 -- ---- a block, from each of its combinations
 
-taken-each : (j : JobShape) (a : Aggregate BoundColumn) (block : List (List ℕ)) (ts : List KeptTotal) → length ts ≡ length block → ((n : ℕ) (rows : List ℕ) → slice_get block n ≡ Some rows → IsPlain j a rows (get_or ts n total.Null)) → AreTaken j a block ts
+taken-each : (j : JobShape) (a : Aggregate BoundColumn) (block : List (List ℕ)) (ts : List Kept) → length ts ≡ length block → ((n : ℕ) (rows : List ℕ) → slice_get block n ≡ Some rows → IsPlain j a rows (get_or ts n kept.Null)) → AreTaken j a block ts
 taken-each j a [] [] same each = tt
 taken-each j a [] (t ∷ ts) same each = absurd (omega (arith, same))
 taken-each j a (rows ∷ block) [] same each = absurd (omega (arith, same))
@@ -50,12 +48,12 @@ none-where : (j : JobShape) (test : List ℕ → Bool) (block : List (List ℕ))
 none-where j test [] none = refl
 none-where j test (rows ∷ block) none = ap (λ b. map (fact_of j) (cond b (rows ∷ filter test block) (filter test block))) (none 0 rows refl) ∙ none-where j test block (λ n rs at. none (suc n) rs at)
 
-plain-each : (j : JobShape) (a : Aggregate BoundColumn) (block : List (List ℕ)) (ts : List KeptTotal) → length ts ≡ length block → ((n : ℕ) (rows : List ℕ) → slice_get block n ≡ Some rows → IsPlain j a rows (get_or ts n total.Null)) → AreTakenPlain j a block ts
+plain-each : (j : JobShape) (a : Aggregate BoundColumn) (block : List (List ℕ)) (ts : List Kept) → length ts ≡ length block → ((n : ℕ) (rows : List ℕ) → slice_get block n ≡ Some rows → IsPlain j a rows (get_or ts n kept.Null)) → AreTakenPlain j a block ts
 plain-each j a block ts same each = record { taken = taken-each j a block ts same each; plain = none-where j (over_at j a) block (λ n rows at. (each n rows at).plain) }
 
 -- ---- COUNT(*)
 
-pub counts-plain : (j : JobShape) (block : List (List ℕ)) (ts : List KeptTotal) → length ts ≡ length block → ((n : ℕ) → n < length block → get_or ts n total.Null ≡ total.Number (pos 1)) → AreTakenPlain j aggregate.Rows block ts
+pub counts-plain : (j : JobShape) (block : List (List ℕ)) (ts : List Kept) → length ts ≡ length block → ((n : ℕ) → n < length block → get_or ts n kept.Null ≡ kept.Number (pos 1)) → AreTakenPlain j aggregate.Rows block ts
 counts-plain j block ts same each =
     plain-each j aggregate.Rows block ts same (λ n rows at. record {
       taken = subst (λ t. IsTaken j rows aggregate.Rows (record { over = false; total = t })) (sym (each n (slice_get_within block n rows at))) (record { over = refl; alone = refl; kept = tt; ranged = refl });
@@ -80,20 +78,20 @@ module _ (j : JobShape) (r : ColumnRef) (has : has_column j.query j.tables r ≡
   kept-here = subst (λ vs. IsKept vs (get_or cells n kept.Null)) (sym (place-values j r has)) (subst (IsKept (column_values (from_tables j) (bound r))) (sym here) (respells-by (slice_get (from_tables j) r.place) r.column (slice_get rows r.place)).1)
 
 -- an argument that a kept cell stands for
-plain-by : (j : JobShape) (f : SetFunction) (e : Expr BoundColumn) (rows : List ℕ) (values : List Cell) (c : Kept) (t : KeptTotal) → texts_of j (aggregate.Of f e) ≡ texts_by f values → argument (column_value (from_tables j) rows) (aggregate.Of f e) ≡ known (spelt_cell values c)
+plain-by : (j : JobShape) (f : SetFunction) (e : Expr BoundColumn) (rows : List ℕ) (values : List Cell) (c t : Kept) → texts_of j (aggregate.Of f e) ≡ texts_by f values → argument (column_value (from_tables j) rows) (aggregate.Of f e) ≡ known (spelt_cell values c)
     → IsKept values c → IsTotalOf values f c t → IsPlain j (aggregate.Of f e) rows t
 plain-by j f e rows values c t texts takes kept of = record {
   taken = record {
     over = refl;
-    alone = ap (λ vs. spelt_cell vs (kept_total t)) texts ∙ of.spelt e ∙ ap (λ x. agg (aggregate.Of f e) (x ∷ [])) (sym takes);
-    kept = subst (λ vs. IsKept vs (kept_total t)) (sym texts) (of.kept kept);
+    alone = ap (λ vs. spelt_cell vs t) texts ∙ of.spelt e ∙ ap (λ x. agg (aggregate.Of f e) (x ∷ [])) (sym takes);
+    kept = subst (λ vs. IsKept vs t) (sym texts) (of.kept kept);
     ranged = subst IsRanged (sym takes) of.ranged;
   };
   plain = ap is_over takes;
 }
 
 -- the totals of a column's values
-pub values-plain : (j : JobShape) (f : SetFunction) (e : Expr BoundColumn) (r : ColumnRef) (block : List (List ℕ)) (cells : List Kept) (ts : List KeptTotal) → has_column j.query j.tables r ≡ true → All (IsCombination (from_tables j)) block → cells ≡ map (λ rows. cell_in j.tables rows r) block
+pub values-plain : (j : JobShape) (f : SetFunction) (e : Expr BoundColumn) (r : ColumnRef) (block : List (List ℕ)) (cells ts : List Kept) → has_column j.query j.tables r ≡ true → All (IsCombination (from_tables j)) block → cells ≡ map (λ rows. cell_in j.tables rows r) block
     → AreAlone f cells ts → input_of j.query (aggregate.Of f e) ≡ input.Column r → AreTakenPlain j (aggregate.Of f e) block ts
 values-plain j f e r block cells ts has combs are alone is =
     let many = ap length are ∙ length-map block (λ rows. cell_in j.tables rows r) in
@@ -102,11 +100,11 @@ values-plain j f e r block cells ts has combs are alone is =
     let values = values_of j.tables r in
     let of = alone.each n (omega (arith, inside, many)) values in
     let takes = sym (input-value j rows (aggregate.Of f e)) ∙ ap (input_value j rows) is ∙ ap column_outcome (sym (value-here j r has block cells combs are n rows at)) ∙ of.outcome in
-    plain-by j f e rows values (get_or cells n kept.Null) (get_or ts n total.Null) (texts-are j f e ∙ ap (λ x. texts_by f (input_texts j.tables x)) is) takes (kept-here j r has block cells combs are n rows at) of)
+    plain-by j f e rows values (get_or cells n kept.Null) (get_or ts n kept.Null) (texts-are j f e ∙ ap (λ x. texts_by f (input_texts j.tables x)) is) takes (kept-here j r has block cells combs are n rows at) of)
 
 -- ---- an expression of two columns
 
-pub pairs-plain : (j : JobShape) (f : SetFunction) (e : Expr BoundColumn) (x : Expr ColumnRef) (p : Pair) (block : List (List ℕ)) (left right : List Kept) (ts : List KeptTotal) → has_column j.query j.tables p.left ≡ true → has_column j.query j.tables p.right ≡ true
+pub pairs-plain : (j : JobShape) (f : SetFunction) (e : Expr BoundColumn) (x : Expr ColumnRef) (p : Pair) (block : List (List ℕ)) (left right ts : List Kept) → has_column j.query j.tables p.left ≡ true → has_column j.query j.tables p.right ≡ true
     → All (IsCombination (from_tables j)) block → left ≡ map (λ rows. cell_in j.tables rows p.left) block → right ≡ map (λ rows. cell_in j.tables rows p.right) block → AreApplied p.operation f left right ts
     → input_of j.query (aggregate.Of f e) ≡ input.Number x → IsPairOf x p → AreTakenPlain j (aggregate.Of f e) block ts
 pairs-plain j f e x p block left right ts has-left has-right combs left-are right-are applied is pair =
@@ -118,4 +116,4 @@ pairs-plain j f e x p block left right ts has-left has-right combs left-are righ
     sym (input-value j rows (aggregate.Of f e)) ∙ ap (input_value j rows) is ∙ pair.number (ref_value j rows)
     ∙ ap₂ (λ a b. apply (exact p.operation) (column_number a) (column_number b)) (sym (value-here j p.left has-left block left combs left-are n rows at)) (sym (value-here j p.right has-right block right combs right-are n rows at))
     ∙ sym (one.number (values_of j.tables p.left) (values_of j.tables p.right) []) in
-    plain-by j f e rows [] one.cell (get_or ts n total.Null) (texts-are j f e ∙ ap (λ x. texts_by f (input_texts j.tables x)) is) takes (one.kept []) (one.alone []))
+    plain-by j f e rows [] one.cell (get_or ts n kept.Null) (texts-are j f e ∙ ap (λ x. texts_by f (input_texts j.tables x)) is) takes (one.kept []) (one.alone []))

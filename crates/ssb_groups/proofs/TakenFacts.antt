@@ -1,5 +1,5 @@
 -- What the aggregates take of the combinations of a block.
-use Rattle.std.proofs.Common.{◌≡◌, ◌∙◌, ◌++◌, ◌||◌, ◌<◌, ◌≤◌, ℕ, zero, suc, Bool, true, false, cond, List, [], ◌∷◌, Option, None, Some, map, length, get_or, slice_get, refl, sym, ap, ap₂, subst, arith}
+use Rattle.std.proofs.Common.{◌≡◌, ◌∙◌, ◌++◌, ◌||◌, ◌<◌, ℕ, zero, suc, Bool, true, false, cond, List, [], ◌∷◌, Option, None, Some, map, length, get_or, slice_get, refl, sym, ap, ap₂, subst, arith}
 use Rattle.std.proofs.Math.Bool.{or_assoc}
 use Rattle.std.specs.List.{filter, list_any}
 use Rattle.std.specs.Prelude.{IfSome, unwrap_or}
@@ -15,15 +15,13 @@ use Rattle.ssb_conditions.specs.Rows.{column_value}
 use Rattle.ssb_plan.specs.JobShape.{JobShape, from_tables}
 use Rattle.ssb_groups.specs.Aggregates.{agg, arguments_at}
 use Rattle.ssb_groups.specs.Gathering.{AllTaken, AreTaken, IsTaken, facts_where, key_at, over_at}
-use Rattle.ssb_groups.specs.Keys.{IsKept, kept_total, spelt_cell}
+use Rattle.ssb_groups.specs.Keys.{IsKept, spelt_cell}
 use Rattle.ssb_groups.specs.Outcomes.{kept_outcome}
 use Rattle.ssb_groups.specs.Places.{AllOver}
 use Rattle.ssb_groups.specs.Seen.{argument, fact_of, seen}
 use Rattle.ssb_groups.specs.Stands.{AreRanged, EachRanged, IsRanged, has_over, is_over, least, least_of, overflows}
-use Rattle.ssb_groups.specs.Tallies.{AreTallies, texts_of}
+use Rattle.ssb_groups.specs.Tallies.{AreAdded, texts_of}
 use Rattle.ssb_groups.specs.Value.{over, known}
-use Rattle.ssb_groups.specs.declared.kept.KeptTotal.{KeptTotal}
-use Rattle.ssb_groups.specs.declared.kept.KeptTotal.TheVariants as total
 use Rattle.ssb_keys.specs.declared.kept.Kept.{Kept}
 use Rattle.ssb_keys.specs.declared.kept.Kept.TheVariants as kept
 use Rattle.ssb_groups.proofs.RowFacts.{least-append, least_of-assoc}
@@ -47,44 +45,39 @@ kept-or values (Some c) h = h
 
 -- ---- one combination after the other
 
-pub taken-more : (j : JobShape) (a : Aggregate BoundColumn) (block : List (List ℕ)) (ts : List KeptTotal) (rows : List ℕ) (t : KeptTotal) → AreTaken j a block ts → IsTaken j rows a (record { over = over_at j a rows; total = t }) → AreTaken j a (block ++ rows ∷ []) (ts ++ t ∷ [])
+pub taken-more : (j : JobShape) (a : Aggregate BoundColumn) (block : List (List ℕ)) (ts : List Kept) (rows : List ℕ) (t : Kept) → AreTaken j a block ts → IsTaken j rows a (record { over = over_at j a rows; total = t }) → AreTaken j a (block ++ rows ∷ []) (ts ++ t ∷ [])
 taken-more j a [] [] rows t h is = (is, tt)
 taken-more j a [] (x ∷ ts) rows t h is = absurd h
 taken-more j a (y ∷ block) [] rows t h is = absurd h
 taken-more j a (y ∷ block) (x ∷ ts) rows t h is = (h.0, taken-more j a block ts rows t h.1 is)
 
-pub taken-long : (j : JobShape) (a : Aggregate BoundColumn) (block : List (List ℕ)) (ts : List KeptTotal) → AreTaken j a block ts → length ts ≡ length block
+pub taken-long : (j : JobShape) (a : Aggregate BoundColumn) (block : List (List ℕ)) (ts : List Kept) → AreTaken j a block ts → length ts ≡ length block
 taken-long j a [] [] h = refl
 taken-long j a [] (t ∷ ts) h = absurd h
 taken-long j a (rows ∷ block) [] h = absurd h
 taken-long j a (rows ∷ block) (t ∷ ts) h = ap suc (taken-long j a block ts h.1)
 
-pub taken-at : (j : JobShape) (a : Aggregate BoundColumn) (block : List (List ℕ)) (ts : List KeptTotal) (n : ℕ) (rows : List ℕ) → AreTaken j a block ts → slice_get block n ≡ Some rows → IsTaken j rows a (record { over = over_at j a rows; total = get_or ts n total.Null })
+pub taken-at : (j : JobShape) (a : Aggregate BoundColumn) (block : List (List ℕ)) (ts : List Kept) (n : ℕ) (rows : List ℕ) → AreTaken j a block ts → slice_get block n ≡ Some rows → IsTaken j rows a (record { over = over_at j a rows; total = get_or ts n kept.Null })
 taken-at j a [] ts n rows h e = cc
 taken-at j a (y ∷ block) [] n rows h e = absurd h
 taken-at j a (y ∷ block) (t ∷ ts) zero rows h e = subst (λ x. IsTaken j x a (record { over = over_at j a x; total = t })) (same_Some y rows e) h.0
 taken-at j a (y ∷ block) (t ∷ ts) (suc n) rows h e = taken-at j a block ts n rows h.1 e
 
-taken-kept : (j : JobShape) (a : Aggregate BoundColumn) (block : List (List ℕ)) (ts : List KeptTotal) (n : ℕ) → AreTaken j a block ts → IsKept (texts_of j a) (kept_total (get_or ts n total.Null))
+taken-kept : (j : JobShape) (a : Aggregate BoundColumn) (block : List (List ℕ)) (ts : List Kept) (n : ℕ) → AreTaken j a block ts → IsKept (texts_of j a) (get_or ts n kept.Null)
 taken-kept j a [] [] n h = tt
 taken-kept j a [] (t ∷ ts) n h = absurd h
 taken-kept j a (y ∷ block) [] n h = absurd h
 taken-kept j a (y ∷ block) (t ∷ ts) zero h = h.0.kept
 taken-kept j a (y ∷ block) (t ∷ ts) (suc n) h = taken-kept j a block ts n h.1
 
-beyond : (ts : List KeptTotal) (n : ℕ) → length ts ≤ n → get_or ts n total.Null ≡ total.Null
-beyond [] n past = refl
-beyond (t ∷ ts) zero past = absurd (omega (arith, past))
-beyond (t ∷ ts) (suc n) past = beyond ts n (omega (arith, past))
-
--- what is gathered are tallies
-pub taken-tallies : (j : JobShape) (block : List (List ℕ)) (tallies : List (List KeptTotal)) → length tallies ≡ length j.query.aggregates → AllTaken j block tallies → AreTallies j (length block) tallies
-taken-tallies j block tallies many all = record {
+-- what is gathered is a total for each combination
+pub taken-added : (j : JobShape) (block : List (List ℕ)) (tallies : List (List Kept)) → length tallies ≡ length j.query.aggregates → AllTaken j block tallies → AreAdded j (length block) tallies
+taken-added j block tallies many all = record {
   many = many;
   each = λ i a at.
       let is = all i a at in
       let long = taken-long j a block (get_or tallies i []) is in
-      record { long = omega (arith, long); kept = λ p. taken-kept j a block (get_or tallies i []) p is; rest = λ p past. beyond (get_or tallies i []) p (omega (arith, long, past)) };
+      record { long = omega (arith, long); kept = λ p. taken-kept j a block (get_or tallies i []) p is };
 }
 
 -- ---- where an argument is Over
@@ -198,7 +191,7 @@ module _ (j : JobShape) where
   all-ranged all [] h = tt
   all-ranged all (rows ∷ rest) h = (h 0 rows refl, all-ranged all rest (λ n x e. h (suc n) x e))
 
-  pub taken-ranged : (block : List (List ℕ)) (tallies : List (List KeptTotal)) → AllTaken j block tallies → AreRanged (map (seen j) block)
+  pub taken-ranged : (block : List (List ℕ)) (tallies : List (List Kept)) → AllTaken j block tallies → AreRanged (map (seen j) block)
   taken-ranged block tallies all = all-ranged block block (λ n rows e. each-ranged rows j.query.aggregates (λ i a at. (taken-at j a block (get_or tallies i []) n rows (all i a at) e).ranged))
 
   singles-at : (block : List (List ℕ)) (n : ℕ) → n < length (map (λ r. r ∷ []) (map (seen j) block)) → (rows : List ℕ) × (slice_get block n ≡ Some rows) × (get_or (map (λ r. r ∷ []) (map (seen j) block)) n [] ≡ seen j rows ∷ [])
@@ -207,7 +200,7 @@ module _ (j : JobShape) where
   singles-at (rows ∷ block) (suc n) lt = singles-at block n (omega (arith, lt))
 
   -- the totals of a block are those over each row alone
-  pub taken-over : (block : List (List ℕ)) (tallies : List (List KeptTotal)) → AllTaken j block tallies → AllOver j tallies (map (λ r. r ∷ []) (map (seen j) block))
+  pub taken-over : (block : List (List ℕ)) (tallies : List (List Kept)) → AllTaken j block tallies → AllOver j tallies (map (λ r. r ∷ []) (map (seen j) block))
   taken-over block tallies all = λ i a at n lt.
       let one = singles-at block n lt in
       (taken-at j a block (get_or tallies i []) n one.0 (all i a at) one.1).alone

@@ -1,24 +1,28 @@
 -- A tally that is joined to others place by place.
 use Rattle.std.proofs.Common.{◌≡◌, ◌≢◌, ◌∙◌, inl, inr, ℕ, zero, suc, ◌+◌, ◌<◌, ◌≤◌, ◌^◌, Bool, true, false, cond, nat_eq, List, [], ◌∷◌, ◌++◌, length, map, take, get_or, slice_get, Some, refl, sym, ap, ap₂, subst, arith, append_assoc, append-nil, length-append}
+use Rattle.std.specs.List.{All}
 use Rattle.std.proofs.Math.ListN.{set}
 use Rattle.std.proofs.lemmas.Bool.{eqb-true, eq-eqb}
 use Rattle.std.proofs.lemmas.Option.{same_Some}
-use Rattle.std.proofs.lemmas.List.{get_or-set_other, get_or-set_same, length-set, map-append}
+use Rattle.std.proofs.lemmas.List.{get_or-set_other, get_or-set_same, length-set, map-append, take_all}
 use Rattle.ssb_cells.specs.Cell.{Cell, null}
+use Rattle.ssb_cells.specs.Tables.{Columns}
 use Rattle.ssb_plan.specs.JobShape.{JobShape}
 use Rattle.ssb_query.specs.declared.column.BoundColumn.{BoundColumn}
 use Rattle.ssb_trees.specs.declared.aggregate.Aggregate.{Aggregate}
 use Rattle.ssb_groups.specs.Aggregates.{agg, arguments_at}
-use Rattle.ssb_groups.specs.Joining.{Fits, JoinsTotal, joined, joining_of}
+use Rattle.ssb_groups.specs.Joining.{Fits, JoinsTotal, joined, joining_of, values_by}
 use Rattle.ssb_groups.specs.Keys.{IsKept, kept_total, spelt_cell}
-use Rattle.ssb_groups.specs.Places.{AllRanged, AreGrown, AreOver, CanJoin, rows_at}
+use Rattle.ssb_groups.specs.Places.{AllRanged, AreGrown, AreOver, CanJoin, IsJoined, rows_at}
 use Rattle.ssb_groups.specs.Rows.{SeenRow}
 use Rattle.ssb_groups.specs.Stands.{AreRanged}
-use Rattle.ssb_groups.specs.Tallies.{AllTell, AreTallies, IsTotal, Tells, texts_of, total_at}
+use Rattle.ssb_groups.specs.Tallies.{AllTell, AreTallies, IsTotal, Tells, kept_lists, kept_totals, texts_of, total_at}
 use Rattle.ssb_groups.specs.declared.joining.Joining.{Joining}
 use Rattle.ssb_groups.specs.declared.joining.Joining.TheVariants as joining
 use Rattle.ssb_groups.specs.declared.kept.KeptTotal.{KeptTotal}
 use Rattle.ssb_groups.specs.declared.kept.KeptTotal.TheVariants as total
+use Rattle.ssb_keys.specs.declared.kept.Kept.{Kept}
+use Rattle.ssb_keys.specs.declared.kept.Kept.TheVariants as kept
 use Rattle.ssb_groups.proofs.AggregateFacts.{agg-append, greater-null}
 use Rattle.ssb_groups.proofs.Bounds.{fits-rows}
 use Rattle.ssb_groups.proofs.RowFacts.{AreRanged-append}
@@ -94,9 +98,9 @@ is_total-more j i a R Q c m new p q few (inr none) more joins =
 -- ---- one place after the other
 
 -- one more is joined to the total at its place
-pub tells-more : (j : JobShape) (values : List Cell) (i : ℕ) (a : Aggregate BoundColumn) (rows : ℕ → List SeenRow) (places : List ℕ) (Rs : List (List SeenRow)) (k : ℕ) (tally more : List KeptTotal) (x : KeptTotal) → k < length places
+pub tells-more : (j : JobShape) (values : List Cell) (i : ℕ) (a : Aggregate BoundColumn) (rows : ℕ → List SeenRow) (places : List ℕ) (Rs : List (List SeenRow)) (k : ℕ) (tally : List KeptTotal) (more : List Kept) (x : KeptTotal) → k < length places
     → CanJoin rows places Rs → get_or places k 0 < length tally → Tells values i a tally (λ p. rows p ++ rows_at p (take k places) (take k Rs)) → AreOver values i a more Rs
-    → JoinsTotal (joining_of j a) (total_at values tally (get_or places k 0)) (total_at values more k) (spelt_cell values (kept_total x))
+    → JoinsTotal (joining_of j a) (total_at values tally (get_or places k 0)) (spelt_cell values (get_or more k kept.Null)) (spelt_cell values (kept_total x))
     → Tells values i a (set tally (get_or places k 0) x) (λ p. rows p ++ rows_at p (take (suc k) places) (take (suc k) Rs))
 tells-more j values i a rows places Rs k tally more x lt can within before over joins = λ p. by p (nat_eq p q) refl
   where
@@ -127,7 +131,7 @@ tells-more j values i a rows places Rs k tally more x lt can within before over 
         let here : p ≡ q = eqb-true p q e in
         let same : total_at values (set tally q x) p ≡ spelt_cell values (kept_total x) = ap (λ n. total_at values (set tally q x) n) here ∙ ap (λ t. spelt_cell values (kept_total t)) (get_or-set_same tally q x total.Null within) in
         let many = can.same in
-        let total = is_total-more j i a (rows q ++ front q) R (total_at values tally q) (total_at values more k) (spelt_cell values (kept_total x)) ranged (ranged-get Rs k can.others) few (before q) (over k (omega (arith, lt, many))) joins in
+        let total = is_total-more j i a (rows q ++ front q) R (total_at values tally q) (spelt_cell values (get_or more k kept.Null)) (spelt_cell values (kept_total x)) ranged (ranged-get Rs k can.others) few (before q) (over k (omega (arith, lt, many))) joins in
         subst (λ c. IsTotal i a (rows p ++ rows_at p (take (suc k) places) (take (suc k) Rs)) c) (sym same)
         (subst (λ xs. IsTotal i a xs (spelt_cell values (kept_total x))) (sym (next p true e)) (subst (λ n. IsTotal i a ((rows n ++ front n) ++ R) (spelt_cell values (kept_total x))) (sym here) total))
     by p false e =
@@ -149,6 +153,72 @@ kept-set values tally q x within h is p = by (nat_eq p q) refl
     by false e =
         let other : p ≢ q = λ h. cc (sym (eq-eqb p q h) ∙ e) in
         subst (λ t. IsKept values (kept_total t)) (sym (get_or-set_other tally q p x total.Null other)) (h p)
+
+-- ---- up to a place
+
+-- a tally to which the first so many totals are joined
+pub record JoinedTo (tables : List Columns) (w : Joining) (places : List ℕ) (more : List Kept) (before now : List KeptTotal) (k : ℕ) : Type 0 where
+  pub joined : (j : JobShape) (i : ℕ) (a : Aggregate BoundColumn) (rows : ℕ → List SeenRow) (Rs : List (List SeenRow)) → joining_of j a ≡ w → CanJoin rows places Rs
+      → Tells (values_by tables w) i a before rows → AreOver (values_by tables w) i a more Rs → Tells (values_by tables w) i a now (λ p. rows p ++ rows_at p (take k places) (take k Rs))
+  pub kept : (p : ℕ) → IsKept (values_by tables w) (kept_total (get_or now p total.Null))
+  pub same : length now ≡ length before
+  pub rest : (n p : ℕ) → All (λ q. q < n) places → n ≤ p → get_or now p total.Null ≡ get_or before p total.Null
+
+module _ (tables : List Columns) (w : Joining) (places : List ℕ) (more : List Kept) (before : List KeptTotal) where
+  pub joined-none : ((p : ℕ) → IsKept (values_by tables w) (kept_total (get_or before p total.Null))) → JoinedTo tables w places more before before 0
+  joined-none kept = record {
+    joined = λ j i a rows Rs is can tells over p. subst (λ R. IsTotal i a R (total_at (values_by tables w) before p)) (sym (append-nil (rows p))) (tells p);
+    kept = kept;
+    same = refl;
+    rest = λ n p all past. refl;
+  }
+
+  pub joined-next : (now : List KeptTotal) (k : ℕ) (x : KeptTotal) → All (λ p. p < length before) places → k < length places → JoinedTo tables w places more before now k
+      → JoinsTotal w (total_at (values_by tables w) now (get_or places k 0)) (spelt_cell (values_by tables w) (get_or more k kept.Null)) (spelt_cell (values_by tables w) (kept_total x)) → IsKept (values_by tables w) (kept_total x)
+      → JoinedTo tables w places more before (set now (get_or places k 0) x) (k + 1)
+  joined-next now k x there lt to joins is-kept =
+      let values = values_by tables w in
+      let q = get_or places k 0 in
+      let same = to.same in
+      let below = there k 0 lt in
+      let inside : q < length now = omega (arith, same, below) in
+      let next : suc k ≡ k + 1 = omega arith in
+      record {
+        joined = λ j i a rows Rs is can tells over.
+            subst (λ n. Tells values i a (set now q x) (λ p. rows p ++ rows_at p (take n places) (take n Rs))) next
+            (tells-more j values i a rows places Rs k now more x lt can inside (to.joined j i a rows Rs is can tells over) over
+            (subst (λ y. JoinsTotal y (total_at values now q) (spelt_cell values (get_or more k kept.Null)) (spelt_cell values (kept_total x))) (sym is) joins));
+        kept = kept-set values now q x inside to.kept is-kept;
+        same = length-set now q x ∙ same;
+        rest = λ n p all past.
+            let less : q < n = all k 0 lt in
+            get_or-set_other now q p x total.Null (λ h. absurd (omega (arith, less, past, h))) ∙ to.rest n p all past;
+      }
+
+  pub joined-all : (now : List KeptTotal) (k : ℕ) → length places ≤ k → JoinedTo tables w places more before now k → IsJoined tables w places more before now
+  joined-all now k past to =
+      let values = values_by tables w in
+      record {
+        joined = λ j i a rows Rs is can tells over p.
+            let many = can.same in
+            subst (λ qs. IsTotal i a (rows p ++ rows_at p qs Rs) (total_at values now p)) (take_all k places past)
+            (subst (λ Qs. IsTotal i a (rows p ++ rows_at p (take k places) Qs) (total_at values now p)) (take_all k Rs (omega (arith, past, many))) (to.joined j i a rows Rs is can tells over p));
+        kept = to.kept;
+        same = to.same;
+        rest = to.rest;
+      }
+
+-- ---- totals as what they stand for
+
+pub kept-at : (ts : List KeptTotal) (k : ℕ) → get_or (kept_totals ts) k kept.Null ≡ kept_total (get_or ts k total.Null)
+kept-at [] k = refl
+kept-at (t ∷ ts) zero = refl
+kept-at (t ∷ ts) (suc k) = kept-at ts k
+
+pub lists-at : (tallies : List (List KeptTotal)) (i : ℕ) → get_or (kept_lists tallies) i [] ≡ kept_totals (get_or tallies i [])
+lists-at [] i = refl
+lists-at (t ∷ tallies) zero = refl
+lists-at (t ∷ tallies) (suc i) = lists-at tallies i
 
 -- ---- the tally of an aggregate
 

@@ -8,12 +8,10 @@ use Rattle.ssb_trees.specs.declared.aggregate.SetFunction.{SetFunction}
 use Rattle.ssb_trees.specs.declared.aggregate.SetFunction.TheVariants as function
 use Rattle.ssb_trees.specs.declared.expr.Expr.{Expr}
 use Rattle.ssb_groups.specs.Aggregates.{agg}
-use Rattle.ssb_groups.specs.Keys.{IsKept, kept_total, spelt_cell}
+use Rattle.ssb_groups.specs.Keys.{IsKept, spelt_cell}
 use Rattle.ssb_groups.specs.Outcomes.{exact}
 use Rattle.ssb_groups.specs.Stands.{IsRanged}
 use Rattle.ssb_groups.specs.Value.{apply, column_number, column_outcome, known}
-use Rattle.ssb_groups.specs.declared.kept.KeptTotal.{KeptTotal}
-use Rattle.ssb_groups.specs.declared.kept.KeptTotal.TheVariants as total
 use Rattle.ssb_groups.specs.declared.outcome.Operation.{Operation}
 use Rattle.ssb_keys.specs.declared.kept.Kept.{Kept}
 use Rattle.ssb_keys.specs.declared.kept.Kept.TheVariants as kept
@@ -26,28 +24,28 @@ texts_by function.Min values = values
 texts_by function.Max values = values
 
 -- what stands for a value of a column, whose texts are among these, and the total of a set function over it alone
-pub record IsTotalOf (values : List Cell) (f : SetFunction) (c : Kept) (t : KeptTotal) : Type 0 where
-  pub spelt : (e : Expr BoundColumn) → spelt_cell (texts_by f values) (kept_total t) ≡ agg (aggregate.Of f e) (known (spelt_cell values c) ∷ [])
-  pub kept : IsKept values c → IsKept (texts_by f values) (kept_total t)
+pub record IsTotalOf (values : List Cell) (f : SetFunction) (c t : Kept) : Type 0 where
+  pub spelt : (e : Expr BoundColumn) → spelt_cell (texts_by f values) t ≡ agg (aggregate.Of f e) (known (spelt_cell values c) ∷ [])
+  pub kept : IsKept values c → IsKept (texts_by f values) t
   pub outcome : column_outcome (spelt_cell values c) ≡ known (spelt_cell values c)
   pub ranged : IsRanged (known (spelt_cell values c))
 
-abbrev pub IsAlone : SetFunction → Kept → KeptTotal → Type 0
+abbrev pub IsAlone : SetFunction → Kept → Kept → Type 0
 IsAlone f c t = (values : List Cell) → IsTotalOf values f c t
 
 -- the same of each of some values
-pub record AreAlone (f : SetFunction) (cells : List Kept) (ts : List KeptTotal) : Type 0 where
+pub record AreAlone (f : SetFunction) (cells ts : List Kept) : Type 0 where
   pub many : length ts ≡ length cells
-  pub each : (n : ℕ) → n < length cells → IsAlone f (get_or cells n kept.Null) (get_or ts n total.Null)
+  pub each : (n : ℕ) → n < length cells → IsAlone f (get_or cells n kept.Null) (get_or ts n kept.Null)
 
 -- what stands for the number that an operation makes of two, and the total of a set function over it alone
-pub record IsApplied (o : Operation) (f : SetFunction) (a b : Kept) (t : KeptTotal) : Type 0 where
+pub record IsApplied (o : Operation) (f : SetFunction) (a b t : Kept) : Type 0 where
   pub cell : Kept
   pub number : (vs ws us : List Cell) → known (spelt_cell us cell) ≡ apply (exact o) (column_number (spelt_cell vs a)) (column_number (spelt_cell ws b))
   pub kept : (us : List Cell) → IsKept us cell
   pub alone : IsAlone f cell t
 
 -- the same of each two that stand side by side
-pub record AreApplied (o : Operation) (f : SetFunction) (left right : List Kept) (ts : List KeptTotal) : Type 0 where
+pub record AreApplied (o : Operation) (f : SetFunction) (left right ts : List Kept) : Type 0 where
   pub many : length ts ≡ length left
-  pub each : (n : ℕ) → n < length left → IsApplied o f (get_or left n kept.Null) (get_or right n kept.Null) (get_or ts n total.Null)
+  pub each : (n : ℕ) → n < length left → IsApplied o f (get_or left n kept.Null) (get_or right n kept.Null) (get_or ts n kept.Null)

@@ -1,6 +1,6 @@
 -- How groups keep values: a text as its code in its column.
 -- Source: own; for the contracts inside this crate.
-use Rattle.std.specs.Prelude.{◌≡◌, ℕ, ◌+◌, ◌<◌, ◌≤◌, ◌^◌, ◌-ℤ◌, unsigned_abs, int_lt, if◌then◌else◌, List, [], ◌∷◌, length, map, get_or, Option, None, Some, slice_get, ⊤}
+use Rattle.std.specs.Prelude.{◌≡◌, true, ℕ, ◌+◌, ◌<◌, ◌≤◌, ◌^◌, ◌-ℤ◌, unsigned_abs, int_lt, if◌then◌else◌, List, [], ◌∷◌, length, map, get_or, Option, None, Some, slice_get, ⊤}
 use Rattle.std.specs.declared.alloc.Global.{Global}
 use Rattle.std.specs.declared.vec.Vec.{Vec}
 use Rattle.ssb_query.specs.declared.column.BoundColumn.{BoundColumn}
@@ -20,8 +20,9 @@ use Rattle.ssb_plan.specs.declared.input.ColumnRef.{ColumnRef}
 use Rattle.ssb_terms.specs.declared.rule.ColType.{ColType}
 use Rattle.ssb_terms.specs.declared.rule.ColType.TheVariants as kinds
 use Rattle.ssb_groups.specs.Rows.{Key}
-use Rattle.ssb_groups.specs.declared.key.GroupKey.{GroupKey}
-use Rattle.ssb_groups.specs.declared.key.GroupKey.TheVariants as form
+use Rattle.ssb_groups.specs.Value.{in_range}
+use Rattle.ssb_groups.specs.GroupKeys.{GroupKey}
+use Rattle.ssb_groups.specs.GroupKeys as form
 use Rattle.ssb_keys.specs.declared.kept.Kept.{Kept}
 use Rattle.ssb_keys.specs.declared.kept.Kept.TheVariants as kept
 use Rattle.ssb_groups.specs.declared.kept.KeptTotal.{KeptTotal}
@@ -138,7 +139,7 @@ pub record AreNumbersOf (j : JobShape) (block : List (List ℕ)) (ns : List ℕ)
 -- what stands for the values of a key
 abbrev pub kept_in : JobShape → GroupKey → List Kept
 kept_in j (form.Number n) = cells (domains_of j) n
-kept_in j (form.Cells v) = v.items
+kept_in j (form.Cells cells) = cells
 
 -- the values of a key
 abbrev pub cells_in : JobShape → GroupKey → Key
@@ -171,23 +172,12 @@ kind_in (Some f) = f.kind
 abbrev pub kind_of : List Columns → ColumnRef → ColType
 kind_of tables r = kind_in (slice_get (table_at tables r.table) r.column)
 
--- a cell of a column of this type
+-- a cell of a column of this type, whose numbers are those of an `int`
 abbrev pub IsOfKind : ColType → Kept → Type 0
 IsOfKind kinds.Int (kept.Code code) = ⊥
 IsOfKind kinds.Text (kept.Number n) = ⊥
+IsOfKind kinds.Int (kept.Number n) = in_range n ≡ true
 IsOfKind kind cell = ⊤
 
 abbrev pub AreOfKind : ColType → List Kept → Type 0
 AreOfKind kind cells = (n : ℕ) → n < length cells → IsOfKind kind (get_or cells n kept.Null)
-
--- the cells of a key that has them one by one
-abbrev pub cells_alone : GroupKey → Option (List Kept)
-cells_alone (form.Number n) = None
-cells_alone (form.Cells v) = Some v.items
-
--- a key of the same number, or of the same cells
-abbrev pub IsCopy : GroupKey → GroupKey → Type 0
-IsCopy (form.Number n) (form.Number m) = m ≡ n
-IsCopy (form.Number n) (form.Cells v) = ⊥
-IsCopy (form.Cells v) (form.Number m) = ⊥
-IsCopy (form.Cells v) (form.Cells w) = w.items ≡ v.items

@@ -2,6 +2,7 @@ pub mod Added
 pub mod Aggregates
 pub mod Alone
 pub mod Gathering
+pub mod GroupKeys
 pub mod Joining
 pub mod Keys
 pub mod Outcomes

@@ -9,16 +9,18 @@ use Rattle.ssb_query.specs.declared.column.BoundColumn.{BoundColumn}
 use Rattle.ssb_trees.specs.declared.aggregate.Aggregate.{Aggregate}
 use Rattle.ssb_groups.specs.Aggregates.{agg, arguments_at}
 use Rattle.ssb_groups.specs.Joining.{joining_of, values_by}
-use Rattle.ssb_groups.specs.Keys.{IsKept, IsKey, cells_in, kept_total}
+use Rattle.ssb_groups.specs.Keys.{IsKept, IsKey, cells_in, kept_total, spelt_cell}
 use Rattle.ssb_groups.specs.Rows.{Key, SeenRow, key_eq}
 use Rattle.ssb_groups.specs.Stands.{AreRanged}
-use Rattle.ssb_groups.specs.Tallies.{AllTell, AreTallies, Tells, texts_of, total_at}
-use Rattle.ssb_groups.specs.declared.key.GroupKey.{GroupKey}
-use Rattle.ssb_groups.specs.declared.key.GroupKey.TheVariants as form
+use Rattle.ssb_groups.specs.Tallies.{AllTell, AreTallies, Tells, texts_of}
+use Rattle.ssb_groups.specs.GroupKeys.{GroupKey}
+use Rattle.ssb_groups.specs.GroupKeys as form
 use Rattle.ssb_groups.specs.declared.joining.Joining.{Joining}
 use Rattle.ssb_groups.specs.declared.places.Found.{Found}
 use Rattle.ssb_groups.specs.declared.kept.KeptTotal.{KeptTotal}
 use Rattle.ssb_groups.specs.declared.kept.KeptTotal.TheVariants as total
+use Rattle.ssb_keys.specs.declared.kept.Kept.{Kept}
+use Rattle.ssb_keys.specs.declared.kept.Kept.TheVariants as kept
 
 -- ---- places of keys
 
@@ -77,10 +79,10 @@ AllRanged [] = ⊤
 AllRanged (R ∷ Rs) = AreRanged R × AllRanged Rs
 
 -- the totals of the i-th aggregate over lists of rows
-abbrev pub AreOver : List Cell → ℕ → Aggregate BoundColumn → List KeptTotal → List (List SeenRow) → Type 0
-AreOver values i a more Rs = (n : ℕ) → n < length Rs → total_at values more n ≡ agg a (arguments_at i (get_or Rs n []))
+abbrev pub AreOver : List Cell → ℕ → Aggregate BoundColumn → List Kept → List (List SeenRow) → Type 0
+AreOver values i a more Rs = (n : ℕ) → n < length Rs → spelt_cell values (get_or more n kept.Null) ≡ agg a (arguments_at i (get_or Rs n []))
 
-abbrev pub AllOver : JobShape → List (List KeptTotal) → List (List SeenRow) → Type 0
+abbrev pub AllOver : JobShape → List (List Kept) → List (List SeenRow) → Type 0
 AllOver j more Rs = (i : ℕ) (a : Aggregate BoundColumn) → slice_get j.query.aggregates i ≡ Some a → AreOver (texts_of j a) i a (get_or more i []) Rs
 
 -- lists of rows, each at a place, that can be joined to the rows at all places
@@ -91,13 +93,13 @@ pub record CanJoin (rows : ℕ → List SeenRow) (places : List ℕ) (Rs : List 
   pub others : AllRanged Rs
 
 -- A tally comes to have the totals over the rows at all places, and those that are joined to them.
-abbrev pub JoinsColumn : List Columns → Joining → List ℕ → List KeptTotal → List KeptTotal → List KeptTotal → Type 0
+abbrev pub JoinsColumn : List Columns → Joining → List ℕ → List Kept → List KeptTotal → List KeptTotal → Type 0
 JoinsColumn tables w places more before after =
     (j : JobShape) (i : ℕ) (a : Aggregate BoundColumn) (rows : ℕ → List SeenRow) (Rs : List (List SeenRow)) → joining_of j a ≡ w → CanJoin rows places Rs
     → Tells (values_by tables w) i a before rows → AreOver (values_by tables w) i a more Rs → Tells (values_by tables w) i a after (λ p. rows p ++ rows_at p places Rs)
 
 -- what joining does to a tally
-pub record IsJoined (tables : List Columns) (w : Joining) (places : List ℕ) (more before after : List KeptTotal) : Type 0 where
+pub record IsJoined (tables : List Columns) (w : Joining) (places : List ℕ) (more : List Kept) (before after : List KeptTotal) : Type 0 where
   pub joined : JoinsColumn tables w places more before after
   pub kept : (p : ℕ) → IsKept (values_by tables w) (kept_total (get_or after p total.Null))
   pub same : length after ≡ length before
@@ -110,7 +112,7 @@ pub record ArePlacesOf (j : JobShape) (tallies : List (List KeptTotal)) (places 
   pub within : All (λ p. p < groups) places
 
 -- what joining does to all tallies
-pub record AreJoined (j : JobShape) (places : List ℕ) (more before after : List (List KeptTotal)) : Type 0 where
+pub record AreJoined (j : JobShape) (places : List ℕ) (more : List (List Kept)) (before after : List (List KeptTotal)) : Type 0 where
   pub joined : (rows : ℕ → List SeenRow) (Rs : List (List SeenRow)) → CanJoin rows places Rs → AllTell j before rows → AllOver j more Rs → AllTell j after (λ p. rows p ++ rows_at p places Rs)
   pub tallies : (n : ℕ) → All (λ p. p < n) places → AreTallies j n before → AreTallies j n after
 
@@ -126,13 +128,13 @@ pub record IsTable (j : JobShape) (ks : List GroupKey) (tallies : List (List Kep
   pub are : AreTallies j (length ks) tallies
 
 -- tallies that are made longer, and then joined to others
-pub record JoinsGrown (j : JobShape) (places : List ℕ) (more before after : List (List KeptTotal)) : Type 0 where
+pub record JoinsGrown (j : JobShape) (places : List ℕ) (more : List (List Kept)) (before after : List (List KeptTotal)) : Type 0 where
   pub grown : List (List KeptTotal)
   pub grows : AreGrown before grown
   pub joined : AreJoined j places more grown after
 
 -- the totals of some values are joined to those of groups
-pub record JoinsRows (j : JobShape) (values : List Key) (more : List (List KeptTotal)) (old new : List GroupKey) (before after : List (List KeptTotal)) : Type 0 where
+pub record JoinsRows (j : JobShape) (values : List Key) (more : List (List Kept)) (old new : List GroupKey) (before after : List (List KeptTotal)) : Type 0 where
   pub places : List ℕ
   pub opens : OpenAll j old new values places
   pub joins : JoinsGrown j places more before after

@@ -11,10 +11,11 @@ use Rattle.ssb_groups.specs.Aggregates.{agg, arguments_at}
 use Rattle.ssb_groups.specs.Joining.{joining_of, joinings_of, values_by}
 use Rattle.ssb_groups.specs.Keys.{AreKept, IsKept, cells_in, kept_total, spelt, spelt_cell}
 use Rattle.ssb_groups.specs.Rows.{Key, SeenRow}
-use Rattle.ssb_groups.specs.declared.key.GroupKey.{GroupKey}
+use Rattle.ssb_groups.specs.GroupKeys.{GroupKey}
 use Rattle.ssb_groups.specs.declared.kept.KeptTotal.{KeptTotal}
 use Rattle.ssb_groups.specs.declared.kept.KeptTotal.TheVariants as total
 use Rattle.ssb_keys.specs.declared.kept.Kept.{Kept}
+use Rattle.ssb_keys.specs.declared.kept.Kept.TheVariants as kept
 
 -- ---- what they stand for
 
@@ -36,6 +37,20 @@ items tally = tally.items
 
 abbrev pub lists : List (Vec KeptTotal Global) → List (List KeptTotal)
 lists tallies = map items tallies
+
+-- what totals stand for
+abbrev pub kept_totals : List KeptTotal → List Kept
+kept_totals ts = map kept_total ts
+
+abbrev pub kept_lists : List (List KeptTotal) → List (List Kept)
+kept_lists tallies = map kept_totals tallies
+
+-- the totals over each combination of a block alone, as the lists that they are
+abbrev pub cell_items : Vec Kept Global → List Kept
+cell_items cells = cells.items
+
+abbrev pub cell_lists : List (Vec Kept Global) → List (List Kept)
+cell_lists totals = map cell_items totals
 
 -- the totals at a place
 abbrev pub totals_at : List (List KeptTotal) → ℕ → List Kept
@@ -63,6 +78,16 @@ texts_of j a = values_by j.tables (joining_of j a)
 pub record AreTallies (j : JobShape) (groups : ℕ) (tallies : List (List KeptTotal)) : Type 0 where
   pub many : length tallies ≡ length j.query.aggregates
   pub each : (i : ℕ) (a : Aggregate BoundColumn) → slice_get j.query.aggregates i ≡ Some a → IsTally (texts_of j a) groups (get_or tallies i [])
+
+-- so many totals, whose texts are among these values, that are joined to those of groups
+pub record IsAdded (values : List Cell) (count : ℕ) (more : List Kept) : Type 0 where
+  pub long : count ≤ length more
+  pub kept : (p : ℕ) → IsKept values (get_or more p kept.Null)
+
+-- so many for each aggregate
+pub record AreAdded (j : JobShape) (count : ℕ) (more : List (List Kept)) : Type 0 where
+  pub many : length more ≡ length j.query.aggregates
+  pub each : (i : ℕ) (a : Aggregate BoundColumn) → slice_get j.query.aggregates i ≡ Some a → IsAdded (texts_of j a) count (get_or more i [])
 
 -- ---- totals over rows
 

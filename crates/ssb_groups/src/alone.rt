@@ -2,42 +2,53 @@
 
 ghost use Rattle.std.specs.Prelude.{◌≡◌, true, length};
 ghost use Rattle.ssb_groups.specs.Alone.{AreAlone, AreApplied, IsAlone};
+ghost use Rattle.ssb_groups.specs.Keys.{AreOfKind, IsOfKind};
+ghost use Rattle.ssb_keys.specs.declared.kept.Kept.{Kept as AnyKept};
 
-use crate::kept::KeptTotal;
 use crate::outcome::{Operation, Outcome};
 use ssb_keys::Kept;
+use ssb_terms::ColType;
 use ssb_trees::SetFunction;
 
 /// A set function over one value alone.
 #[inline(always)]
-pub(crate) fn alone(function: SetFunction, cell: Kept) -> KeptTotal
+pub(crate) fn alone(function: SetFunction, cell: Kept) -> Kept
     ensures { IsAlone function cell result }
 {
     match function {
         SetFunction::Sum => match cell {
-            Kept::Null => KeptTotal::Null,
-            Kept::Number(number) => KeptTotal::Number(i128::from(number)),
-            Kept::Code(_) => KeptTotal::Number(0),
+            Kept::Null => Kept::Null,
+            Kept::Number(number) => Kept::Number(number),
+            Kept::Code(_) => Kept::Number(0),
         },
         SetFunction::Count => match cell {
-            Kept::Null => KeptTotal::Number(0),
-            Kept::Number(_) | Kept::Code(_) => KeptTotal::Number(1),
+            Kept::Null => Kept::Number(0),
+            Kept::Number(_) | Kept::Code(_) => Kept::Number(1),
         },
-        SetFunction::Min | SetFunction::Max => match cell {
-            Kept::Null => KeptTotal::Null,
-            Kept::Number(number) => KeptTotal::Number(i128::from(number)),
-            Kept::Code(code) => KeptTotal::Code(code),
-        },
+        SetFunction::Min | SetFunction::Max => cell,
     }
 }
 
-// Makes totals those of a set function over each of some values alone.
-pub(crate) fn alone_all(function: SetFunction, cells: &[Kept], totals: &mut [KeptTotal])
-    requires { length totals.old ≡ length cells.now }
-    ensures { AreAlone function cells.now totals.new }
+// Whether a set function over a value of a column of this type alone is that value.
+fn is_itself(function: SetFunction, kind: ColType) -> bool
+    ensures { (cell : AnyKept) → result ≡ true → IsOfKind kind cell → IsAlone function cell cell }
 {
-    for at in 0..totals.len() {
-        totals[at] = alone(function, cells[at]);
+    match (function, kind) {
+        (SetFunction::Count, _) | (SetFunction::Sum, ColType::Text) => false,
+        (SetFunction::Sum, ColType::Int) | (SetFunction::Min | SetFunction::Max, _) => true,
+    }
+}
+
+// Makes each of some values of a column of this type what a set function is over it alone.
+pub(crate) fn alone_all(function: SetFunction, kind: ColType, cells: &mut [Kept])
+    requires { AreOfKind kind cells.old }
+    ensures { AreAlone function cells.old cells.new }
+{
+    if is_itself(function, kind) {
+        return;
+    }
+    for at in 0..cells.len() {
+        cells[at] = alone(function, cells[at]);
     }
 }
 
@@ -48,7 +59,7 @@ pub(crate) fn apply_all(
     function: SetFunction,
     left: &[Kept],
     right: &[Kept],
-    totals: &mut [KeptTotal],
+    totals: &mut [Kept],
 ) -> bool
     requires left { length totals.old ≡ length left.now }
     requires right { length totals.old ≡ length right.now }

@@ -1,6 +1,6 @@
 // What is read at a column of a job.
 
-ghost use Rattle.std.specs.Prelude.{◌≡◌, ◌<◌, ℕ, List, [], OnOk, Some, true, get_or, length, map, option_map, slice_get};
+ghost use Rattle.std.specs.Prelude.{◌≡◌, ◌<◌, ℕ, List, OnOk, Some, true, get_or, length, map, option_map, slice_get};
 ghost use Rattle.std.specs.List.{All};
 ghost use Rattle.ssb_cells.specs.Cell.{Cell};
 ghost use Rattle.ssb_cells.specs.Codes.{texts_of};
@@ -182,6 +182,15 @@ fn fill(
         ColType::Int => fill_numbers(column, rows, cells.as_mut_slice()),
     }
     Ok(())
+}
+
+// The type of a column.
+pub(crate) fn kind_at(tables: &[Table], column: ColumnRef) -> ColType
+    requires { IsColumn tables.now column }
+    ensures { result ≡ kind_of tables.now column }
+{
+    let table = &tables[column.table];
+    table.column(column.column).kind()
 }
 
 // Fills a list with what stands for the values of a column in the combinations of a block.

@@ -9,7 +9,8 @@ ghost use Rattle.ssb_plan.specs.Inputs.{column_ref, has_column, values_of};
 ghost use Rattle.ssb_plan.specs.JobShape.{from_tables};
 ghost use Rattle.ssb_groups.specs.Tallies.{AreTotals, lists, totals_at, totals_in};
 ghost use Rattle.ssb_groups.specs.Joining.{AreJoinings, IsJoining, joinings_of, values_by};
-ghost use Rattle.ssb_groups.specs.Keys.{AreKept, AreLawful, AreNumbersOf, HasCells, HasDomains, IsKept, IsKey, cells_in, domains_of, kept_in, kept_total, key_columns, key_of, spelt, spelt_cell};
+ghost use Rattle.ssb_groups.specs.GroupKeys.{lent};
+ghost use Rattle.ssb_groups.specs.Keys.{AreKept, AreLawful, AreNumbersOf, HasCells, HasDomains, IsKept, IsKey, cells_in, domains_of, kept_total, key_columns, key_of, spelt, spelt_cell};
 ghost use Rattle.ssb_keys.specs.Domains.{cells, size};
 ghost use Rattle.ssb_groups.specs.Refs.{IsColumn, IsSomeColumn, values_at};
 ghost use Rattle.ssb_groups.specs.Totals.{total_cell};
@@ -19,7 +20,7 @@ use crate::column::{cell_in, fill_cells, text_in};
 use crate::domains::domains_of;
 use crate::joining::Joining;
 use crate::kept::KeptTotal;
-use crate::key::GroupKey;
+use crate::key::KeyRef;
 use crate::tallies::Tally;
 use crate::totals::Total;
 use ssb_cells::{Table, Value};
@@ -272,15 +273,15 @@ impl Columns {
     pub(crate) fn spell_key(
         &self,
         alloc: Global,
-        key: &GroupKey,
+        key: KeyRef<'_>,
     ) -> Result<Vec<Value<'_>>, AllocError>
-        requires { IsKey self.now key.now }
-        ensures { IfOk result (λ values. map cell_of values.items ≡ cells_in self.now key.now) }
+        requires { IsKey self.now (lent key) }
+        ensures { IfOk result (λ values. map cell_of values.items ≡ cells_in self.now (lent key.entry)) }
     {
         match (key, &self.domains) {
-            (GroupKey::Cells(cells), _) => self.spell_cells(alloc, cells),
-            (GroupKey::Number(number), Some(domains)) => self.spell_number(alloc, domains, *number),
-            (GroupKey::Number(_), None) => unreachable!(),
+            (KeyRef::Cells(cells), _) => self.spell_cells(alloc, cells),
+            (KeyRef::Number(number), Some(domains)) => self.spell_number(alloc, domains, number),
+            (KeyRef::Number(_), None) => unreachable!(),
         }
     }
 

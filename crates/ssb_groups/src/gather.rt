@@ -16,17 +16,16 @@ ghost use Rattle.ssb_groups.specs.Pairs.{IsPairOf};
 ghost use Rattle.ssb_groups.specs.Refs.{input_texts, input_value};
 ghost use Rattle.ssb_groups.specs.Seen.{fact_of, seen};
 ghost use Rattle.ssb_groups.specs.Stands.{IsRanged, least, least_of, overflows};
-ghost use Rattle.ssb_groups.specs.Tallies.{lists};
-ghost use Rattle.ssb_groups.specs.declared.kept.KeptTotal.TheVariants as tally;
+ghost use Rattle.ssb_groups.specs.Tallies.{cell_lists};
+ghost use Rattle.ssb_keys.specs.declared.kept.Kept.TheVariants as kept;
 ghost use Rattle.ssb_plan.specs.declared.input.Input.TheVariants as inputs;
 
 use crate::alone::{alone, alone_all, apply_all};
-use crate::column::{cell, fill_cells};
+use crate::column::{cell, fill_cells, kind_at};
 use crate::evaluate::number;
-use crate::kept::KeptTotal;
 use crate::pair::{Pair, pair_of};
 use crate::room::Room;
-use crate::tallies::Tally;
+use crate::tallies::Alone;
 use ssb_job::{Block, Job, JoinedRow};
 use ssb_keys::Kept;
 use ssb_plan::{ColumnRef, Input};
@@ -66,7 +65,7 @@ struct Taken {
     /// Whether its argument is Over.
     over: bool,
     /// The aggregate over the combination alone.
-    total: KeptTotal,
+    total: Kept,
 }
 
 fn take(job: &Job, row: &JoinedRow, aggregate: &Aggregate<BoundColumn>, input: &Input) -> Taken
@@ -78,7 +77,7 @@ fn take(job: &Job, row: &JoinedRow, aggregate: &Aggregate<BoundColumn>, input: &
     match aggregate {
         Aggregate::Rows => Taken {
             over: false,
-            total: KeptTotal::Number(1),
+            total: Kept::Number(1),
         },
         Aggregate::Of(function, _) => {
             let value = value(job, row, input);
@@ -113,43 +112,42 @@ fn least_with(job: &Job, row: &JoinedRow, taken: Taken, so_far: Option<u32>) -> 
     }
 }
 
-// Fills a tally with COUNT(*) over each of so many combinations alone.
-fn gather_count(count: usize, totals: &mut Tally) -> Result<(), AllocError>
+// Fills a list with COUNT(*) over each of so many combinations alone.
+fn gather_count(count: usize, totals: &mut Alone) -> Result<(), AllocError>
     ensures many { OnOk result (length totals.new.items ≡ count) }
-    ensures each { OnOk result ((n : ℕ) → n < count → get_or totals.new.items n tally.Null ≡ tally.Number (pos 1)) }
+    ensures each { OnOk result ((n : ℕ) → n < count → get_or totals.new.items n kept.Null ≡ kept.Number (pos 1)) }
 {
     totals.clear();
-    totals.resize(count, KeptTotal::Number(1))
+    totals.resize(count, Kept::Number(1))
 }
 
-// Fills a tally with a set function over a column's value in each combination of a block alone.
+// Fills a list with a set function over a column's value in each combination of a block alone.
 fn gather_values(
     job: &Job,
     block: &Block,
     function: SetFunction,
     column: ColumnRef,
-    cells: &mut Vec<Kept>,
-    totals: &mut Tally,
+    totals: &mut Alone,
 ) -> Result<(), AllocError>
     requires rows { All (IsCombination (from_tables job.now)) block.now }
     requires there { has_column job.now.query job.now.tables column ≡ true }
     ensures { OnOk result ((e : AnyExpr AnyColumn) → input_of job.now.query (aggregates.Of function e) ≡ inputs.Column column → AreTakenPlain job.now (aggregates.Of function e) block.now totals.new.items) }
 {
-    fill_cells(job.tables(), block, column, cells)?;
-    totals.resize(cells.len(), KeptTotal::Null)?;
-    alone_all(function, cells.as_slice(), totals.as_mut_slice());
+    let tables = job.tables();
+    fill_cells(tables, block, column, totals)?;
+    alone_all(function, kind_at(tables, column), totals.as_mut_slice());
     Ok(())
 }
 
-// Fills a tally with a set function over an expression of two columns in each combination of a block alone. Whether
-// it is nowhere Over: if it is, the tally is of no matter.
+// Fills a list with a set function over an expression of two columns in each combination of a block alone. Whether
+// it is nowhere Over: if it is, the list is of no matter.
 fn gather_pairs(
     job: &Job,
     block: &Block,
     function: SetFunction,
     pair: Pair,
     room: &mut Room,
-    totals: &mut Tally,
+    totals: &mut Alone,
 ) -> Result<bool, AllocError>
     requires rows { All (IsCombination (from_tables job.now)) block.now }
     requires left { has_column job.now.query job.now.tables pair.left ≡ true }
@@ -158,7 +156,7 @@ fn gather_pairs(
 {
     fill_cells(job.tables(), block, pair.left, &mut room.cells)?;
     fill_cells(job.tables(), block, pair.right, &mut room.right_cells)?;
-    totals.resize(room.cells.len(), KeptTotal::Null)?;
+    totals.resize(room.cells.len(), Kept::Null)?;
     Ok(apply_all(
         pair.operation,
         function,
@@ -168,15 +166,15 @@ fn gather_pairs(
     ))
 }
 
-// Fills a tally with an aggregate over each combination of a block alone, by loops over columns. Whether there are such
-// loops for what it takes, and it is nowhere Over: if not, the tally is of no matter.
+// Fills a list with an aggregate over each combination of a block alone, by loops over columns. Whether there are such
+// loops for what it takes, and it is nowhere Over: if not, the list is of no matter.
 fn gather_plain(
     job: &Job,
     block: &Block,
     aggregate: &Aggregate<BoundColumn>,
     input: &Input,
     room: &mut Room,
-    totals: &mut Tally,
+    totals: &mut Alone,
 ) -> Result<bool, AllocError>
     requires rows { All (IsCombination (from_tables job.now)) block.now }
     requires input { input.now ≡ input_of job.now.query aggregate.now }
@@ -189,7 +187,7 @@ fn gather_plain(
             Ok(true)
         }
         (Aggregate::Of(function, _), Input::Column(column)) => {
-            gather_values(job, block, *function, *column, &mut room.cells, totals)?;
+            gather_values(job, block, *function, *column, totals)?;
             Ok(true)
         }
         (Aggregate::Of(function, _), Input::Number(expr)) => match pair_of(expr) {
@@ -200,14 +198,14 @@ fn gather_plain(
     }
 }
 
-// Fills a tally with an aggregate over each combination of a block alone, one after the other. The least row of the fact table at which
-// its argument is Over, or the one that is given where that is less.
+// Fills a list with an aggregate over each combination of a block alone, one after the other. The least row of the fact
+// table at which its argument is Over, or the one that is given where that is less.
 fn gather_rows(
     job: &Job,
     block: &Block,
     place: usize,
     so_far: Option<u32>,
-    totals: &mut Tally,
+    totals: &mut Alone,
 ) -> Result<Option<u32>, AllocError>
     requires rows { All (IsCombination (from_tables job.now)) block.now }
     requires place { place < length job.now.query.aggregates }
@@ -229,7 +227,7 @@ fn gather_rows(
     Ok(found)
 }
 
-// Fills a tally with an aggregate over each combination of a block alone, by loops over columns where it takes one, or
+// Fills a list with an aggregate over each combination of a block alone, by loops over columns where it takes one, or
 // two that are nowhere Over together. The least row of the fact table at which its argument is Over, or the one that is
 // given where that is less.
 fn gather_column(
@@ -238,7 +236,7 @@ fn gather_column(
     place: usize,
     so_far: Option<u32>,
     room: &mut Room,
-    totals: &mut Tally,
+    totals: &mut Alone,
 ) -> Result<Option<u32>, AllocError>
     requires rows { All (IsCombination (from_tables job.now)) block.now }
     requires place { place < length job.now.query.aggregates }
@@ -253,18 +251,18 @@ fn gather_column(
     gather_rows(job, block, place, so_far, totals)
 }
 
-// Fills tallies with the aggregates over each combination of a block alone. The least row of the fact table at which
+// Fills lists with the aggregates over each combination of a block alone. The least row of the fact table at which
 // an argument is Over.
 pub(crate) fn gather(
     job: &Job,
     block: &Block,
     room: &mut Room,
-    totals: &mut [Tally],
+    totals: &mut [Alone],
 ) -> Result<Option<u32>, AllocError>
     requires rows { All (IsCombination (from_tables job.now)) block.now }
     requires many { length totals.old ≡ length job.now.query.aggregates }
     ensures least { IfOk result (λ n. n ≡ least (overflows (map (seen job.now) block.now))) }
-    ensures taken { OnOk result (AllTaken job.now block.now (lists totals.new)) }
+    ensures taken { OnOk result (AllTaken job.now block.now (cell_lists totals.new)) }
     ensures many { length totals.new ≡ length totals.old }
 {
     let mut found = None;

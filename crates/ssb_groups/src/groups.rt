@@ -18,8 +18,8 @@ use crate::columns::Columns;
 use crate::gather::gather;
 use crate::room::Room;
 use crate::store::Store;
-use crate::table::no_tallies;
-use crate::tallies::Tally;
+use crate::table::no_alone;
+use crate::tallies::Alone;
 use crate::totals::Total;
 use ssb_cells::Value;
 use ssb_job::{Block, Job, JoinedRow};
@@ -39,7 +39,7 @@ pub struct Groups {
     store: Store,
     room: Room,
     // The totals over each combination of a block alone, whose memory is used again for the next block.
-    totals: Vec<Tally>,
+    totals: Vec<Alone>,
 }
 
 // Written out, so that the crates above need no proof of how its parts are let go.
@@ -101,7 +101,7 @@ impl Groups {
             columns,
             store: Store::new(alloc, job)?,
             room: Room::new(alloc),
-            totals: no_tallies(alloc, job.query().parts().aggregates.len())?,
+            totals: no_alone(alloc, job.query().parts().aggregates.len())?,
         })
     }
 

@@ -19,6 +19,7 @@ ghost use Rattle.ssb_trees.specs.declared.expr.Expr.{Expr as AnyExpr};
 use crate::column::text_in;
 use crate::kept::KeptTotal;
 use ssb_cells::Table;
+use ssb_keys::Kept;
 use ssb_plan::{ColumnRef, Input};
 use ssb_query::BoundColumn;
 use ssb_trees::{Aggregate, SetFunction};
@@ -93,6 +94,20 @@ fn add(a: KeptTotal, b: KeptTotal) -> KeptTotal
         (KeptTotal::Null, _) => b,
         (_, KeptTotal::Null) => a,
         (KeptTotal::Number(x), KeptTotal::Number(y)) => KeptTotal::Number(x.wrapping_add(y)),
+        _ => KeptTotal::Null,
+    }
+}
+
+// The sum of a total and one more. Two numbers are tested for first: most sums are of two.
+#[inline(always)]
+pub(crate) fn add_alone(total: KeptTotal, more: Kept) -> KeptTotal
+    ensures joined { FitsAdded (spelt_cell [] (kept_total total)) (spelt_cell [] more) → spelt_cell [] (kept_total result) ≡ added (spelt_cell [] (kept_total total)) (spelt_cell [] more) }
+    ensures kept { IsKept [] (kept_total total) → IsKept [] more → IsKept [] (kept_total result) }
+{
+    match (total, more) {
+        (KeptTotal::Number(x), Kept::Number(y)) => KeptTotal::Number(x.wrapping_add(i128::from(y))),
+        (_, Kept::Null) => total,
+        (KeptTotal::Null, _) => KeptTotal::of(more),
         _ => KeptTotal::Null,
     }
 }

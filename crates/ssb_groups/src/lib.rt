@@ -3,11 +3,12 @@
 //! - Offers: [`Groups`], which stand for a list of rows in whatever order they came: `empty`, `add`,
 //!   `add_block`, `merge`; [`Group`] and [`Total`], which they lend.
 //! - Callers: `ssb_pipeline`, whose parts hold groups; `ssb_rows`, which makes rows of them.
-//! - Files: `groups`, `store`, `table`; `places`, `guesses`, `room`: where keys stand; `key`, `kept`, `column`,
-//!   `columns`, `domains`: keys; `gather`, `alone`, `pair`, `evaluate`, `outcome`: what a block adds; `totals`, `tallies`, `joining`:
-//!   aggregates.
+//! - Files: `groups`, `store`, `table`; `places`, `guesses`, `room`: where keys stand; `key`, `keys`, `column`,
+//!   `columns`, `domains`: keys; `gather`, `alone`, `pair`, `evaluate`, `outcome`: what a block adds; `kept`, `totals`,
+//!   `tallies`, `joining`: aggregates.
 //! - Definitions: `Value`, `Aggregates`, `Rows`, `Seen`, `Stands`, `Added`: what groups stand for; `Keys`,
-//!   `Refs`, `Places`, `Tallies`, `Joining`, `Gathering`, `Alone`, `Pairs`, `Outcomes`, `Totals`: how they are kept.
+//!   `GroupKeys`, `Refs`, `Places`, `Tallies`, `Joining`, `Gathering`, `Alone`, `Pairs`, `Outcomes`, `Totals`: how they
+//!   are kept.
 #![tactic(auto)]
 
 mod alone;
@@ -21,6 +22,7 @@ mod guesses;
 mod joining;
 mod kept;
 mod key;
+mod keys;
 mod outcome;
 mod pair;
 mod places;

@@ -1,7 +1,6 @@
 // Room that is used again for each block.
 
 use crate::guesses::Guesses;
-use crate::key::GroupKey;
 use ssb_keys::Kept;
 use std::alloc::Global;
 
@@ -15,8 +14,6 @@ pub(crate) struct Room {
     pub(crate) right_cells: Vec<Kept>,
     /// The number of each combination's key.
     pub(crate) numbers: Vec<u64>,
-    /// Its key.
-    pub(crate) key: GroupKey,
     /// The place of each combination's key.
     pub(crate) places: Vec<usize>,
     pub(crate) guesses: Guesses,
@@ -30,7 +27,6 @@ impl Room {
             cells: Vec::new(alloc),
             right_cells: Vec::new(alloc),
             numbers: Vec::new(alloc),
-            key: GroupKey::Number(0),
             places: Vec::new(alloc),
             guesses: Guesses::new(alloc),
         }

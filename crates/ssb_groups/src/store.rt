@@ -1,24 +1,25 @@
 // The groups over the rows so far.
 
-ghost use Rattle.std.specs.Prelude.{◌≡◌, ◌+◌, ◌<◌, ◌^◌, ℕ, [], ◌++◌, List, length, map, Some, slice_get, IfOk, OnOk, OnErr};
+ghost use Rattle.std.specs.Prelude.{◌≡◌, ◌+◌, ◌<◌, ◌^◌, [], ◌++◌, List, length, map, Some, slice_get, IfOk, OnOk, OnErr};
 ghost use Rattle.std.specs.List.{All};
 ghost use Rattle.ssb_conditions.specs.Rows.{IsCombination};
 ghost use Rattle.ssb_groups.specs.Added.{AddsRows};
 ghost use Rattle.ssb_groups.specs.Gathering.{AllTaken};
+ghost use Rattle.ssb_groups.specs.GroupKeys.{lent};
 ghost use Rattle.ssb_groups.specs.Keys.{IsKey, cells_in};
 ghost use Rattle.ssb_groups.specs.Rows.{SeenRow};
 ghost use Rattle.ssb_groups.specs.Seen.{seen};
 ghost use Rattle.ssb_groups.specs.Stands.{AreRanged, Stands, least, overflows};
-ghost use Rattle.ssb_groups.specs.Tallies.{AreTotals, lists, totals_at, totals_in};
+ghost use Rattle.ssb_groups.specs.Tallies.{AreTotals, cell_lists, lists, totals_at, totals_in};
 ghost use Rattle.ssb_job.specs.Kept.{AreOneJob};
 ghost use Rattle.ssb_plan.specs.JobShape.{from_tables};
 
 use crate::columns::Columns;
 use crate::gather::lesser;
-use crate::key::GroupKey;
+use crate::key::KeyRef;
 use crate::room::Room;
 use crate::table::GroupTable;
-use crate::tallies::Tally;
+use crate::tallies::{Alone, Tally};
 use ssb_job::{Block, Job};
 use std::alloc::{AllocError, Global};
 use std::marker::Model;
@@ -35,11 +36,10 @@ pub(crate) struct Store {
 }
 
 impl Model for Store {
-    ghost use Rattle.indexmap.specs.IndexSet.{IsUnique};
+    ghost use Rattle.ssb_groups.specs.GroupKeys.{AreUnique, keys_in};
     ghost use Rattle.ssb_groups.specs.Places.{IsTable};
     ghost use Rattle.ssb_groups.specs.Stands.{GroupMap};
     ghost use Rattle.ssb_groups.specs.Tallies.{entries_of, lists};
-    ghost use Rattle.ssb_groups.specs.contracts.key.GroupKeyPartialEq.TheImpl as keys;
 
     ghost Value = { GroupMap };
 
@@ -48,9 +48,9 @@ impl Model for Store {
 
     ghost coded = { Prim.hlevel (codes, job_type.the_row.coded) };
 
-    ghost view = { λ s. record { job = s.job.value; entries = entries_of s.job.value s.table.keys.keys (lists s.table.tallies.items); overflow = s.overflow; counted = s.counted } };
+    ghost view = { λ s. record { job = s.job.value; entries = entries_of s.job.value (keys_in s.table.keys) (lists s.table.tallies.items); overflow = s.overflow; counted = s.counted } };
 
-    ghost invariant = { λ s. IsUnique keys.eq-value.it s.table.keys × IsTable s.job.value s.table.keys.keys (lists s.table.tallies.items) };
+    ghost invariant = { λ s. AreUnique s.table.keys × IsTable s.job.value (keys_in s.table.keys) (lists s.table.tallies.items) };
 }
 
 impl Store {
@@ -86,13 +86,13 @@ impl Store {
         columns: &Columns,
         block: &Block,
         room: &mut Room,
-        totals: &[Tally],
+        totals: &[Alone],
     ) -> Result<(), AllocError>
         requires columns { columns.now ≡ self.old.job }
         requires rows { All (IsCombination (from_tables self.old.job)) block.now }
         requires few { self.old.counted + length block.now < 2 ^ 32 }
         requires many { length totals.now ≡ length self.old.job.query.aggregates }
-        requires totals { AllTaken self.old.job block.now (lists totals.now) }
+        requires totals { AllTaken self.old.job block.now (cell_lists totals.now) }
         requires plain { overflows (map (seen self.old.job) block.now) ≡ [] }
         requires ranged { AreRanged (map (seen self.old.job) block.now) }
         ensures stands { OnOk result (AddsRows self.old.job block.now self.old self.new) }
@@ -151,14 +151,14 @@ impl Store {
     }
 
     // The key of a group, and the tallies of all aggregates, in which its totals stand at this place.
-    pub(crate) fn group(&self, at: usize) -> (&GroupKey, &[Tally])
+    pub(crate) fn group(&self, at: usize) -> (KeyRef<'_>, &[Tally])
         requires { at < length self.now.entries }
-        ensures key { IsKey self.now.job result.0.now }
+        ensures key { IsKey self.now.job (lent result.0) }
         ensures many { length result.1.now ≡ length self.now.job.query.aggregates }
         ensures totals { AreTotals self.now.job (totals_at (lists result.1.now) at) }
-        ensures entry { slice_get self.now.entries at ≡ Some (cells_in self.now.job result.0.now, totals_in self.now.job (totals_at (lists result.1.now) at)) }
+        ensures entry { slice_get self.now.entries at ≡ Some (cells_in self.now.job (lent result.0), totals_in self.now.job (totals_at (lists result.1.now) at)) }
     {
-        let Some(key) = self.table.keys.get_index(at) else {
+        let Some(key) = self.table.keys.get(at) else {
             unreachable!()
         };
         (key, self.table.tallies.as_slice())

@@ -2,21 +2,19 @@
 
 ghost use Rattle.std.specs.Prelude.{◌≡◌, ◌<◌, ◌≤◌, ℕ, [], get_or, length, map, IfOk, OnErr, OnOk};
 ghost use Rattle.std.specs.List.{All};
-ghost use Rattle.indexmap.specs.IndexSet.{IsUnique};
 ghost use Rattle.ssb_conditions.specs.Rows.{IsCombination};
 ghost use Rattle.ssb_plan.specs.JobShape.{from_tables};
 ghost use Rattle.ssb_groups.specs.Gathering.{key_at};
+ghost use Rattle.ssb_groups.specs.GroupKeys.{AreUnique, keys_in};
 ghost use Rattle.ssb_groups.specs.Keys.{HasCells, cells_in};
 ghost use Rattle.ssb_groups.specs.Places.{AreGrown, AreKeys, IsFront, IsTable, JoinsGrown, JoinsRows, OpenAll};
-ghost use Rattle.ssb_groups.specs.Tallies.{AreTallies, lists};
-ghost use Rattle.ssb_groups.specs.contracts.key.GroupKeyPartialEq.TheImpl as key_test;
+ghost use Rattle.ssb_groups.specs.Tallies.{AreAdded, AreTallies, cell_lists, kept_lists, lists};
 
 use crate::columns::Columns;
-use crate::key::GroupKey;
-use crate::places::{Keys, open, open_numbers};
+use crate::keys::Keys;
+use crate::places::{open, open_numbers};
 use crate::room::Room;
-use crate::tallies::{Tally, grow, join_all};
-use indexmap::IndexSet;
+use crate::tallies::{Alone, Tally, grow, join_all, join_all_alone};
 use ssb_job::Block;
 use std::alloc::{AllocError, Global};
 
@@ -39,6 +37,17 @@ pub(crate) fn no_tallies(alloc: Global, count: usize) -> Result<Vec<Tally>, Allo
     Ok(tallies)
 }
 
+// So many empty lists of totals alone.
+pub(crate) fn no_alone(alloc: Global, count: usize) -> Result<Vec<Alone>, AllocError>
+    ensures { IfOk result (λ totals. length totals.items ≡ count) }
+{
+    let mut totals = Vec::new(alloc);
+    for _ in 0..count {
+        totals.push(Vec::new(alloc))?;
+    }
+    Ok(totals)
+}
+
 // Finds the places of the keys of a block's combinations, one after the other, and adds those that are not there. Where
 // memory is refused, some may be added.
 fn open_rows(
@@ -48,19 +57,18 @@ fn open_rows(
     room: &mut Room,
 ) -> Result<(), AllocError>
     requires cells { HasCells columns.now }
-    requires unique { IsUnique key_test.eq-value.it keys.old }
-    requires keys { AreKeys columns.now keys.old.keys }
+    requires unique { AreUnique keys.old }
+    requires keys { AreKeys columns.now (keys_in keys.old) }
     requires rows { All (IsCombination (from_tables columns.now)) block.now }
-    ensures unique { IsUnique key_test.eq-value.it keys.new }
-    ensures keys { AreKeys columns.now keys.new.keys }
-    ensures front { IsFront keys.old.keys keys.new.keys }
-    ensures opened { OnOk result (OpenAll columns.now keys.old.keys keys.new.keys (map (key_at columns.now) block.now) room.new.places.items) }
+    ensures unique { AreUnique keys.new }
+    ensures keys { AreKeys columns.now (keys_in keys.new) }
+    ensures front { IsFront (keys_in keys.old) (keys_in keys.new) }
+    ensures opened { OnOk result (OpenAll columns.now (keys_in keys.old) (keys_in keys.new) (map (key_at columns.now) block.now) room.new.places.items) }
 {
     room.places.clear();
     for at in 0..block.len() {
         columns.fill(&block.row(at), &mut room.cells)?;
-        room.key.set_cells(room.alloc, &room.cells)?;
-        let place = open(room.alloc, keys, &mut room.guesses, &room.key)?;
+        let place = keys.open_cells(room.alloc, &room.cells)?;
         room.places.push(place)?;
     }
     Ok(())
@@ -73,20 +81,19 @@ fn open_block(
     block: &Block,
     room: &mut Room,
 ) -> Result<(), AllocError>
-    requires unique { IsUnique key_test.eq-value.it keys.old }
-    requires keys { AreKeys columns.now keys.old.keys }
+    requires unique { AreUnique keys.old }
+    requires keys { AreKeys columns.now (keys_in keys.old) }
     requires rows { All (IsCombination (from_tables columns.now)) block.now }
-    ensures unique { IsUnique key_test.eq-value.it keys.new }
-    ensures keys { AreKeys columns.now keys.new.keys }
-    ensures front { IsFront keys.old.keys keys.new.keys }
-    ensures opened { OnOk result (OpenAll columns.now keys.old.keys keys.new.keys (map (key_at columns.now) block.now) room.new.places.items) }
+    ensures unique { AreUnique keys.new }
+    ensures keys { AreKeys columns.now (keys_in keys.new) }
+    ensures front { IsFront (keys_in keys.old) (keys_in keys.new) }
+    ensures opened { OnOk result (OpenAll columns.now (keys_in keys.old) (keys_in keys.new) (map (key_at columns.now) block.now) room.new.places.items) }
 {
     let Some(domains) = columns.domains() else {
         return open_rows(columns, keys, block, room);
     };
     columns.number_keys(domains, block, &mut room.cells, &mut room.numbers)?;
     open_numbers(
-        room.alloc,
         columns,
         keys,
         &mut room.guesses,
@@ -99,19 +106,22 @@ fn open_block(
 fn open_keys(
     columns: &Columns,
     keys: &mut Keys,
-    others: &[GroupKey],
+    others: &Keys,
     room: &mut Room,
 ) -> Result<(), AllocError>
-    requires unique { IsUnique key_test.eq-value.it keys.old }
-    requires keys { AreKeys columns.now keys.old.keys }
-    requires others { AreKeys columns.now others.now }
-    ensures unique { IsUnique key_test.eq-value.it keys.new }
-    ensures keys { AreKeys columns.now keys.new.keys }
-    ensures front { IsFront keys.old.keys keys.new.keys }
-    ensures opened { OnOk result (OpenAll columns.now keys.old.keys keys.new.keys (map (cells_in columns.now) others.now) room.new.places.items) }
+    requires unique { AreUnique keys.old }
+    requires keys { AreKeys columns.now (keys_in keys.old) }
+    requires others { AreKeys columns.now (keys_in others.now) }
+    ensures unique { AreUnique keys.new }
+    ensures keys { AreKeys columns.now (keys_in keys.new) }
+    ensures front { IsFront (keys_in keys.old) (keys_in keys.new) }
+    ensures opened { OnOk result (OpenAll columns.now (keys_in keys.old) (keys_in keys.new) (map (cells_in columns.now) (keys_in others.now)) room.new.places.items) }
 {
     room.places.clear();
-    for key in others {
+    for at in 0..others.len() {
+        let Some(key) = others.get(at) else {
+            unreachable!()
+        };
         let place = open(room.alloc, keys, &mut room.guesses, key)?;
         room.places.push(place)?;
     }
@@ -121,13 +131,13 @@ fn open_keys(
 impl GroupTable {
     // No group of so many aggregates.
     pub(crate) fn new(alloc: Global, count: usize) -> Result<GroupTable, AllocError>
-        ensures unique { IfOk result (λ table. IsUnique key_test.eq-value.it table.keys) }
-        ensures none { IfOk result (λ table. table.keys.keys ≡ []) }
+        ensures unique { IfOk result (λ table. AreUnique table.keys) }
+        ensures none { IfOk result (λ table. (keys_in table.keys) ≡ []) }
         ensures many { IfOk result (λ table. length table.tallies.items ≡ count) }
         ensures empty { IfOk result (λ table. (i : ℕ) → get_or (lists table.tallies.items) i [] ≡ []) }
     {
         Ok(GroupTable {
-            keys: IndexSet::new(alloc),
+            keys: Keys::new(alloc),
             tallies: no_tallies(alloc, count)?,
         })
     }
@@ -139,16 +149,36 @@ impl GroupTable {
         places: &[usize],
         more: &[Tally],
     ) -> Result<(), AllocError>
-        requires tallies { (n : ℕ) × (n ≤ length self.old.keys.keys) × AreTallies columns.now n (lists self.old.tallies.items) }
-        requires places { All (λ p. p < length self.old.keys.keys) places.now }
+        requires tallies { (n : ℕ) × (n ≤ length (keys_in self.old.keys)) × AreTallies columns.now n (lists self.old.tallies.items) }
+        requires places { All (λ p. p < length (keys_in self.old.keys)) places.now }
         requires more { AreTallies columns.now (length places.now) (lists more.now) }
-        ensures joined { OnOk result (JoinsGrown columns.now places.now (lists more.now) (lists self.old.tallies.items) (lists self.new.tallies.items)) }
-        ensures tallies { OnOk result (AreTallies columns.now (length self.old.keys.keys) (lists self.new.tallies.items)) }
+        ensures joined { OnOk result (JoinsGrown columns.now places.now (kept_lists (lists more.now)) (lists self.old.tallies.items) (lists self.new.tallies.items)) }
+        ensures tallies { OnOk result (AreTallies columns.now (length (keys_in self.old.keys)) (lists self.new.tallies.items)) }
         ensures grown { OnErr result (AreGrown (lists self.old.tallies.items) (lists self.new.tallies.items)) }
         ensures keys { self.new.keys ≡ self.old.keys }
     {
         grow(self.tallies.as_mut_slice(), self.keys.len())?;
         join_all(columns, self.tallies.as_mut_slice(), places, more);
+        Ok(())
+    }
+
+    // Joins to the totals at places those beside the places.
+    fn join_alone(
+        &mut self,
+        columns: &Columns,
+        places: &[usize],
+        more: &[Alone],
+    ) -> Result<(), AllocError>
+        requires tallies { (n : ℕ) × (n ≤ length (keys_in self.old.keys)) × AreTallies columns.now n (lists self.old.tallies.items) }
+        requires places { All (λ p. p < length (keys_in self.old.keys)) places.now }
+        requires more { AreAdded columns.now (length places.now) (cell_lists more.now) }
+        ensures joined { OnOk result (JoinsGrown columns.now places.now (cell_lists more.now) (lists self.old.tallies.items) (lists self.new.tallies.items)) }
+        ensures tallies { OnOk result (AreTallies columns.now (length (keys_in self.old.keys)) (lists self.new.tallies.items)) }
+        ensures grown { OnErr result (AreGrown (lists self.old.tallies.items) (lists self.new.tallies.items)) }
+        ensures keys { self.new.keys ≡ self.old.keys }
+    {
+        grow(self.tallies.as_mut_slice(), self.keys.len())?;
+        join_all_alone(columns, self.tallies.as_mut_slice(), places, more);
         Ok(())
     }
 
@@ -158,20 +188,20 @@ impl GroupTable {
         columns: &Columns,
         block: &Block,
         room: &mut Room,
-        more: &[Tally],
+        more: &[Alone],
     ) -> Result<(), AllocError>
-        requires unique { IsUnique key_test.eq-value.it self.old.keys }
-        requires table { IsTable columns.now self.old.keys.keys (lists self.old.tallies.items) }
+        requires unique { AreUnique self.old.keys }
+        requires table { IsTable columns.now (keys_in self.old.keys) (lists self.old.tallies.items) }
         requires rows { All (IsCombination (from_tables columns.now)) block.now }
-        requires more { AreTallies columns.now (length block.now) (lists more.now) }
-        ensures unique { IsUnique key_test.eq-value.it self.new.keys }
-        ensures front { IsFront self.old.keys.keys self.new.keys.keys }
-        ensures table { OnOk result (IsTable columns.now self.new.keys.keys (lists self.new.tallies.items)) }
-        ensures joined { OnOk result (JoinsRows columns.now (map (key_at columns.now) block.now) (lists more.now) self.old.keys.keys self.new.keys.keys (lists self.old.tallies.items) (lists self.new.tallies.items)) }
+        requires more { AreAdded columns.now (length block.now) (cell_lists more.now) }
+        ensures unique { AreUnique self.new.keys }
+        ensures front { IsFront (keys_in self.old.keys) (keys_in self.new.keys) }
+        ensures table { OnOk result (IsTable columns.now (keys_in self.new.keys) (lists self.new.tallies.items)) }
+        ensures joined { OnOk result (JoinsRows columns.now (map (key_at columns.now) block.now) (cell_lists more.now) (keys_in self.old.keys) (keys_in self.new.keys) (lists self.old.tallies.items) (lists self.new.tallies.items)) }
         ensures grown { OnErr result (AreGrown (lists self.old.tallies.items) (lists self.new.tallies.items)) }
     {
         open_block(columns, &mut self.keys, block, room)?;
-        self.join(columns, &room.places, more)
+        self.join_alone(columns, &room.places, more)
     }
 
     // Adds other groups. Where memory is refused, keys may be left.
@@ -181,16 +211,16 @@ impl GroupTable {
         other: &GroupTable,
         room: &mut Room,
     ) -> Result<(), AllocError>
-        requires unique { IsUnique key_test.eq-value.it self.old.keys }
-        requires table { IsTable columns.now self.old.keys.keys (lists self.old.tallies.items) }
-        requires other { IsTable columns.now other.now.keys.keys (lists other.now.tallies.items) }
-        ensures unique { IsUnique key_test.eq-value.it self.new.keys }
-        ensures front { IsFront self.old.keys.keys self.new.keys.keys }
-        ensures table { OnOk result (IsTable columns.now self.new.keys.keys (lists self.new.tallies.items)) }
-        ensures joined { OnOk result (JoinsRows columns.now (map (cells_in columns.now) other.now.keys.keys) (lists other.now.tallies.items) self.old.keys.keys self.new.keys.keys (lists self.old.tallies.items) (lists self.new.tallies.items)) }
+        requires unique { AreUnique self.old.keys }
+        requires table { IsTable columns.now (keys_in self.old.keys) (lists self.old.tallies.items) }
+        requires other { IsTable columns.now (keys_in other.now.keys) (lists other.now.tallies.items) }
+        ensures unique { AreUnique self.new.keys }
+        ensures front { IsFront (keys_in self.old.keys) (keys_in self.new.keys) }
+        ensures table { OnOk result (IsTable columns.now (keys_in self.new.keys) (lists self.new.tallies.items)) }
+        ensures joined { OnOk result (JoinsRows columns.now (map (cells_in columns.now) (keys_in other.now.keys)) (kept_lists (lists other.now.tallies.items)) (keys_in self.old.keys) (keys_in self.new.keys) (lists self.old.tallies.items) (lists self.new.tallies.items)) }
         ensures grown { OnErr result (AreGrown (lists self.old.tallies.items) (lists self.new.tallies.items)) }
     {
-        open_keys(columns, &mut self.keys, other.keys.as_slice(), room)?;
+        open_keys(columns, &mut self.keys, &other.keys, room)?;
         self.join(columns, &room.places, &other.tallies)
     }
 
@@ -201,16 +231,16 @@ impl GroupTable {
         columns: &Columns,
         block: &Block,
         room: &mut Room,
-        more: &[Tally],
+        more: &[Alone],
     ) -> Result<(), AllocError>
-        requires unique { IsUnique key_test.eq-value.it self.old.keys }
-        requires table { IsTable columns.now self.old.keys.keys (lists self.old.tallies.items) }
+        requires unique { AreUnique self.old.keys }
+        requires table { IsTable columns.now (keys_in self.old.keys) (lists self.old.tallies.items) }
         requires rows { All (IsCombination (from_tables columns.now)) block.now }
-        requires more { AreTallies columns.now (length block.now) (lists more.now) }
-        ensures unique { IsUnique key_test.eq-value.it self.new.keys }
-        ensures table { IsTable columns.now self.new.keys.keys (lists self.new.tallies.items) }
-        ensures joined { OnOk result (JoinsRows columns.now (map (key_at columns.now) block.now) (lists more.now) self.old.keys.keys self.new.keys.keys (lists self.old.tallies.items) (lists self.new.tallies.items)) }
-        ensures keys { OnErr result (self.new.keys.keys ≡ self.old.keys.keys) }
+        requires more { AreAdded columns.now (length block.now) (cell_lists more.now) }
+        ensures unique { AreUnique self.new.keys }
+        ensures table { IsTable columns.now (keys_in self.new.keys) (lists self.new.tallies.items) }
+        ensures joined { OnOk result (JoinsRows columns.now (map (key_at columns.now) block.now) (cell_lists more.now) (keys_in self.old.keys) (keys_in self.new.keys) (lists self.old.tallies.items) (lists self.new.tallies.items)) }
+        ensures keys { OnErr result ((keys_in self.new.keys) ≡ (keys_in self.old.keys)) }
         ensures grown { OnErr result (AreGrown (lists self.old.tallies.items) (lists self.new.tallies.items)) }
     {
         let was = self.keys.len();
@@ -228,13 +258,13 @@ impl GroupTable {
         other: &GroupTable,
         room: &mut Room,
     ) -> Result<(), AllocError>
-        requires unique { IsUnique key_test.eq-value.it self.old.keys }
-        requires table { IsTable columns.now self.old.keys.keys (lists self.old.tallies.items) }
-        requires other { IsTable columns.now other.now.keys.keys (lists other.now.tallies.items) }
-        ensures unique { IsUnique key_test.eq-value.it self.new.keys }
-        ensures table { IsTable columns.now self.new.keys.keys (lists self.new.tallies.items) }
-        ensures joined { OnOk result (JoinsRows columns.now (map (cells_in columns.now) other.now.keys.keys) (lists other.now.tallies.items) self.old.keys.keys self.new.keys.keys (lists self.old.tallies.items) (lists self.new.tallies.items)) }
-        ensures keys { OnErr result (self.new.keys.keys ≡ self.old.keys.keys) }
+        requires unique { AreUnique self.old.keys }
+        requires table { IsTable columns.now (keys_in self.old.keys) (lists self.old.tallies.items) }
+        requires other { IsTable columns.now (keys_in other.now.keys) (lists other.now.tallies.items) }
+        ensures unique { AreUnique self.new.keys }
+        ensures table { IsTable columns.now (keys_in self.new.keys) (lists self.new.tallies.items) }
+        ensures joined { OnOk result (JoinsRows columns.now (map (cells_in columns.now) (keys_in other.now.keys)) (kept_lists (lists other.now.tallies.items)) (keys_in self.old.keys) (keys_in self.new.keys) (lists self.old.tallies.items) (lists self.new.tallies.items)) }
+        ensures keys { OnErr result ((keys_in self.new.keys) ≡ (keys_in self.old.keys)) }
         ensures grown { OnErr result (AreGrown (lists self.old.tallies.items) (lists self.new.tallies.items)) }
     {
         let was = self.keys.len();

@@ -1,23 +1,78 @@
 // The totals of all groups, aggregate by aggregate.
 
-ghost use Rattle.std.specs.Prelude.{◌≡◌, ℕ, ◌<◌, ◌≤◌, [], get_or, length, map, OnOk};
+ghost use Rattle.std.specs.Prelude.{◌≡◌, ℕ, ◌<◌, ◌≤◌, List, [], get_or, length, OnOk};
 ghost use Rattle.std.specs.List.{All};
+ghost use Rattle.ssb_cells.specs.Tables.{Columns as AnyColumns};
 ghost use Rattle.ssb_groups.specs.Joining.{IsJoining, values_by};
 ghost use Rattle.ssb_groups.specs.Keys.{IsKept, kept_total};
 ghost use Rattle.ssb_groups.specs.Places.{AreGrown, AreJoined, ArePlacesOf, IsJoined};
-ghost use Rattle.ssb_groups.specs.Tallies.{AreTallies, lists};
+ghost use Rattle.ssb_groups.specs.Tallies.{AreAdded, AreTallies, cell_lists, kept_lists, kept_totals, lists};
+ghost use Rattle.ssb_groups.specs.declared.joining.Joining.TheVariants as joining;
 ghost use Rattle.ssb_groups.specs.declared.kept.KeptTotal.TheVariants as totals;
+ghost use Rattle.ssb_keys.specs.declared.kept.Kept.TheVariants as kept;
 
 use crate::columns::Columns;
-use crate::joining::Joining;
+use crate::joining::{Joining, add_alone};
 use crate::kept::KeptTotal;
 use ssb_cells::Table;
+use ssb_keys::Kept;
 use std::alloc::AllocError;
 
 /// The total of each group, of one aggregate, at the group's place.
 pub(crate) type Tally = Vec<KeptTotal>;
 
+/// An aggregate over each combination of a block alone.
+pub(crate) type Alone = Vec<Kept>;
+
+// Adds to the totals at some places those beside the places. A place may come again, and often does at once: the total
+// at one place is kept outside the tally until another place comes.
+fn add_all(tally: &mut [KeptTotal], places: &[usize], more: &[Kept])
+    requires places { All (λ p. p < length tally.old) places.now }
+    requires beside { length places.now ≤ length more.now }
+    requires kept { (p : ℕ) → IsKept [] (kept_total (get_or tally.old p totals.Null)) }
+    requires others { (p : ℕ) → IsKept [] (get_or more.now p kept.Null) }
+    ensures { (tables : List AnyColumns) → IsJoined tables joining.Adds places.now more.now tally.old tally.new }
+{
+    if places.is_empty() {
+        return;
+    }
+    let mut place = places[0];
+    let mut total = tally[place];
+    for at in 0..places.len() {
+        if places[at] != place {
+            tally[place] = total;
+            place = places[at];
+            total = tally[place];
+        }
+        total = add_alone(total, more[at]);
+    }
+    tally[place] = total;
+}
+
 // Joins to the totals at some places those beside the places: a place may come again.
+fn join_alone(
+    tables: &[Table],
+    joining: Joining,
+    tally: &mut [KeptTotal],
+    places: &[usize],
+    more: &[Kept],
+)
+    requires joining { IsJoining tables.now joining }
+    requires places { All (λ p. p < length tally.old) places.now }
+    requires beside { length places.now ≤ length more.now }
+    requires kept { (p : ℕ) → IsKept (values_by tables.now joining) (kept_total (get_or tally.old p totals.Null)) }
+    requires others { (p : ℕ) → IsKept (values_by tables.now joining) (get_or more.now p kept.Null) }
+    ensures { IsJoined tables.now joining places.now more.now tally.old tally.new }
+{
+    if let Joining::Adds = joining {
+        return add_all(tally, places, more);
+    }
+    for at in 0..places.len() {
+        joining.join(tables, &mut tally[places[at]], &KeptTotal::of(more[at]));
+    }
+}
+
+// The same, where what is joined is the total of a group too.
 pub(crate) fn join_column(
     tables: &[Table],
     joining: Joining,
@@ -30,10 +85,29 @@ pub(crate) fn join_column(
     requires beside { length places.now ≤ length more.now }
     requires kept { (p : ℕ) → IsKept (values_by tables.now joining) (kept_total (get_or tally.old p totals.Null)) }
     requires others { (p : ℕ) → IsKept (values_by tables.now joining) (kept_total (get_or more.now p totals.Null)) }
-    ensures { IsJoined tables.now joining places.now more.now tally.old tally.new }
+    ensures { IsJoined tables.now joining places.now (kept_totals more.now) tally.old tally.new }
 {
     for at in 0..places.len() {
         joining.join(tables, &mut tally[places[at]], &more[at]);
+    }
+}
+
+// Joins to the totals of all aggregates at some places those beside the places.
+pub(crate) fn join_all_alone(
+    columns: &Columns,
+    tallies: &mut [Tally],
+    places: &[usize],
+    more: &[Alone],
+)
+    requires tallies { ArePlacesOf columns.now (lists tallies.old) places.now }
+    requires more { AreAdded columns.now (length places.now) (cell_lists more.now) }
+    ensures { AreJoined columns.now places.now (cell_lists more.now) (lists tallies.old) (lists tallies.new) }
+{
+    let tables = columns.tables();
+    let joinings = columns.joinings();
+    for at in 0..joinings.len() {
+        let tally = tallies[at].as_mut_slice();
+        join_alone(tables, joinings[at], tally, places, more[at].as_slice());
     }
 }
 
@@ -64,7 +138,7 @@ pub(crate) fn grow(tallies: &mut [Tally], groups: usize) -> Result<(), AllocErro
 pub(crate) fn join_all(columns: &Columns, tallies: &mut [Tally], places: &[usize], more: &[Tally])
     requires tallies { ArePlacesOf columns.now (lists tallies.old) places.now }
     requires more { AreTallies columns.now (length places.now) (lists more.now) }
-    ensures { AreJoined columns.now places.now (lists more.now) (lists tallies.old) (lists tallies.new) }
+    ensures { AreJoined columns.now places.now (kept_lists (lists more.now)) (lists tallies.old) (lists tallies.new) }
 {
     let tables = columns.tables();
     let joinings = columns.joinings();

@@ -3,7 +3,6 @@ use Rattle.std.proofs.lemmas.List.{length-set}
 use Rattle.ssb_groups.specs.Alone.{IsApplied}
 use Rattle.ssb_groups.specs.Outcomes.{exact}
 use Rattle.ssb_groups.specs.Value.{apply}
-use Rattle.ssb_groups.specs.declared.kept.KeptTotal.TheVariants as total
 use Rattle.ssb_keys.specs.declared.kept.Kept.TheVariants as kept
 use Rattle.ssb_groups.proofs.TallyFacts.{done-more}
 use Rattle.ssb_groups.proofs.alone.apply_all.Goals as goal
@@ -24,7 +23,7 @@ loop-at-preserved c =
     } in
     record {
       many = length-set l.totals l.at c.alone.result ∙ many;
-      each = done-more total.Null (λ n t. IsApplied o f (get_or c.args.left.now n kept.Null) (get_or c.args.right.now n kept.Null) t) l.totals l.at c.alone.result (omega (arith, many, test)) l.invariant.each here;
+      each = done-more kept.Null (λ n t. IsApplied o f (get_or c.args.left.now n kept.Null) (get_or c.args.right.now n kept.Null) t) l.totals l.at c.alone.result (omega (arith, many, test)) l.invariant.each here;
     }
 
 pub returns : goal.returns

@@ -3,7 +3,7 @@ use Rattle.std.specs.List.{list_all}
 use Rattle.ssb_plan.specs.Inputs.{has_column, input_columns}
 use Rattle.ssb_trees.proofs.Taken.{both}
 use Rattle.ssb_groups.specs.Gathering.{AreTakenPlain}
-use Rattle.ssb_groups.specs.declared.kept.KeptTotal.TheVariants as total
+use Rattle.ssb_keys.specs.declared.kept.Kept.TheVariants as kept
 use Rattle.ssb_groups.proofs.PlainFacts.{counts-plain}
 use Rattle.ssb_groups.proofs.gather.gather_plain.Goals as goal
 
@@ -16,4 +16,4 @@ gather_pairs-requires-clause-right c =
 pub returns-in_ok-gather_count-in-Rows-default : goal.returns-in_ok-gather_count-in-Rows-default
 returns-in_ok-gather_count-in-Rows-default c = λ yes.
     let many = c.in_ok-gather_count-in-Rows-default.ensures.many in
-    subst (λ a. AreTakenPlain c.args.job.now a c.args.block.now c.gather_count.new.totals.items) (sym c.in-Rows-default.is-0) (counts-plain c.args.job.now c.args.block.now c.gather_count.new.totals.items (many ∙ c.len.ensures) (subst (λ n. (i : ℕ) → i < n → get_or c.gather_count.new.totals.items i total.Null ≡ total.Number (pos 1)) c.len.ensures c.in_ok-gather_count-in-Rows-default.ensures.each))
+    subst (λ a. AreTakenPlain c.args.job.now a c.args.block.now c.gather_count.new.totals.items) (sym c.in-Rows-default.is-0) (counts-plain c.args.job.now c.args.block.now c.gather_count.new.totals.items (many ∙ c.len.ensures) (subst (λ n. (i : ℕ) → i < n → get_or c.gather_count.new.totals.items i kept.Null ≡ kept.Number (pos 1)) c.len.ensures c.in_ok-gather_count-in-Rows-default.ensures.each))

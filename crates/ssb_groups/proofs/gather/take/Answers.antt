@@ -10,7 +10,7 @@ use Rattle.ssb_groups.specs.Aggregates.{agg}
 use Rattle.ssb_groups.specs.Alone.{texts_by}
 use Rattle.ssb_groups.specs.Gathering.{IsTaken}
 use Rattle.ssb_groups.specs.Joining.{joining_of, values_by}
-use Rattle.ssb_groups.specs.Keys.{IsKept, kept_total, spelt_cell}
+use Rattle.ssb_groups.specs.Keys.{IsKept, spelt_cell}
 use Rattle.ssb_groups.specs.Outcomes.{kept_outcome}
 use Rattle.ssb_groups.specs.Refs.{input_texts, input_value}
 use Rattle.ssb_groups.specs.Seen.{argument}
@@ -38,15 +38,15 @@ returns-in-Of c =
     let texts : values_by j.tables (joining_of j (aggregate.Of f e)) ≡ texts_by f values = texts-are j f e ∙ ap (λ i. texts_by f (input_texts j.tables i)) (sym input) in
     let value : input_value j c.args.row.now c.args.input.now ≡ argument cell (aggregate.Of f e) = ap (input_value j c.args.row.now) input ∙ input-value j c.args.row.now (aggregate.Of f e) in
     let o = c.value-value.result in
-    let alone : spelt_cell (texts_by f values) (kept_total c.alone.result) ≡ agg (aggregate.Of f e) (known (spelt_cell values c.unwrap_or.result) ∷ []) = (c.alone.ensures values).spelt e in
+    let alone : spelt_cell (texts_by f values) c.alone.result ≡ agg (aggregate.Of f e) (known (spelt_cell values c.unwrap_or.result) ∷ []) = (c.alone.ensures values).spelt e in
     let is : IsTaken j c.args.row.now (aggregate.Of f e) (record { over = c.is_none.result; total = c.alone.result }) =
     record {
       over = none-over values o c.is_none.result c.is_none.ensures ∙ ap is_over (c.value-value.ensures.value ∙ value);
       alone =
-          ap (λ v. spelt_cell v (kept_total c.alone.result)) texts ∙ alone ∙ ap (λ k. agg (aggregate.Of f e) (known (spelt_cell values k) ∷ [])) c.unwrap_or.ensures ∙ same-alone f e values o
+          ap (λ v. spelt_cell v c.alone.result) texts ∙ alone ∙ ap (λ k. agg (aggregate.Of f e) (known (spelt_cell values k) ∷ [])) c.unwrap_or.ensures ∙ same-alone f e values o
           ∙ ap (λ x. agg (aggregate.Of f e) (x ∷ [])) (c.value-value.ensures.value ∙ value);
       kept =
-          subst (λ v. IsKept v (kept_total c.alone.result)) (sym texts)
+          subst (λ v. IsKept v c.alone.result) (sym texts)
           ((c.alone.ensures values).kept (subst (IsKept values) (sym c.unwrap_or.ensures) (kept-or values o c.value-value.ensures.kept)));
       ranged = subst IsRanged value c.value-value.ensures.ranged;
     } in

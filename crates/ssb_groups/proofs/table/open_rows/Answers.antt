@@ -3,21 +3,23 @@ use Rattle.std.proofs.lemmas.List.{map-append, take_more}
 use Rattle.std.proofs.lemmas.Option.{get_or_from_slice_get, slice_get_within}
 use Rattle.ssb_conditions.specs.Rows.{IsCombination}
 use Rattle.ssb_plan.specs.JobShape.{JobShape, from_tables}
+use Rattle.ssb_groups.specs.GroupKeys.{keys_in}
 use Rattle.ssb_groups.specs.Gathering.{key_at}
-use Rattle.ssb_groups.specs.Keys.{HasCells, IsKey, cells_alone, cells_in, key_columns, key_of, spelt}
+use Rattle.ssb_groups.specs.GroupKeys as form
+use Rattle.ssb_groups.specs.Keys.{AreKept, HasCells, IsKey, cells_in, key_columns, key_of, spelt}
 use Rattle.ssb_groups.specs.Places.{OpenAll, Opens}
-use Rattle.ssb_groups.specs.declared.key.GroupKey.{GroupKey}
+use Rattle.ssb_groups.specs.GroupKeys.{GroupKey}
+use Rattle.ssb_keys.specs.declared.kept.Kept.{Kept}
 use Rattle.ssb_groups.proofs.ColumnFacts.{key-kept, key-spelt}
-use Rattle.ssb_groups.proofs.KeyFacts.{alone-kept, alone-key}
 use Rattle.ssb_groups.proofs.PlacedRows.{open-more}
 use Rattle.ssb_groups.proofs.table.open_rows.Goals as goal
 
 -- the key of the combination is added to the keys, where it is not among them
-next : (j : JobShape) (old mid new : List GroupKey) (block : List (List ℕ)) (ps : List ℕ) (k p : ℕ) (row : List ℕ) (key : GroupKey) → slice_get block k ≡ Some row → HasCells j → cells_alone key ≡ Some (key_of j row) → OpenAll j old mid (map (key_at j) (take k block)) ps
-    → (IsKey j key → Opens j mid new (cells_in j key) p) → OpenAll j old new (map (key_at j) (take (k + 1) block)) (ps ++ p ∷ []) × IsKey j key
-next j old mid new block ps k p row key there has cells opened opens =
-    let is = alone-key j key (key_of j row) has (key-kept j row) cells in
-    let values : cells_in j key ≡ key_at j row = ap (spelt (key_columns j)) (alone-kept j key (key_of j row) cells) ∙ key-spelt j row in
+next : (j : JobShape) (old mid new : List GroupKey) (block : List (List ℕ)) (ps : List ℕ) (k p : ℕ) (row : List ℕ) (cells : List Kept) → slice_get block k ≡ Some row → HasCells j → cells ≡ key_of j row → OpenAll j old mid (map (key_at j) (take k block)) ps
+    → (IsKey j (form.Cells cells) → Opens j mid new (cells_in j (form.Cells cells)) p) → OpenAll j old new (map (key_at j) (take (k + 1) block)) (ps ++ p ∷ []) × IsKey j (form.Cells cells)
+next j old mid new block ps k p row cells there has same opened opens =
+    let is : IsKey j (form.Cells cells) = record { form = has; kept = subst (AreKept (key_columns j)) (sym same) (key-kept j row) } in
+    let values : cells_in j (form.Cells cells) ≡ key_at j row = ap (spelt (key_columns j)) same ∙ key-spelt j row in
     let more = take_more block k row (slice_get_within block k row there) ∙ ap (λ x. take k block ++ x ∷ []) (get_or_from_slice_get block k row row there) in
     let one = subst (λ v. Opens j mid new v p) values (opens is) in (
       subst (λ vs. OpenAll j old new vs (ps ++ p ∷ [])) (sym (ap (map (key_at j)) more ∙ map-append (key_at j) (take k block) (row ∷ []))) (open-more j old mid new (map (key_at j) (take k block)) ps (key_at j row) p opened one),
@@ -33,24 +35,24 @@ pub returns-in_err-push-clause-keys : goal.returns-in_err-push-clause-keys
 returns-in_err-push-clause-keys c =
     let j = c.args.columns.now in
     let l = c.loop-at in
-    let cells = c.in_ok-set_cells.ensures ∙ ap Some (c.deref.ensures.value ∙ c.in_ok-fill.ensures) in
-    c.in_ok-place.ensures.keys j l.invariant.keys (next j c.args.keys.now.keys l.keys.keys c.open.new.keys.keys c.args.block.now l.room.places.items l.at c.in_ok-place.place c.row.result c.set_cells.new.self c.row.ensures c.requires.cells cells l.invariant.opened (c.in_ok-place.ensures.opened j l.invariant.keys)).1
+    let cells = c.deref.ensures.value ∙ c.in_ok-fill.ensures in
+    c.in_ok-place.ensures.keys j l.invariant.keys (next j (keys_in c.args.keys.now) (keys_in l.keys) (keys_in c.open_cells.new.self) c.args.block.now l.room.places.items l.at c.in_ok-place.place c.row.result c.deref.result.now c.row.ensures c.requires.cells cells l.invariant.opened (c.in_ok-place.ensures.opened j l.invariant.keys)).1
 
 pub returns-in_err-push-clause-front : goal.returns-in_err-push-clause-front
 returns-in_err-push-clause-front c =
     let j = c.args.columns.now in
     let l = c.loop-at in
-    let cells = c.in_ok-set_cells.ensures ∙ ap Some (c.deref.ensures.value ∙ c.in_ok-fill.ensures) in
-    (next j c.args.keys.now.keys l.keys.keys c.open.new.keys.keys c.args.block.now l.room.places.items l.at c.in_ok-place.place c.row.result c.set_cells.new.self c.row.ensures c.requires.cells cells l.invariant.opened (c.in_ok-place.ensures.opened j l.invariant.keys)).0.front
+    let cells = c.deref.ensures.value ∙ c.in_ok-fill.ensures in
+    (next j (keys_in c.args.keys.now) (keys_in l.keys) (keys_in c.open_cells.new.self) c.args.block.now l.room.places.items l.at c.in_ok-place.place c.row.result c.deref.result.now c.row.ensures c.requires.cells cells l.invariant.opened (c.in_ok-place.ensures.opened j l.invariant.keys)).0.front
 
 pub loop-at-preserved : goal.loop-at-preserved
 loop-at-preserved c =
     let j = c.args.columns.now in
     let l = c.loop-at in
-    let cells = c.in_ok-set_cells.ensures ∙ ap Some (c.deref.ensures.value ∙ c.in_ok-fill.ensures) in
-    let all = next j c.args.keys.now.keys l.keys.keys c.open.new.keys.keys c.args.block.now l.room.places.items l.at c.in_ok-place.place c.row.result c.set_cells.new.self c.row.ensures c.requires.cells cells l.invariant.opened (c.in_ok-place.ensures.opened j l.invariant.keys) in
+    let cells = c.deref.ensures.value ∙ c.in_ok-fill.ensures in
+    let all = next j (keys_in c.args.keys.now) (keys_in l.keys) (keys_in c.open_cells.new.self) c.args.block.now l.room.places.items l.at c.in_ok-place.place c.row.result c.deref.result.now c.row.ensures c.requires.cells cells l.invariant.opened (c.in_ok-place.ensures.opened j l.invariant.keys) in
     record {
       unique = c.in_ok-place.ensures.unique;
       keys = c.in_ok-place.ensures.keys j l.invariant.keys all.1;
-      opened = subst (λ ps. OpenAll j c.args.keys.now.keys c.open.new.keys.keys (map (key_at j) (take (l.at + 1) c.args.block.now)) ps) (sym c.in_ok-push.ensures.items) all.0;
+      opened = subst (λ ps. OpenAll j (keys_in c.args.keys.now) (keys_in c.open_cells.new.self) (map (key_at j) (take (l.at + 1) c.args.block.now)) ps) (sym c.in_ok-push.ensures.items) all.0;
     }

@@ -5,13 +5,13 @@ use Rattle.std.proofs.lemmas.List.{get_or-map, get_or-set_other, length-map, len
 use Rattle.ssb_groups.specs.Joining.{IsJoining, joining_of, values_by}
 use Rattle.ssb_groups.specs.Keys.{IsKept, kept_total}
 use Rattle.ssb_groups.specs.Places.{IsJoined}
-use Rattle.ssb_groups.specs.Tallies.{items, lists}
+use Rattle.ssb_groups.specs.Tallies.{items, kept_lists, kept_totals, lists}
 use Rattle.ssb_groups.specs.declared.joining.Joining.TheVariants as joining
 use Rattle.ssb_groups.specs.declared.kept.KeptTotal.TheVariants as total
 use Rattle.ssb_trees.specs.declared.aggregate.Aggregate.{Aggregate}
 use Rattle.ssb_query.specs.declared.column.BoundColumn.{BoundColumn}
 use Rattle.ssb_groups.proofs.JoiningFacts.{joining-at}
-use Rattle.ssb_groups.proofs.TallyFacts.{done-more, found, mapped-here, within}
+use Rattle.ssb_groups.proofs.TallyFacts.{done-more, found, lists-at, mapped-here, within}
 use Rattle.ssb_groups.proofs.tallies.join_all.Goals as goal
 
 -- the aggregate whose tally is joined
@@ -84,7 +84,7 @@ loop-at-preserved c =
     let test = c.loop-at-test.true in
     let many = l.invariant.many in
     let old = c.as_mut_slice-tally.ensures.value ∙ sym (get_or-map items l.tallies l.at c.index-tallies-at.result [] (omega (arith, many, all, here, test, length-map c.args.tallies.now items))) ∙ l.invariant.later l.at (omega arith) in
-    let more = c.as_slice.ensures.value ∙ ap items c.index-more-at.is ∙ sym (get_or-map items c.args.more.now l.at c.index-more-at.result [] (omega (arith, others, here, test, length-map c.args.more.now items))) in
+    let more = ap kept_totals (c.as_slice.ensures.value ∙ ap items c.index-more-at.is ∙ sym (get_or-map items c.args.more.now l.at c.index-more-at.result [] (omega (arith, others, here, test, length-map c.args.more.now items)))) ∙ sym (lists-at (lists c.args.more.now) l.at) in
     let there : l.at < length (lists l.tallies) = omega (arith, many, all, here, test, length-map c.args.tallies.now items, length-map l.tallies items) in
     let v = get_or l.tallies l.at c.index-tallies-at.result in
     let kept = c.join_column.ensures.same in
@@ -94,9 +94,9 @@ loop-at-preserved c =
     let changed = map-set items l.tallies l.at (with_items v x) ∙ ap (set (lists l.tallies) l.at) written in
     record {
       done = λ i lt.
-          subst (λ xs. IsJoined c.tables-tables.result.now (get_or c.joinings-joinings.result.now i joining.Adds) c.args.places.now (get_or (lists c.args.more.now) i []) (get_or (lists c.args.tallies.now) i []) (get_or xs i [])) (sym changed)
-          (done-more [] (λ n t. IsJoined c.tables-tables.result.now (get_or c.joinings-joinings.result.now n joining.Adds) c.args.places.now (get_or (lists c.args.more.now) n []) (get_or (lists c.args.tallies.now) n []) t) (lists l.tallies) l.at x there l.invariant.done
-          (subst (λ t. IsJoined c.tables-tables.result.now (get_or c.joinings-joinings.result.now l.at joining.Adds) c.args.places.now (get_or (lists c.args.more.now) l.at []) t x) old
+          subst (λ xs. IsJoined c.tables-tables.result.now (get_or c.joinings-joinings.result.now i joining.Adds) c.args.places.now (get_or (kept_lists (lists c.args.more.now)) i []) (get_or (lists c.args.tallies.now) i []) (get_or xs i [])) (sym changed)
+          (done-more [] (λ n t. IsJoined c.tables-tables.result.now (get_or c.joinings-joinings.result.now n joining.Adds) c.args.places.now (get_or (kept_lists (lists c.args.more.now)) n []) (get_or (lists c.args.tallies.now) n []) t) (lists l.tallies) l.at x there l.invariant.done
+          (subst (λ t. IsJoined c.tables-tables.result.now (get_or c.joinings-joinings.result.now l.at joining.Adds) c.args.places.now (get_or (kept_lists (lists c.args.more.now)) l.at []) t x) old
           (subst (λ t. IsJoined c.tables-tables.result.now (get_or c.joinings-joinings.result.now l.at joining.Adds) c.args.places.now t c.as_mut_slice-tally.result.now x) more c.join_column.ensures)) i lt);
       later = λ i past. ap (λ xs. get_or xs i []) changed ∙ get_or-set_other (lists l.tallies) l.at i x [] (λ h. absurd (omega (arith, past, h))) ∙ l.invariant.later i (omega (arith, past));
       many = length-set l.tallies l.at _ ∙ l.invariant.many;
@@ -108,12 +108,12 @@ returns c =
     let j = c.args.columns.now in
     let past = c.loop-at-test.false in
     let many = ap length c.joinings-joinings.ensures.same ∙ length-map j.query.aggregates (joining_of j) in
-    let joined : (i : ℕ) (a : Aggregate BoundColumn) → slice_get j.query.aggregates i ≡ Some a → IsJoined j.tables (joining_of j a) c.args.places.now (get_or (lists c.args.more.now) i []) (get_or (lists c.args.tallies.now) i []) (get_or (lists l.tallies) i []) =
+    let joined : (i : ℕ) (a : Aggregate BoundColumn) → slice_get j.query.aggregates i ≡ Some a → IsJoined j.tables (joining_of j a) c.args.places.now (get_or (kept_lists (lists c.args.more.now)) i []) (get_or (lists c.args.tallies.now) i []) (get_or (lists l.tallies) i []) =
     λ i a at.
     let here = within j.query.aggregates i a at in
     let way = ap (λ ws. get_or ws i joining.Adds) c.joinings-joinings.ensures.same ∙ mapped-here (joining_of j) j.query.aggregates i a joining.Adds at in
-    subst (λ w. IsJoined j.tables w c.args.places.now (get_or (lists c.args.more.now) i []) (get_or (lists c.args.tallies.now) i []) (get_or (lists l.tallies) i [])) way
-    (subst (λ ts. IsJoined ts (get_or c.joinings-joinings.result.now i joining.Adds) c.args.places.now (get_or (lists c.args.more.now) i []) (get_or (lists c.args.tallies.now) i []) (get_or (lists l.tallies) i [])) c.tables-tables.ensures
+    subst (λ w. IsJoined j.tables w c.args.places.now (get_or (kept_lists (lists c.args.more.now)) i []) (get_or (lists c.args.tallies.now) i []) (get_or (lists l.tallies) i [])) way
+    (subst (λ ts. IsJoined ts (get_or c.joinings-joinings.result.now i joining.Adds) c.args.places.now (get_or (kept_lists (lists c.args.more.now)) i []) (get_or (lists c.args.tallies.now) i []) (get_or (lists l.tallies) i [])) c.tables-tables.ensures
     (l.invariant.done i (omega (arith, past, many, here)))) in
     record {
       joined = λ rows Rs can before over i a at. (joined i a at).joined j i a rows Rs refl can (before i a at) (over i a at);

@@ -1,7 +1,5 @@
 -- No total of at most 2^32 rows wraps.
 use Rattle.std.proofs.Common.{◌≡◌, ℕ, zero, suc, ◌+◌, ◌*◌, ◌^◌, ◌≤◌, ◌<◌, ℤ, pos, negsuc, ◌+ℤ◌, ◌≤ℤ◌, Bool, true, false, List, [], ◌∷◌, length, Some, arith}
-use Rattle.std.specs.Int.RustNames.{FitsSigned}
-use Rattle.std.specs.Int.{w128}
 use Rattle.std.specs.Prelude.{◌==◌, if◌then◌else◌, neg_ℤ, slice_get, unwrap_or}
 use Rattle.std.proofs.lemmas.Bool.{ltb-true}
 use Rattle.std.proofs.lemmas.Int.{ints}
@@ -13,6 +11,7 @@ use Rattle.ssb_trees.specs.declared.aggregate.Aggregate.TheVariants as aggregate
 use Rattle.ssb_trees.specs.declared.aggregate.SetFunction.TheVariants as function
 use Rattle.ssb_groups.specs.Aggregates.{agg, amount_of, arguments_at, count_of, exact_sum, totals, value_count}
 use Rattle.ssb_groups.specs.Joining.{Fits, FitsAdded, joining_of}
+use Rattle.ssb_groups.specs.Keys.{FitsSum}
 use Rattle.ssb_groups.specs.Rows.{SeenRow}
 use Rattle.ssb_groups.specs.Stands.{summary, IsRanged, EachRanged, AreRanged}
 use Rattle.ssb_groups.specs.Value.{Outcome, over, known}
@@ -61,16 +60,16 @@ IsBounded-rows i [] p = record { values = omega arith; high = omega (arith, ints
 IsBounded-rows i (r ∷ rs) p = IsBounded-cons (unwrap_or (slice_get r.arguments i) (known null)) (arguments_at i rs) (length rs) (length (r ∷ rs)) (omega arith) (ranged_at r.arguments i p.0) (IsBounded-rows i rs p.1)
 
 -- two sums, either of which may be null
-sums_fit : (b c : Bool) (s t : ℤ) → FitsSigned w128 (s +ℤ t) → FitsAdded (if b then null else number s) (if c then null else number t)
+sums_fit : (b c : Bool) (s t : ℤ) → FitsSum (s +ℤ t) → FitsAdded (if b then null else number s) (if c then null else number t)
 sums_fit true true s t h = tt
 sums_fit true false s t h = tt
 sums_fit false true s t h = tt
 sums_fit false false s t h = h
 
 Fits-bounded : (j : JobShape) (a : Aggregate BoundColumn) (xs ys : List Outcome) (m n : ℕ) → IsBounded xs m → IsBounded ys n → m + n < 2 ^ 32 → Fits (joining_of j a) (agg a xs) (agg a ys)
-Fits-bounded j aggregate.Rows xs ys m n p q h = omega (arith, ints)
-Fits-bounded j (aggregate.Of function.Sum e) xs ys m n p q h = sums_fit (value_count xs == 0) (value_count ys == 0) (exact_sum xs) (exact_sum ys) (omega (arith, ints))
-Fits-bounded j (aggregate.Of function.Count e) xs ys m n p q h = omega (arith, ints)
+Fits-bounded j aggregate.Rows xs ys m n p q h = (omega (arith, ints), omega (arith, ints))
+Fits-bounded j (aggregate.Of function.Sum e) xs ys m n p q h = sums_fit (value_count xs == 0) (value_count ys == 0) (exact_sum xs) (exact_sum ys) (omega (arith, ints), omega (arith, ints))
+Fits-bounded j (aggregate.Of function.Count e) xs ys m n p q h = (omega (arith, ints), omega (arith, ints))
 Fits-bounded j (aggregate.Of function.Min e) xs ys m n p q h = tt
 Fits-bounded j (aggregate.Of function.Max e) xs ys m n p q h = tt
 

@@ -1,8 +1,6 @@
 -- Totals over two lists of rows, from those over each.
 -- For the contracts inside this crate.
 use Rattle.std.specs.Prelude.{◌+ℤ◌, ◌≡◌, ⊤, true, List, [], ◌∷◌, map, Option, None, Some, option_map}
-use Rattle.std.specs.Int.RustNames.{FitsSigned}
-use Rattle.std.specs.Int.{w128}
 use Rattle.std.specs.List.{list_all}
 use Rattle.std.specs.declared.alloc.Global.{Global}
 use Rattle.std.specs.declared.vec.Vec.{Vec}
@@ -20,7 +18,7 @@ use Rattle.ssb_trees.specs.declared.aggregate.SetFunction.{SetFunction}
 use Rattle.ssb_trees.specs.declared.aggregate.SetFunction.TheVariants as function
 use Rattle.ssb_trees.specs.declared.expr.Expr.{Expr}
 use Rattle.ssb_groups.specs.Aggregates.{greater, lesser}
-use Rattle.ssb_groups.specs.Keys.{AreDomains, IsKept, domains_of}
+use Rattle.ssb_groups.specs.Keys.{AreDomains, FitsSum, IsKept, domains_of}
 use Rattle.ssb_groups.specs.Refs.{IsSomeColumn, values_at}
 use Rattle.ssb_groups.specs.declared.joining.Joining.{Joining}
 use Rattle.ssb_groups.specs.declared.joining.Joining.TheVariants as joining
@@ -90,9 +88,9 @@ joined joining.Adds = added
 joined (joining.Least p) = lesser
 joined (joining.Greatest p) = greater
 
--- two numbers may be added: their sum does not leave 128 bits
+-- two numbers may be added: their sum does not leave 96 bits
 abbrev pub FitsAdded : Cell → Cell → Type 0
-FitsAdded (number x) (number y) = FitsSigned w128 (x +ℤ y)
+FitsAdded (number x) (number y) = FitsSum (x +ℤ y)
 FitsAdded a b = ⊤
 
 abbrev pub Fits : Joining → Cell → Cell → Type 0

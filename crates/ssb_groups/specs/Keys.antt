@@ -1,6 +1,6 @@
 -- How groups keep values: a text as its code in its column.
 -- Source: own; for the contracts inside this crate.
-use Rattle.std.specs.Prelude.{◌≡◌, true, ℕ, ◌+◌, ◌<◌, ◌≤◌, ◌^◌, ◌-ℤ◌, unsigned_abs, int_lt, if◌then◌else◌, List, [], ◌∷◌, length, map, get_or, Option, None, Some, slice_get, ⊤}
+use Rattle.std.specs.Prelude.{ℤ, pos, neg_ℤ, ◌*ℤ◌, ◌+ℤ◌, ◌≤ℤ◌, ◌<ℤ◌, ◌≡◌, true, ℕ, ◌+◌, ◌<◌, ◌≤◌, ◌^◌, ◌-ℤ◌, unsigned_abs, int_lt, if◌then◌else◌, List, [], ◌∷◌, length, map, get_or, Option, None, Some, slice_get, ⊤}
 use Rattle.std.specs.declared.alloc.Global.{Global}
 use Rattle.std.specs.declared.vec.Vec.{Vec}
 use Rattle.ssb_query.specs.declared.column.BoundColumn.{BoundColumn}
@@ -35,10 +35,17 @@ abbrev pub code_cell : Option ℕ → Kept
 code_cell None = kept.Null
 code_cell (Some code) = kept.Code code
 
--- a total as what is kept of it, a number of up to 128 bits
+-- a number of up to 96 bits, by the bits above the low 64 and by these
+abbrev pub wide : ℤ → ℕ → ℤ
+wide high low = high *ℤ pos (2 ^ 64) +ℤ pos low
+
+abbrev pub FitsSum : ℤ → Type 0
+FitsSum s = (neg_ℤ (pos (2 ^ 95)) ≤ℤ s) × (s <ℤ pos (2 ^ 95))
+
+-- what a total stands for
 abbrev pub kept_total : KeptTotal → Kept
 kept_total total.Null = kept.Null
-kept_total (total.Number n) = kept.Number n
+kept_total (total.Number high low) = kept.Number (wide high low)
 kept_total (total.Code code) = kept.Code code
 
 -- what stands for a value of a column with these values

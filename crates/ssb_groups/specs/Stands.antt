@@ -51,7 +51,7 @@ pub record GroupMap : Type 0 where
   pub overflow : Option ℕ
   pub counted : ℕ
 
--- a value whose number, if it is one, is that of an `int`, so that the exact sum of as many as a table has rows fits in 128 bits
+-- a value whose number, if it is one, is that of an `int`, so that the exact sum of as many as a table has rows fits in 96 bits
 abbrev pub IsRanged : Outcome → Type 0
 IsRanged (known (number n)) = in_range n ≡ true
 IsRanged o = ⊤

@@ -19,7 +19,7 @@ ghost use Rattle.ssb_groups.specs.declared.kept.KeptTotal.TheVariants as totals;
 use crate::column::{cell_in, fill_cells, text_in};
 use crate::domains::domains_of;
 use crate::joining::Joining;
-use crate::kept::KeptTotal;
+use crate::kept::{KeptTotal, wide};
 use crate::key::KeyRef;
 use crate::tallies::Tally;
 use crate::totals::Total;
@@ -99,7 +99,7 @@ fn spelt_by<'a>(tables: &'a [Table], column: Option<ColumnRef>, total: KeptTotal
 {
     match total {
         KeptTotal::Null => Total::Null,
-        KeptTotal::Number(number) => Total::Number(number),
+        KeptTotal::Number { high, low } => Total::Number(wide(high, low)),
         KeptTotal::Code(code) => Total::Text(text_in(tables, column, code)),
     }
 }

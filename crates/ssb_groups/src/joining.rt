@@ -17,7 +17,7 @@ ghost use Rattle.ssb_trees.specs.declared.aggregate.SetFunction.{SetFunction as 
 ghost use Rattle.ssb_trees.specs.declared.expr.Expr.{Expr as AnyExpr};
 
 use crate::column::text_in;
-use crate::kept::KeptTotal;
+use crate::kept::{KeptTotal, wide};
 use ssb_cells::Table;
 use ssb_keys::Kept;
 use ssb_plan::{ColumnRef, Input};
@@ -93,7 +93,8 @@ fn add(a: KeptTotal, b: KeptTotal) -> KeptTotal
     match (a, b) {
         (KeptTotal::Null, _) => b,
         (_, KeptTotal::Null) => a,
-        (KeptTotal::Number(x), KeptTotal::Number(y)) => KeptTotal::Number(x.wrapping_add(y)),
+        (KeptTotal::Number { high: h, low: l }, KeptTotal::Number { high: k, low: m }) =>
+            KeptTotal::sum(h, l, wide(k, m)),
         _ => KeptTotal::Null,
     }
 }
@@ -105,7 +106,9 @@ pub(crate) fn add_alone(total: KeptTotal, more: Kept) -> KeptTotal
     ensures kept { IsKept [] (kept_total total) → IsKept [] more → IsKept [] (kept_total result) }
 {
     match (total, more) {
-        (KeptTotal::Number(x), Kept::Number(y)) => KeptTotal::Number(x.wrapping_add(i128::from(y))),
+        (KeptTotal::Number { high, low }, Kept::Number(number)) => {
+            KeptTotal::sum(high, low, i128::from(number))
+        }
         (_, Kept::Null) => total,
         (KeptTotal::Null, _) => KeptTotal::of(more),
         _ => KeptTotal::Null,
@@ -134,9 +137,11 @@ fn order(tables: &[Table], column: Option<ColumnRef>, a: KeptTotal, b: KeptTotal
         (KeptTotal::Null, KeptTotal::Null) => Ordering::Equal,
         (KeptTotal::Null, _) => Ordering::Less,
         (_, KeptTotal::Null) => Ordering::Greater,
-        (KeptTotal::Number(x), KeptTotal::Number(y)) => x.cmp(&y),
-        (KeptTotal::Number(_), KeptTotal::Code(_)) => Ordering::Less,
-        (KeptTotal::Code(_), KeptTotal::Number(_)) => Ordering::Greater,
+        (KeptTotal::Number { high: h, low: l }, KeptTotal::Number { high: k, low: m }) => wide(
+            h, l,
+        ).cmp(&wide(k, m)),
+        (KeptTotal::Number { high: _, low: _ }, KeptTotal::Code(_)) => Ordering::Less,
+        (KeptTotal::Code(_), KeptTotal::Number { high: _, low: _ }) => Ordering::Greater,
         (KeptTotal::Code(x), KeptTotal::Code(y)) => text_order(tables, column, x, y),
     }
 }

@@ -1,23 +1,62 @@
 // What stands for an aggregate in groups.
 
-ghost use Rattle.std.specs.Prelude.{◌≡◌};
-ghost use Rattle.ssb_groups.specs.Keys.{kept_total};
+ghost use Rattle.std.specs.Prelude.{◌≡◌, ◌+ℤ◌, List};
+ghost use Rattle.ssb_cells.specs.Cell.{Cell};
+ghost use Rattle.ssb_groups.specs.Keys.{FitsSum, IsKept, kept_total, wide};
+ghost use Rattle.ssb_keys.specs.declared.kept.Kept.TheVariants as kept;
 
 use ssb_keys::Kept;
 
-/// What stands for an aggregate. A sum of as many 64-bit numbers as a table has rows fits in 128 bits, so
-/// it never leaves its range on the way.
+// 2^64.
+const BEYOND_LOW: i128 = 0x1_0000_0000_0000_0000;
+
+/// What stands for an aggregate, in 16 bytes.
 #[derive(Clone, Copy, PartialEq, Eq)]
 pub(crate) enum KeptTotal {
     /// No value.
     Null,
-    /// A number.
-    Number(i128),
+    /// A number of up to 96 bits: a sum of as many 64-bit numbers as a table has rows never leaves them, on the way
+    /// neither.
+    Number {
+        /// Its bits above the low 64.
+        high: i32,
+        /// Its low 64 bits.
+        low: u64,
+    },
     /// A text, by its code in its column.
     Code(u32),
 }
 
+// The number of these bits.
+#[inline(always)]
+pub(crate) fn wide(high: i32, low: u64) -> i128
+    ensures { result ≡ wide high low }
+{
+    i128::from(high) * BEYOND_LOW + i128::from(low)
+}
+
 impl KeptTotal {
+    // What stands for a number of up to 96 bits.
+    #[inline(always)]
+    pub(crate) fn of_number(number: i128) -> KeptTotal
+        ensures number { FitsSum number → kept_total result ≡ kept.Number number }
+        ensures kept { (values : List Cell) → IsKept values (kept_total result) }
+    {
+        KeptTotal::Number {
+            high: i32::try_from(number >> 64).unwrap_or(0),
+            low: (number.cast_unsigned() % BEYOND_LOW.cast_unsigned()) as u64,
+        }
+    }
+
+    // What stands for the sum of a number of these bits and another.
+    #[inline(always)]
+    pub(crate) fn sum(high: i32, low: u64, more: i128) -> KeptTotal
+        ensures number { FitsSum (wide high low +ℤ more) → kept_total result ≡ kept.Number (wide high low +ℤ more) }
+        ensures kept { (values : List Cell) → IsKept values (kept_total result) }
+    {
+        KeptTotal::of_number(wide(high, low).wrapping_add(more))
+    }
+
     // What stands for a value, as that of an aggregate.
     #[inline(always)]
     pub(crate) fn of(cell: Kept) -> KeptTotal
@@ -25,7 +64,7 @@ impl KeptTotal {
     {
         match cell {
             Kept::Null => KeptTotal::Null,
-            Kept::Number(number) => KeptTotal::Number(i128::from(number)),
+            Kept::Number(number) => KeptTotal::of_number(i128::from(number)),
             Kept::Code(code) => KeptTotal::Code(code),
         }
     }

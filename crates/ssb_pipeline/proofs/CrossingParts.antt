@@ -22,7 +22,7 @@ use Rattle.ssb_groups.specs.contracts.joining.Joining as Joining
 use Rattle.ssb_groups.specs.contracts.groups.Groups as Groups
 use Rattle.ssb_groups.specs.contracts.groups.Groups.TheInside as InGroups
 use Rattle.ssb_groups.specs.contracts.guesses.Guesses as Guesses
-use Rattle.ssb_groups.specs.contracts.key.GroupKey as Key
+use Rattle.ssb_groups.specs.contracts.keys.Keys as Keys
 use Rattle.ssb_groups.specs.contracts.kept.KeptTotal as Total
 use Rattle.ssb_groups.specs.contracts.room.Room as Room
 use Rattle.ssb_groups.specs.contracts.store.Store as Store
@@ -42,8 +42,8 @@ use Rattle.ssb_pipeline.specs.contracts.parts.PartsPass as PartsPass
 use Rattle.ssb_pipeline.specs.contracts.parts.PartsPass.TheInside as InPass
 use Rattle.ssb_pipeline.proofs.CrossingJobs.{job, tables}
 
-key_send : IsSend Key.the_row
-key_send = search (crosses, sendable) depth 20
+keys_send : IsSend Keys.the_row
+keys_send = declared_send Keys.the_type (search (crosses, sendable) depth 40, (search (crosses, sendable) depth 40, tt))
 
 total_send : IsSend Total.the_row
 total_send = search (crosses, sendable) depth 20
@@ -55,7 +55,7 @@ room_send : IsSend Room.the_row
 room_send = search (crosses, sendable) depth 20
 
 table_send : IsSend Groups_table.the_row
-table_send = declared_send Groups_table.the_type (search (key_send, crosses, sendable) depth 40, (search (total_send, crosses, sendable) depth 20, tt))
+table_send = declared_send Groups_table.the_type (search (keys_send, crosses, sendable) depth 40, (search (total_send, crosses, sendable) depth 20, tt))
 
 store_send : IsSend Store.the_row
 store_send =
@@ -82,7 +82,7 @@ columns_send =
 
 groups_send : IsSend Groups.the_row
 groups_send =
-    view_send InGroups.the_row _ _ _ _ (declared_send InGroups.the_type (search (as_row_send, crosses, sendable) depth 20, (columns_send, (store_send, (room_send, (search (total_send, crosses, sendable) depth 20, tt))))))
+    view_send InGroups.the_row _ _ _ _ (declared_send InGroups.the_type (search (as_row_send, crosses, sendable) depth 20, (columns_send, (store_send, (room_send, (search (crosses, sendable) depth 20, tt))))))
 
 pub part_send : IsSend Part.the_row
 part_send =

@@ -98,7 +98,8 @@ fn take_back(part: &mut Part, made: Result<Partial, Vec<Ticket>>)
         Ok(partial) => match part.give_back(partial) {
             Ok(()) => {}
             Err(ReturnFault::Memory(partial)) => give_all_up(part, partial.into_tickets()),
-            Err(_) => unreachable!(),
+            Err(ReturnFault::NotHandedOut(_)) => unreachable!(),
+            Err(ReturnFault::Doubled(_)) => unreachable!(),
         },
         Err(tickets) => give_all_up(part, tickets),
     }

@@ -1,9 +1,10 @@
 -- What flags say of a number.
-use Rattle.std.proofs.Common.{◌≡◌, ◌∙◌, ⊎_elim, ℕ, ℤ, pos, negsuc, ◌+◌, ◌<◌, ◌≤◌, ◌+ℤ◌, ◌-ℤ◌, ◌<ℤ◌, ◌≤ℤ◌, Bool, true, false, cond, ◌&&◌, List, Result, Ok, Err, length, get_or, int_le, unsigned_abs, refl, sym, ap, arith}
+use Rattle.std.proofs.Common.{◌≡◌, ◌∙◌, ⊎_elim, ℕ, ℤ, pos, negsuc, ◌+◌, ◌-◌, min, ◌<◌, ◌≤◌, ◌+ℤ◌, ◌-ℤ◌, ◌<ℤ◌, ◌≤ℤ◌, Bool, true, false, cond, ◌&&◌, List, [], ◌∷◌, ◌++◌, zero, suc, Result, Ok, Err, length, get_or, int_le, unsigned_abs, refl, sym, ap, arith}
 use Rattle.std.proofs.lemmas.Bool.{cases_lt}
 use Rattle.std.proofs.lemmas.Int.{by_lt_z, ints}
 use Rattle.std.proofs.lemmas.List.{get_or_past}
 use Rattle.std.specs.Prelude.{OnOk}
+use Rattle.ssb_sets.specs.Checks.{last_of}
 use Rattle.ssb_sets.specs.NumberSets.{has}
 use Rattle.ssb_sets.specs.declared.set.NumberSet.{NumberSet}
 use Rattle.ssb_sets.proofs.ParityFacts.{read-any}
@@ -33,6 +34,27 @@ flags-say s from to n flags others count each below beyond = by_lt_z n from
   where
     k : ℕ
     k = unsigned_abs (n -ℤ from)
+
+-- flags with one more, of which is said what is said of all others
+pub get_or-padded : (flags : List Bool) (k : ℕ) (others : Bool) → get_or (flags ++ others ∷ []) k others ≡ get_or flags k others
+get_or-padded [] zero others = refl
+get_or-padded [] (suc k) others = refl
+get_or-padded (f ∷ fs) zero others = refl
+get_or-padded (f ∷ fs) (suc k) others = get_or-padded fs k others
+
+-- the flag of a number, where the last one is that of all others
+pub padded-says : (flags : List Bool) (base n : ℤ) (far place : ℕ) → 0 < length flags → (base ≤ℤ n → far ≡ unsigned_abs (n -ℤ base)) → (n <ℤ base → length flags ≤ far) → place ≡ min far (length flags - 1)
+    → get_or flags place false ≡ cond (int_le base n) (get_or flags (unsigned_abs (n -ℤ base)) (last_of flags)) (last_of flags)
+padded-says flags base n far place some above_base below_base is = by_lt_z n base
+    (λ lt. ap (λ k. get_or flags k false) (let past = below_base lt in let e : place ≡ length flags - 1 = omega (arith, is, past, some) in e)
+    ∙ sym (ap (λ b. cond b (get_or flags (unsigned_abs (n -ℤ base)) (last_of flags)) (last_of flags)) (above base n lt)))
+    (λ le. by_place (above_base le) ∙ sym (ap (λ b. cond b (get_or flags (unsigned_abs (n -ℤ base)) (last_of flags)) (last_of flags)) (upto base n le)))
+  where
+    by_place : far ≡ unsigned_abs (n -ℤ base) → get_or flags place false ≡ get_or flags (unsigned_abs (n -ℤ base)) (last_of flags)
+    by_place at = ⊎_elim
+        (λ lt. ap (λ k. get_or flags k false) (let e : place ≡ far = omega (arith, is, lt) in e) ∙ read-any flags far false (last_of flags) lt ∙ ap (λ k. get_or flags k (last_of flags)) at)
+        (λ past. ap (λ k. get_or flags k false) (let e : place ≡ length flags - 1 = omega (arith, is, past, some) in e) ∙ sym (get_or_past flags far (last_of flags) past) ∙ ap (λ k. get_or flags k (last_of flags)) at)
+        (cases_lt far (length flags))
 
 -- a run of numbers that a set has, between those that it has not
 pub run-says : (s : NumberSet) (low high n : ℤ) → (n <ℤ low → has s n ≡ false) → (low ≤ℤ n → n ≤ℤ high → has s n ≡ true) → (high <ℤ n → has s n ≡ false) → (int_le low n && int_le n high) ≡ has s n

@@ -1,9 +1,10 @@
 -- Loops that write the rows that pass to the front of a list.
-use Rattle.std.proofs.Common.{◌≡◌, ◌∙◌, ⊎_elim, ◌+◌, ◌-◌, ◌<◌, ◌≤◌, ℕ, ℤ, pos, Bool, cond, List, [], ◌∷◌, length, take, drop, set, get_or, filter, map, suc, refl, sym, ap, arith, subst}
+use Rattle.std.proofs.Common.{◌≡◌, ◌∙◌, ⊎_elim, ◌+◌, ◌-◌, ◌<◌, ◌≤◌, ℕ, ℤ, pos, Bool, true, false, cond, List, [], ◌∷◌, ◌++◌, append-nil, length, take, drop, set, get_or, filter, map, suc, refl, sym, ap, arith, subst}
 use Rattle.std.specs.List.{All, range_with_len}
 use Rattle.std.proofs.lemmas.Bool.{cases_lt}
 use Rattle.std.proofs.lemmas.Int.{ints}
-use Rattle.std.proofs.lemmas.List.{get_or-drop, get_or-take, length-drop, length-map, length-take-le, take-set, drop_more, drop-set-lt, length-set, get_or-map, take-map, drop-map}
+use Rattle.std.proofs.lemmas.List.{get_or-drop, get_or-take, length-drop, length-map, length-take-le, take-set, drop_more, drop-set-lt, length-set, get_or-map, take-map, take_more_set, drop-map}
+use Rattle.std.proofs.lemmas.List.Elements.{filter-append}
 use Rattle.std.proofs.lemmas.List.Filters.{FiltersInPlace}
 use Rattle.std.proofs.lemmas.List.FromFn.{get_or-range_with_len, length-range_with_len}
 use Rattle.std.proofs.lemmas.Option.{same_Some, slice_get-get_or}
@@ -11,6 +12,7 @@ use Rattle.ssb_packed.specs.Lent.{kept_code}
 use Rattle.ssb_sets.specs.Passing.{passes_at}
 use Rattle.ssb_sets.specs.Values.{IsWithin, code_bounds}
 use Rattle.ssb_sets.specs.declared.values.Bounds.{Bounds}
+use Rattle.ssb_sets.proofs.NullFacts.{range-more}
 use Rattle.ssb_sets.proofs.ParityFacts.{read-any}
 
 -- the number that was read, among the wide ones
@@ -92,6 +94,18 @@ module _ {T : Type 0} (wide : T → ℤ) (numbers some : List T) (from n : ℕ) 
   stretch-within b all = of-rows (λ r. IsWithin b (get_or (map wide numbers) r (pos 0))) from n
       (λ k lt. subst (IsWithin b) (stretch-read k lt) (to-rows (λ r. IsWithin b (get_or (map wide some) (r - from) (pos 0))) from (length some) all k (rw stretch-long lt)))
 
+-- ---- rows of a stretch that are listed one after the other
+
+-- what passes of one row more
+one-more : (q : ℕ → Bool) (first i : ℕ) (b : Bool) → q (first + i) ≡ b → filter q (range_with_len first (i + 1)) ≡ filter q (range_with_len first i) ++ cond b ((first + i) ∷ []) []
+one-more q first i b said = ap (filter q) (range-more first i) ∙ filter-append q (range_with_len first i) ((first + i) ∷ []) ∙ ap (λ t. filter q (range_with_len first i) ++ cond t ((first + i) ∷ []) []) said
+
+pub listed-more : (q : ℕ → Bool) (first i left : ℕ) (rows : List ℕ) → left < length rows → q (first + i) ≡ true → take left rows ≡ filter q (range_with_len first i) → take (left + 1) (set rows left (first + i)) ≡ filter q (range_with_len first (i + 1))
+listed-more q first i left rows room said before = take_more_set rows left (first + i) room ∙ ap (λ xs. xs ++ (first + i) ∷ []) before ∙ sym (one-more q first i true said)
+
+pub listed-same : (q : ℕ → Bool) (first i left : ℕ) (rows : List ℕ) → q (first + i) ≡ false → take left rows ≡ filter q (range_with_len first i) → take left (set rows left (first + i)) ≡ filter q (range_with_len first (i + 1))
+listed-same q first i left rows said before = take-set rows left (first + i) ∙ before ∙ sym (append-nil (filter q (range_with_len first i))) ∙ sym (one-more q first i false said)
+
 -- ---- codes
 
 code-read : (ns : List ℤ) (r : ℕ) → r < length (map pos (map kept_code ns)) → get_or (map pos (map kept_code ns)) r (pos 0) ≡ pos (kept_code (get_or ns r (pos 0)))
@@ -105,6 +119,10 @@ codes-same p ns rows all = filter-same (passes_at (λ n. p (pos (kept_code n))) 
 
 code-within : (n : ℤ) → IsWithin code_bounds (pos (kept_code n))
 code-within n = grind (arith, ints)
+
+-- and of all rows of a range
+pub codes-listed : (p : ℤ → Bool) (ns : List ℤ) (from n : ℕ) → from + n ≤ length (map pos (map kept_code ns)) → filter (passes_at (λ n. p (pos (kept_code n))) ns) (range_with_len from n) ≡ filter (passes_at p (map pos (map kept_code ns))) (range_with_len from n)
+codes-listed p ns from n there = codes-same p ns (range_with_len from n) (of-rows (λ r. r < length (map pos (map kept_code ns))) from n (λ k lt. omega (arith, there, lt)))
 
 pub codes-within : (ns : List ℤ) (rows : List ℕ) → All (λ r. r < length (map pos (map kept_code ns))) rows → All (λ r. IsWithin code_bounds (get_or (map pos (map kept_code ns)) r (pos 0))) rows
 codes-within ns rows all k d lt = subst (IsWithin code_bounds) (sym (code-read ns (get_or rows k d) (all k d lt))) (code-within (get_or ns (get_or rows k d) (pos 0)))

@@ -1,6 +1,6 @@
 -- What is asked of each number of a column, in the place of a set.
 -- Source: own.
-use Rattle.std.specs.Prelude.{◌≡◌, ℤ, ◌-ℤ◌, ◌≤ℤ◌, Bool, true, false, not, ◌&&◌, if◌then◌else◌, int_le, List, unsigned_abs, slice_index_or}
+use Rattle.std.specs.Prelude.{◌≡◌, ℤ, ◌-ℤ◌, ◌≤ℤ◌, ◌-◌, Bool, true, false, not, ◌&&◌, if◌then◌else◌, int_le, List, length, unsigned_abs, slice_index_or}
 use Rattle.std.specs.HashSet as hash_set
 use Rattle.std.specs.Ordering.{int_eq}
 use Rattle.ssb_sets.specs.NumberSets.{has}
@@ -13,6 +13,10 @@ use Rattle.ssb_sets.specs.declared.values.Bounds.{Bounds}
 -- what flags say of a number, from a base on
 abbrev pub flag_of : ℤ → List Bool → Bool → ℤ → Bool
 flag_of base flags others n = if int_le base n then slice_index_or flags (unsigned_abs (n -ℤ base)) others else others
+
+-- the last of several flags
+abbrev pub last_of : List Bool → Bool
+last_of flags = slice_index_or flags (length flags - 1) false
 
 -- what points say of a number
 abbrev pub point_of : Points → ℤ → Bool

@@ -1,11 +1,11 @@
 // What a check asks of a number, in a form that a loop can take along.
 
 ghost use Rattle.std.specs.Prelude.{◌&&◌, int_le};
-ghost use Rattle.ssb_sets.specs.Checks.{flag_of, point_of};
+ghost use Rattle.ssb_sets.specs.Checks.{flag_of, last_of, point_of};
 ghost use Rattle.ssb_sets.specs.NumberSets.{has};
 
 use crate::asks::Asks;
-use crate::check::{Points, flag_of};
+use crate::check::{Points, flag_of, padded_flag_of};
 use crate::set::NumberSet;
 
 // The same of all numbers.
@@ -50,6 +50,21 @@ impl<'a> Asks for FlagsAsk<'a> {
 
     fn passes(self, number: i64) -> bool {
         flag_of(self.base, self.flags, self.others, number)
+    }
+}
+
+// What flags say of a number, the last of which is what is said of all others.
+#[derive(Clone, Copy)]
+pub(crate) struct PaddedAsk<'a> {
+    pub(crate) base: i64,
+    pub(crate) flags: &'a [bool],
+}
+
+impl<'a> Asks for PaddedAsk<'a> {
+    ghost says = { λ a n. flag_of a.base a.flags.now (last_of a.flags.now) n };
+
+    fn passes(self, number: i64) -> bool {
+        padded_flag_of(self.base, self.flags, number)
     }
 }
 

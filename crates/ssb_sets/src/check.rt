@@ -1,14 +1,15 @@
 // What stands for a set where many numbers are tested.
 
-ghost use Rattle.std.specs.Prelude.{◌≡◌, ◌<◌, ◌-◌, length, pos, slice_index_or};
-ghost use Rattle.std.specs.List.{All, filter};
-ghost use Rattle.ssb_sets.specs.Checks.{flag_of, passes, point_of};
+ghost use Rattle.std.specs.Prelude.{◌≡◌, ◌<◌, ◌≤◌, ◌+◌, ◌-◌, ◌^◌, ◌≤ℤ◌, ◌<ℤ◌, ◌-ℤ◌, OnOk, true, length, pos, slice_index_or, unsigned_abs};
+ghost use Rattle.std.specs.List.{All, filter, range_with_len};
+ghost use Rattle.ssb_sets.specs.Checks.{flag_of, last_of, passes, point_of};
 ghost use Rattle.ssb_sets.specs.Passing.{passes_at};
 ghost use Rattle.ssb_sets.specs.Values.{IsWithin, bounds_of, values_in};
 
-use crate::asked::{Between, Constantly, FlagsAsk, PointsAsk, SearchAsk};
+use crate::asked::{Between, Constantly, FlagsAsk, PaddedAsk, PointsAsk, SearchAsk};
 use crate::set::NumberSet;
 use crate::values::ValueSlice;
+use std::alloc::AllocError;
 use std::collections::HashSet;
 
 /// What stands for a set, so that a number is tested by few steps.
@@ -41,7 +42,8 @@ impl Drop for Check {
     }
 }
 
-/// From a base on, what is said of each number; and what is said of all others.
+/// From a base on, what is said of each number; and what is said of all others. Where the last flag says what is said of
+/// all others, as those that are made here have it, many numbers are tested without a branch.
 #[derive(Drop)]
 pub struct Flags {
     /// The first number that has a flag.
@@ -75,6 +77,30 @@ pub(crate) fn flag_of(base: i64, flags: &[bool], others: bool, number: i64) -> b
     }
 }
 
+// How far a number is above a base; of one below it, what is left of 2^64.
+#[inline(always)]
+fn distance(base: i64, number: i64) -> u64
+    ensures above { base ≤ℤ number → result ≡ unsigned_abs (number -ℤ base) }
+    ensures below { number <ℤ base → result + unsigned_abs (base -ℤ number) ≡ 2 ^ 64 }
+{
+    number.wrapping_sub(base).cast_unsigned()
+}
+
+// What is said of a number by flags whose last one is what is said of all others. A number without a flag is farther from
+// the base than that one, so the nearer of both places serves, and no branch asks where the number lies. Where the base is
+// so great that a number below it might seem near, both branches are asked.
+#[inline(always)]
+pub(crate) fn padded_flag_of(base: i64, flags: &[bool], number: i64) -> bool
+    ensures { result ≡ flag_of base flags.now (last_of flags.now) number }
+{
+    let count = flags.len();
+    if count == 0 || i64::MAX.abs_diff(base) < count as u64 {
+        return flag_of(base, flags, flags.last().copied().unwrap_or(false), number);
+    }
+    let place = distance(base, number).min(count as u64 - 1);
+    flags[place as usize]
+}
+
 impl Flags {
     /// What is said of a number.
     pub fn says(&self, number: i64) -> bool
@@ -83,18 +109,74 @@ impl Flags {
         flag_of(self.base, &self.flags, self.others, number)
     }
 
+    // Whether the last flag is what is said of all others, so that it serves them too.
+    fn is_padded(&self) -> bool
+        ensures { result ≡ true → last_of self.now.flags.items ≡ self.now.others }
+    {
+        match self.flags.last() {
+            Some(last) => *last == self.others,
+            None => false,
+        }
+    }
+
+    // What the flags ask.
+    fn plain(&self) -> FlagsAsk<'_>
+        ensures base { result.base ≡ self.now.base }
+        ensures flags { result.flags.now ≡ self.now.flags.items }
+        ensures others { result.others ≡ self.now.others }
+    {
+        FlagsAsk {
+            base: self.base,
+            flags: self.flags.as_slice(),
+            others: self.others,
+        }
+    }
+
+    // The same where they are padded.
+    fn padded(&self) -> PaddedAsk<'_>
+        ensures base { result.base ≡ self.now.base }
+        ensures flags { result.flags.now ≡ self.now.flags.items }
+    {
+        PaddedAsk {
+            base: self.base,
+            flags: self.flags.as_slice(),
+        }
+    }
+
     /// Leaves the rows whose value passes, in their order. Takes no memory.
     pub fn keep(&self, values: ValueSlice<'_>, rows: &mut Vec<u32>)
         requires { All (λ r. r < length (values_in values)) rows.old.items }
         ensures rows { rows.new.items ≡ filter (passes_at (λ n. flag_of self.now.base self.now.flags.items self.now.others n) (values_in values.entry)) rows.old.items }
         ensures within { All (λ r. IsWithin (bounds_of values.entry) (slice_index_or (values_in values.entry) r (pos 0))) rows.old.items }
     {
-        let asked = FlagsAsk {
-            base: self.base,
-            flags: self.flags.as_slice(),
-            others: self.others,
-        };
-        values.keep(asked, rows)
+        if self.is_padded() {
+            values.keep(self.padded(), rows)
+        } else {
+            values.keep(self.plain(), rows)
+        }
+    }
+
+    /// Fills a list with the rows in `from..end` whose value passes.
+    ///
+    /// # Errors
+    ///
+    /// Only where a growth was refused.
+    pub fn list(
+        &self,
+        values: ValueSlice<'_>,
+        from: u32,
+        end: u32,
+        rows: &mut Vec<u32>,
+    ) -> Result<(), AllocError>
+        requires order { from ≤ end }
+        requires there { end ≤ length (values_in values) }
+        ensures { OnOk result (rows.new.items ≡ filter (passes_at (λ n. flag_of self.now.base self.now.flags.items self.now.others n) (values_in values.entry)) (range_with_len from (end - from))) }
+    {
+        if self.is_padded() {
+            values.list(self.padded(), from, end, rows)
+        } else {
+            values.list(self.plain(), from, end, rows)
+        }
     }
 }
 

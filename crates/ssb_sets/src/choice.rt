@@ -116,7 +116,8 @@ fn flagged(
     if to < from || to.abs_diff(from) >= room {
         return Ok(None);
     }
-    let flags = set.flags(alloc, from, to)?;
+    let mut flags = set.flags(alloc, from, to)?;
+    flags.push(others)?;
     Ok(Some(Check::Flagged(Flags {
         base: from,
         flags,

@@ -1,7 +1,7 @@
 // Tests of many listed rows, one column after the other: one loop for all widths of numbers.
 
-ghost use Rattle.std.specs.Prelude.{◌≡◌, ◌≤◌, ◌<◌, ◌+◌, ◌-◌, ℕ, ℤ, pos, length, map, slice_index_or, take};
-ghost use Rattle.std.specs.List.{All, filter};
+ghost use Rattle.std.specs.Prelude.{◌≡◌, ◌≤◌, ◌<◌, ◌+◌, ◌-◌, ◌^◌, ℕ, ℤ, pos, length, map, slice_index_or, take};
+ghost use Rattle.std.specs.List.{All, filter, range_with_len};
 ghost use Rattle.ssb_sets.specs.Marks.{has_bit, is_between};
 ghost use Rattle.ssb_sets.specs.Passing.{passes_at};
 ghost use Rattle.ssb_sets.specs.declared.values.Bounds.{Bounds};
@@ -97,6 +97,29 @@ pub fn next_rows<T: Number, A: Asks>(numbers: &[T], asked: A, rows: &mut [u32]) 
         let row = rows[i];
         rows[left] = row;
         if asked.passes(numbers[row as usize].wide()) {
+            left += 1;
+        }
+    }
+    left
+}
+
+/// Lists the rows of a stretch, from a first one on, whose numbers pass, and says how many they are. As in [`next_rows`], each
+/// is written before it is known whether it passes.
+pub fn first_rows<T: Number, A: Asks>(
+    numbers: &[T],
+    asked: A,
+    first: u32,
+    rows: &mut [u32],
+) -> usize
+    requires many { length rows.old ≡ length numbers.now }
+    requires fits { first + length numbers.now < 2 ^ 32 }
+    ensures count { result ≤ length rows.old }
+    ensures rows { take result rows.new ≡ filter (λ r. passes_at (A.says asked) (map T.wide numbers.now) (r - first)) (range_with_len first (length numbers.now)) }
+{
+    let mut left = 0;
+    for i in 0..numbers.len() {
+        rows[left] = first + i as u32;
+        if asked.passes(numbers[i].wide()) {
             left += 1;
         }
     }

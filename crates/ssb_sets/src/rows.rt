@@ -7,7 +7,7 @@ ghost use Rattle.ssb_sets.specs.Passing.{passes_at};
 ghost use Rattle.ssb_sets.specs.Values.{IsWithin, bounds_of, number_bounds, values_in};
 
 use crate::asks::{Asks, OfCode};
-use crate::kernel::{Number, next_rows};
+use crate::kernel::{Number, first_rows, next_rows};
 use crate::values::ValueSlice;
 use ssb_packed::NumberSlice;
 use std::alloc::AllocError;
@@ -49,6 +49,79 @@ impl<'a> ValueSlice<'a> {
             ValueSlice::Codes(codes) => keep_numbers(codes.numbers, OfCode { asked }, rows),
         }
     }
+
+    /// Fills a list with the rows in `from..end` whose value passes.
+    ///
+    /// # Errors
+    ///
+    /// Only where a growth was refused.
+    pub fn list<A: Asks>(
+        self,
+        asked: A,
+        from: u32,
+        end: u32,
+        rows: &mut Vec<u32>,
+    ) -> Result<(), AllocError>
+        requires order { from ≤ end }
+        requires there { end ≤ length (values_in self) }
+        ensures { OnOk result (rows.new.items ≡ filter (passes_at (A.says asked) (values_in self.entry)) (range_with_len from (end - from))) }
+    {
+        match self {
+            ValueSlice::Numbers(numbers) => list_numbers(numbers, asked, from, end, rows),
+            ValueSlice::Codes(codes) => {
+                list_numbers(codes.numbers, OfCode { asked }, from, end, rows)
+            }
+        }
+    }
+}
+
+fn list_numbers<A: Asks>(
+    numbers: NumberSlice<'_>,
+    asked: A,
+    from: u32,
+    end: u32,
+    rows: &mut Vec<u32>,
+) -> Result<(), AllocError>
+    requires order { from ≤ end }
+    requires there { end ≤ length (numbers_in numbers) }
+    ensures { OnOk result (rows.new.items ≡ filter (passes_at (A.says asked) (numbers_in numbers.entry)) (range_with_len from (end - from))) }
+{
+    match numbers {
+        NumberSlice::One(kept) => list_in(kept, asked, from, end, rows),
+        NumberSlice::Two(kept) => list_in(kept, asked, from, end, rows),
+        NumberSlice::Four(kept) => list_in(kept, asked, from, end, rows),
+        NumberSlice::Eight(kept) => list_in(kept, asked, from, end, rows),
+    }
+}
+
+fn list_in<T: Number, A: Asks>(
+    numbers: &[T],
+    asked: A,
+    from: u32,
+    end: u32,
+    rows: &mut Vec<u32>,
+) -> Result<(), AllocError>
+    requires order { from ≤ end }
+    requires there { end ≤ length numbers.now }
+    ensures { OnOk result (rows.new.items ≡ filter (passes_at (A.says asked) (map T.wide numbers.now)) (range_with_len from (end - from))) }
+{
+    list_all(&numbers[from as usize..end as usize], asked, from, rows)
+}
+
+// Fills a list with the rows of a stretch, from a first one on, whose numbers pass.
+fn list_all<T: Number, A: Asks>(
+    numbers: &[T],
+    asked: A,
+    first: u32,
+    rows: &mut Vec<u32>,
+) -> Result<(), AllocError>
+    requires { first + length numbers.now < 2 ^ 32 }
+    ensures { OnOk result (rows.new.items ≡ filter (λ r. passes_at (A.says asked) (map T.wide numbers.now) (r - first)) (range_with_len first (length numbers.now))) }
+{
+    rows.resize(numbers.len(), 0)?;
+    let left = first_rows(numbers, asked, first, rows.as_mut_slice());
+    rows.truncate(left);
+    Ok(())
 }
 
 // The match on the width, once for all rows.

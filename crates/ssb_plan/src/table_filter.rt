@@ -295,4 +295,16 @@ impl TableFilter {
         self.keep_others(local, rows);
         Ok(())
     }
+
+    /// Leaves the rows that meet the conjuncts over this table alone, in their order.
+    pub fn keep(&self, local: Local<'_>, rows: &mut Vec<u32>)
+        requires few { local.place < 8 }
+        requires table { slice_get (tables_at local.tables.now local.from.now) local.place ≡ Some local.table.now }
+        requires there { All (IsThere local.table.now) self.now.columns.items }
+        requires rows { All (λ r. r < rows_in local.table.now) rows.old.items }
+        ensures { (cs : List (Filter BoundColumn)) → IsTableFilter local.entry.table.now local.entry.place cs self.now → rows.new.items ≡ filter (passes (tables_at local.entry.tables.now local.entry.from.now) local.entry.place cs) rows.old.items }
+    {
+        keep_all(&self.columns, local.table, rows);
+        self.keep_others(local, rows);
+    }
 }

@@ -7,6 +7,7 @@ pub mod Encodings
 pub mod Indexing
 pub mod Inputs
 pub mod Joins
+pub mod KeyFacts
 pub mod Keys
 pub mod MarkedRows
 pub mod OneTable

@@ -5,6 +5,7 @@ pub mod Filters
 pub mod Index
 pub mod Inputs
 pub mod JobShape
+pub mod KeyNumbers
 pub mod Loaded
 pub mod Only
 pub mod Serves

@@ -8,8 +8,8 @@
 //! - Apart: a plan is made once, and told and worked off by others.
 //! - Files: `plan`, `conjuncts`, `join`; `input`, `spans`; `dimension`, `index`: rows by their keys; `table_filter`,
 //!   `column_filter`, `sets`, `leaves`: conditions over one column as sets; `only`, `sole`: of which tables and columns.
-//! - Definitions: `JobShape`, `Build`, `Inputs`, `Spans`, `Loaded`, `Index`; `Accesses`, `DimensionIndex`, `Filters`, `Only`,
-//!   `Serves`, `Sets`, `Split`: for the contracts here and in the next crates.
+//! - Definitions: `JobShape`, `Build`, `Inputs`, `Spans`, `Loaded`, `Index`; `Accesses`, `DimensionIndex`, `Filters`,
+//!   `KeyNumbers`, `Only`, `Serves`, `Sets`, `Split`: for the contracts here and in the next crates.
 #![tactic(auto)]
 
 pub mod column_filter;

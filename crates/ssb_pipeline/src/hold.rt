@@ -1,6 +1,6 @@
 // What a worker does while it holds a part: it gets a batch of tickets, or brings one back.
 
-ghost use Rattle.std.specs.Prelude.{◌≡◌, [], List};
+ghost use Rattle.std.specs.Prelude.{◌≡◌, ◌<◌, ◌≤◌, [], List};
 ghost use Rattle.std.specs.List.{All};
 ghost use Rattle.ssb_pipeline.specs.Batch.{BringsBatch, GetsTickets, HandsBatch, IsBatchOf, IsBatchWith, IsDueTo, Settles};
 ghost use Rattle.ssb_pipeline.specs.Part.{IsOutIn};
@@ -27,8 +27,21 @@ fn hand_out_none<G: Gate>(part: &mut Part, section: u32, gate: &G)
     }
 }
 
-// A part hands out up to so many tickets, for which there is room; where there is room for none, one
-// that is given up.
+// A worker takes at most an eighth of what is left, so that no worker has a long batch when the others have
+// none.
+const SHARES: u32 = 8;
+
+// How many tickets a worker takes at once where there is room for so many, and so many are left.
+fn share_of(room: u32, left: u32) -> u32
+    requires { 0 < room }
+    ensures some { 0 < result }
+    ensures many { result ≤ room }
+{
+    room.min((left / SHARES).max(1))
+}
+
+// A part hands out up to so many tickets, for which there is room, and fewer near the end of its section;
+// where there is room for none, one that is given up.
 fn hand_out_batch<G: Gate>(
     part: &mut Part,
     section: u32,
@@ -44,7 +57,7 @@ fn hand_out_batch<G: Gate>(
         return;
     }
     part.lawful();
-    for _ in 0..room {
+    for _ in 0..share_of(room, part.left()) {
         let Some(ticket) = part.hand_out() else {
             return;
         };

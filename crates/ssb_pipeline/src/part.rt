@@ -371,6 +371,15 @@ impl Part {
         self.next
     }
 
+    // How many morsels were not handed out yet. It only tunes how many tickets a worker takes at once: nothing
+    // rests on it.
+    pub(crate) fn left(&self) -> u32
+        ensures { result ≡ length (ours self.now) - length self.now.handed }
+    {
+        let (first, end) = self.bounds();
+        (end - first).saturating_sub(self.handed())
+    }
+
     /// How many morsels came back.
     pub fn returned(&self) -> u32
         ensures { result ≡ length self.now.returned }

@@ -10,12 +10,12 @@ loop-init g c = subst (λ ts. Handing ts 0 c.args.part.now c.args.part.now) (sym
 
 pub returns-in_default : goal.returns-in_default
 returns-in_default g c =
-    let le : c.loop.counter ≤ c.args.room = search rules in
+    let le : c.loop.counter ≤ c.args.room = let many = c.share_of-end.ensures.many in grind (arith, common_steps, many) in
     handed-ended c.loop.tickets.items c.loop.counter c.args.room c.args.part.now c.loop.part le c.loop.invariant c.hand_out.new.self c.in_default.ensures.hands
 
 pub returns-in-Err : goal.returns-in-Err
 returns-in-Err g c =
-    let le : c.loop.counter ≤ c.args.room = search rules in
+    let le : c.loop.counter ≤ c.args.room = let many = c.share_of-end.ensures.many in grind (arith, common_steps, many) in
     let same : c.push.new.self.items ≡ c.loop.tickets.items = search rules in
     let it : c.in-Err.refused.value ≡ c.in-Some.ticket = search rules in
     subst (λ ts. HandsBatch c.args.room ts c.args.part.now c.give_up.new.self) (sym same)
@@ -29,6 +29,6 @@ loop-preserved g c =
 
 pub returns : goal.returns
 returns g c =
-    let le : c.loop.counter ≤ c.args.room = grind (arith, common_steps) in
-    let some : 0 < c.loop.counter = grind (arith, common_steps) in
+    let le : c.loop.counter ≤ c.args.room = let many = c.share_of-end.ensures.many in grind (arith, common_steps, many) in
+    let some : 0 < c.loop.counter = let one = c.share_of-end.ensures.some in grind (arith, common_steps, one) in
     handed-full c.loop.tickets.items c.loop.counter c.args.room c.args.part.now c.loop.part le c.loop.invariant some

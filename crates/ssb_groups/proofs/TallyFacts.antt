@@ -4,7 +4,10 @@ use Rattle.std.specs.List.{All}
 use Rattle.std.proofs.Math.ListN.{set}
 use Rattle.std.proofs.lemmas.Bool.{eqb-true, eq-eqb}
 use Rattle.std.proofs.lemmas.Option.{same_Some}
-use Rattle.std.proofs.lemmas.List.{get_or-set_other, get_or-set_same, length-set, map-append, take_all}
+use Rattle.std.proofs.lemmas.List.{get_or-set_other, get_or-set_same, length-map, length-set, map-append, take_all}
+use Rattle.std.proofs.lemmas.Simd.{map-map}
+use Rattle.std.specs.declared.alloc.Global.{Global}
+use Rattle.std.specs.declared.vec.Vec.{Vec}
 use Rattle.ssb_cells.specs.Cell.{Cell, null}
 use Rattle.ssb_cells.specs.Tables.{Columns}
 use Rattle.ssb_plan.specs.JobShape.{JobShape}
@@ -16,7 +19,7 @@ use Rattle.ssb_groups.specs.Keys.{IsKept, kept_total, spelt_cell}
 use Rattle.ssb_groups.specs.Places.{AllRanged, AreGrown, AreOver, CanJoin, IsJoined, rows_at}
 use Rattle.ssb_groups.specs.Rows.{SeenRow}
 use Rattle.ssb_groups.specs.Stands.{AreRanged}
-use Rattle.ssb_groups.specs.Tallies.{AllTell, AreTallies, IsTotal, Tells, kept_lists, kept_totals, texts_of, total_at}
+use Rattle.ssb_groups.specs.Tallies.{AllTell, AreAdded, AreTallies, IsAdded, IsTotal, Tells, items, kept_lists, kept_totals, lists, stand_lists, texts_of, total_at}
 use Rattle.ssb_groups.specs.declared.joining.Joining.{Joining}
 use Rattle.ssb_groups.specs.declared.joining.Joining.TheVariants as joining
 use Rattle.ssb_groups.specs.declared.kept.KeptTotal.{KeptTotal}
@@ -219,6 +222,19 @@ pub lists-at : (tallies : List (List KeptTotal)) (i : ℕ) → get_or (kept_list
 lists-at [] i = refl
 lists-at (t ∷ tallies) zero = refl
 lists-at (t ∷ tallies) (suc i) = lists-at tallies i
+
+pub stood : (tallies : List (Vec KeptTotal Global)) → kept_lists (lists tallies) ≡ stand_lists kept_totals tallies
+stood tallies = map-map kept_totals items tallies
+
+pub tallies-added : (j : JobShape) (n : ℕ) (tallies : List (List KeptTotal)) → AreTallies j n tallies → AreAdded j n (kept_lists tallies)
+tallies-added j n tallies are = record {
+  many = length-map tallies kept_totals ∙ are.many;
+  each = λ i a at.
+      let tally = get_or tallies i [] in
+      let was = are.each i a at in
+      let long = was.long in
+      subst (IsAdded (texts_of j a) n) (sym (lists-at tallies i)) (record { long = omega (arith, long, length-map tally kept_total); kept = λ p. subst (IsKept (texts_of j a)) (sym (kept-at tally p)) (was.kept p) });
+}
 
 -- ---- the tally of an aggregate
 

@@ -31,11 +31,11 @@ totals_in j ts = spelt (total_columns j) ts
 abbrev pub AreTotals : JobShape → List Kept → Type 0
 AreTotals j ts = AreKept (total_columns j) ts
 
--- tallies, as the lists that they are
-abbrev pub items : Vec KeptTotal Global → List KeptTotal
+-- tallies, or totals over each combination of a block alone, as the lists that they are
+abbrev pub items : {X : Type 0} → Vec X Global → List X
 items tally = tally.items
 
-abbrev pub lists : List (Vec KeptTotal Global) → List (List KeptTotal)
+abbrev pub lists : {X : Type 0} → List (Vec X Global) → List (List X)
 lists tallies = map items tallies
 
 -- what totals stand for
@@ -45,12 +45,9 @@ kept_totals ts = map kept_total ts
 abbrev pub kept_lists : List (List KeptTotal) → List (List Kept)
 kept_lists tallies = map kept_totals tallies
 
--- the totals over each combination of a block alone, as the lists that they are
-abbrev pub cell_items : Vec Kept Global → List Kept
-cell_items cells = cells.items
-
-abbrev pub cell_lists : List (Vec Kept Global) → List (List Kept)
-cell_lists totals = map cell_items totals
+-- the same, by what the totals of one aggregate stand for
+abbrev pub stand_lists : {X : Type 0} → (List X → List Kept) → List (Vec X Global) → List (List Kept)
+stand_lists stand tallies = map (λ tally. stand tally.items) tallies
 
 -- the totals at a place
 abbrev pub totals_at : List (List KeptTotal) → ℕ → List Kept

@@ -16,7 +16,7 @@ ghost use Rattle.ssb_groups.specs.Pairs.{IsPairOf};
 ghost use Rattle.ssb_groups.specs.Refs.{input_texts, input_value};
 ghost use Rattle.ssb_groups.specs.Seen.{fact_of, seen};
 ghost use Rattle.ssb_groups.specs.Stands.{IsRanged, least, least_of, overflows};
-ghost use Rattle.ssb_groups.specs.Tallies.{cell_lists};
+ghost use Rattle.ssb_groups.specs.Tallies.{lists};
 ghost use Rattle.ssb_keys.specs.declared.kept.Kept.TheVariants as kept;
 ghost use Rattle.ssb_plan.specs.declared.input.Input.TheVariants as inputs;
 
@@ -262,7 +262,7 @@ pub(crate) fn gather(
     requires rows { All (IsCombination (from_tables job.now)) block.now }
     requires many { length totals.old ≡ length job.now.query.aggregates }
     ensures least { IfOk result (λ n. n ≡ least (overflows (map (seen job.now) block.now))) }
-    ensures taken { OnOk result (AllTaken job.now block.now (cell_lists totals.new)) }
+    ensures taken { OnOk result (AllTaken job.now block.now (lists totals.new)) }
     ensures many { length totals.new ≡ length totals.old }
 {
     let mut found = None;

@@ -18,7 +18,7 @@ use crate::columns::Columns;
 use crate::gather::gather;
 use crate::room::Room;
 use crate::store::Store;
-use crate::table::no_alone;
+use crate::table::no_totals;
 use crate::tallies::Alone;
 use crate::totals::Total;
 use ssb_cells::Value;
@@ -101,7 +101,7 @@ impl Groups {
             columns,
             store: Store::new(alloc, job)?,
             room: Room::new(alloc),
-            totals: no_alone(alloc, job.query().parts().aggregates.len())?,
+            totals: no_totals(alloc, job.query().parts().aggregates.len())?,
         })
     }
 

@@ -10,7 +10,7 @@ ghost use Rattle.ssb_groups.specs.Keys.{IsKey, cells_in};
 ghost use Rattle.ssb_groups.specs.Rows.{SeenRow};
 ghost use Rattle.ssb_groups.specs.Seen.{seen};
 ghost use Rattle.ssb_groups.specs.Stands.{AreRanged, Stands, least, overflows};
-ghost use Rattle.ssb_groups.specs.Tallies.{AreTotals, cell_lists, lists, totals_at, totals_in};
+ghost use Rattle.ssb_groups.specs.Tallies.{AreTotals, lists, totals_at, totals_in};
 ghost use Rattle.ssb_job.specs.Kept.{AreOneJob};
 ghost use Rattle.ssb_plan.specs.JobShape.{from_tables};
 
@@ -92,7 +92,7 @@ impl Store {
         requires rows { All (IsCombination (from_tables self.old.job)) block.now }
         requires few { self.old.counted + length block.now < 2 ^ 32 }
         requires many { length totals.now ≡ length self.old.job.query.aggregates }
-        requires totals { AllTaken self.old.job block.now (cell_lists totals.now) }
+        requires totals { AllTaken self.old.job block.now (lists totals.now) }
         requires plain { overflows (map (seen self.old.job) block.now) ≡ [] }
         requires ranged { AreRanged (map (seen self.old.job) block.now) }
         ensures stands { OnOk result (AddsRows self.old.job block.now self.old self.new) }

@@ -8,13 +8,13 @@ ghost use Rattle.ssb_groups.specs.Gathering.{key_at};
 ghost use Rattle.ssb_groups.specs.GroupKeys.{AreUnique, keys_in};
 ghost use Rattle.ssb_groups.specs.Keys.{HasCells, cells_in};
 ghost use Rattle.ssb_groups.specs.Places.{AreGrown, AreKeys, IsFront, IsTable, JoinsGrown, JoinsRows, OpenAll};
-ghost use Rattle.ssb_groups.specs.Tallies.{AreAdded, AreTallies, cell_lists, kept_lists, lists};
+ghost use Rattle.ssb_groups.specs.Tallies.{AreAdded, AreTallies, kept_lists, lists, stand_lists};
 
 use crate::columns::Columns;
 use crate::keys::Keys;
 use crate::places::{open, open_numbers};
 use crate::room::Room;
-use crate::tallies::{Alone, Tally, grow, join_all, join_all_alone};
+use crate::tallies::{Alone, Joins, Tally, grow, join_all};
 use ssb_job::Block;
 use std::alloc::{AllocError, Global};
 
@@ -25,8 +25,8 @@ pub(crate) struct GroupTable {
     pub(crate) tallies: Vec<Tally>,
 }
 
-// So many empty tallies.
-pub(crate) fn no_tallies(alloc: Global, count: usize) -> Result<Vec<Tally>, AllocError>
+// So many empty lists of totals.
+pub(crate) fn no_totals<T: Joins>(alloc: Global, count: usize) -> Result<Vec<Vec<T>>, AllocError>
     ensures many { IfOk result (λ tallies. length tallies.items ≡ count) }
     ensures none { IfOk result (λ tallies. (i : ℕ) → get_or (lists tallies.items) i [] ≡ []) }
 {
@@ -35,17 +35,6 @@ pub(crate) fn no_tallies(alloc: Global, count: usize) -> Result<Vec<Tally>, Allo
         tallies.push(Vec::new(alloc))?;
     }
     Ok(tallies)
-}
-
-// So many empty lists of totals alone.
-pub(crate) fn no_alone(alloc: Global, count: usize) -> Result<Vec<Alone>, AllocError>
-    ensures { IfOk result (λ totals. length totals.items ≡ count) }
-{
-    let mut totals = Vec::new(alloc);
-    for _ in 0..count {
-        totals.push(Vec::new(alloc))?;
-    }
-    Ok(totals)
 }
 
 // Finds the places of the keys of a block's combinations, one after the other, and adds those that are not there. Where
@@ -138,47 +127,27 @@ impl GroupTable {
     {
         Ok(GroupTable {
             keys: Keys::new(alloc),
-            tallies: no_tallies(alloc, count)?,
+            tallies: no_totals(alloc, count)?,
         })
     }
 
     // Joins to the totals at places those beside the places.
-    fn join(
+    fn join<T: Joins>(
         &mut self,
         columns: &Columns,
         places: &[usize],
-        more: &[Tally],
+        more: &[Vec<T>],
     ) -> Result<(), AllocError>
         requires tallies { (n : ℕ) × (n ≤ length (keys_in self.old.keys)) × AreTallies columns.now n (lists self.old.tallies.items) }
         requires places { All (λ p. p < length (keys_in self.old.keys)) places.now }
-        requires more { AreTallies columns.now (length places.now) (lists more.now) }
-        ensures joined { OnOk result (JoinsGrown columns.now places.now (kept_lists (lists more.now)) (lists self.old.tallies.items) (lists self.new.tallies.items)) }
+        requires more { AreAdded columns.now (length places.now) (stand_lists T.stand more.now) }
+        ensures joined { OnOk result (JoinsGrown columns.now places.now (stand_lists T.stand more.now) (lists self.old.tallies.items) (lists self.new.tallies.items)) }
         ensures tallies { OnOk result (AreTallies columns.now (length (keys_in self.old.keys)) (lists self.new.tallies.items)) }
         ensures grown { OnErr result (AreGrown (lists self.old.tallies.items) (lists self.new.tallies.items)) }
         ensures keys { self.new.keys ≡ self.old.keys }
     {
         grow(self.tallies.as_mut_slice(), self.keys.len())?;
         join_all(columns, self.tallies.as_mut_slice(), places, more);
-        Ok(())
-    }
-
-    // Joins to the totals at places those beside the places.
-    fn join_alone(
-        &mut self,
-        columns: &Columns,
-        places: &[usize],
-        more: &[Alone],
-    ) -> Result<(), AllocError>
-        requires tallies { (n : ℕ) × (n ≤ length (keys_in self.old.keys)) × AreTallies columns.now n (lists self.old.tallies.items) }
-        requires places { All (λ p. p < length (keys_in self.old.keys)) places.now }
-        requires more { AreAdded columns.now (length places.now) (cell_lists more.now) }
-        ensures joined { OnOk result (JoinsGrown columns.now places.now (cell_lists more.now) (lists self.old.tallies.items) (lists self.new.tallies.items)) }
-        ensures tallies { OnOk result (AreTallies columns.now (length (keys_in self.old.keys)) (lists self.new.tallies.items)) }
-        ensures grown { OnErr result (AreGrown (lists self.old.tallies.items) (lists self.new.tallies.items)) }
-        ensures keys { self.new.keys ≡ self.old.keys }
-    {
-        grow(self.tallies.as_mut_slice(), self.keys.len())?;
-        join_all_alone(columns, self.tallies.as_mut_slice(), places, more);
         Ok(())
     }
 
@@ -193,15 +162,15 @@ impl GroupTable {
         requires unique { AreUnique self.old.keys }
         requires table { IsTable columns.now (keys_in self.old.keys) (lists self.old.tallies.items) }
         requires rows { All (IsCombination (from_tables columns.now)) block.now }
-        requires more { AreAdded columns.now (length block.now) (cell_lists more.now) }
+        requires more { AreAdded columns.now (length block.now) (lists more.now) }
         ensures unique { AreUnique self.new.keys }
         ensures front { IsFront (keys_in self.old.keys) (keys_in self.new.keys) }
         ensures table { OnOk result (IsTable columns.now (keys_in self.new.keys) (lists self.new.tallies.items)) }
-        ensures joined { OnOk result (JoinsRows columns.now (map (key_at columns.now) block.now) (cell_lists more.now) (keys_in self.old.keys) (keys_in self.new.keys) (lists self.old.tallies.items) (lists self.new.tallies.items)) }
+        ensures joined { OnOk result (JoinsRows columns.now (map (key_at columns.now) block.now) (lists more.now) (keys_in self.old.keys) (keys_in self.new.keys) (lists self.old.tallies.items) (lists self.new.tallies.items)) }
         ensures grown { OnErr result (AreGrown (lists self.old.tallies.items) (lists self.new.tallies.items)) }
     {
         open_block(columns, &mut self.keys, block, room)?;
-        self.join_alone(columns, &room.places, more)
+        self.join(columns, &room.places, more)
     }
 
     // Adds other groups. Where memory is refused, keys may be left.
@@ -236,10 +205,10 @@ impl GroupTable {
         requires unique { AreUnique self.old.keys }
         requires table { IsTable columns.now (keys_in self.old.keys) (lists self.old.tallies.items) }
         requires rows { All (IsCombination (from_tables columns.now)) block.now }
-        requires more { AreAdded columns.now (length block.now) (cell_lists more.now) }
+        requires more { AreAdded columns.now (length block.now) (lists more.now) }
         ensures unique { AreUnique self.new.keys }
         ensures table { IsTable columns.now (keys_in self.new.keys) (lists self.new.tallies.items) }
-        ensures joined { OnOk result (JoinsRows columns.now (map (key_at columns.now) block.now) (cell_lists more.now) (keys_in self.old.keys) (keys_in self.new.keys) (lists self.old.tallies.items) (lists self.new.tallies.items)) }
+        ensures joined { OnOk result (JoinsRows columns.now (map (key_at columns.now) block.now) (lists more.now) (keys_in self.old.keys) (keys_in self.new.keys) (lists self.old.tallies.items) (lists self.new.tallies.items)) }
         ensures keys { OnErr result ((keys_in self.new.keys) ≡ (keys_in self.old.keys)) }
         ensures grown { OnErr result (AreGrown (lists self.old.tallies.items) (lists self.new.tallies.items)) }
     {

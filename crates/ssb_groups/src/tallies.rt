@@ -6,9 +6,10 @@ ghost use Rattle.ssb_cells.specs.Tables.{Columns as AnyColumns};
 ghost use Rattle.ssb_groups.specs.Joining.{IsJoining, values_by};
 ghost use Rattle.ssb_groups.specs.Keys.{IsKept, kept_total};
 ghost use Rattle.ssb_groups.specs.Places.{AreGrown, AreJoined, ArePlacesOf, IsJoined};
-ghost use Rattle.ssb_groups.specs.Tallies.{AreAdded, AreTallies, cell_lists, kept_lists, kept_totals, lists};
+ghost use Rattle.ssb_groups.specs.Tallies.{AreAdded, IsAdded, kept_totals, lists, stand_lists};
 ghost use Rattle.ssb_groups.specs.declared.joining.Joining.TheVariants as joining;
 ghost use Rattle.ssb_groups.specs.declared.kept.KeptTotal.TheVariants as totals;
+ghost use Rattle.ssb_keys.specs.declared.kept.Kept.{Kept as AnyKept};
 ghost use Rattle.ssb_keys.specs.declared.kept.Kept.TheVariants as kept;
 
 use crate::columns::Columns;
@@ -49,65 +50,58 @@ fn add_all(tally: &mut [KeptTotal], places: &[usize], more: &[Kept])
     tally[place] = total;
 }
 
-// Joins to the totals at some places those beside the places: a place may come again.
-fn join_alone(
-    tables: &[Table],
-    joining: Joining,
-    tally: &mut [KeptTotal],
-    places: &[usize],
-    more: &[Kept],
-)
-    requires joining { IsJoining tables.now joining }
-    requires places { All (λ p. p < length tally.old) places.now }
-    requires beside { length places.now ≤ length more.now }
-    requires kept { (p : ℕ) → IsKept (values_by tables.now joining) (kept_total (get_or tally.old p totals.Null)) }
-    requires others { (p : ℕ) → IsKept (values_by tables.now joining) (get_or more.now p kept.Null) }
-    ensures { IsJoined tables.now joining places.now more.now tally.old tally.new }
-{
-    if let Joining::Adds = joining {
-        return add_all(tally, places, more);
-    }
-    for at in 0..places.len() {
-        joining.join(tables, &mut tally[places[at]], &KeptTotal::of(more[at]));
+/// What may be joined to the totals of groups: totals of others, or over each combination of a block alone.
+pub(crate) trait Joins: Copy {
+    // What a list of them stands for.
+    ghost stand: { List Self → List AnyKept };
+
+    // Joins to the totals at some places those beside the places: a place may come again.
+    fn join_column(
+        tables: &[Table],
+        joining: Joining,
+        tally: &mut [KeptTotal],
+        places: &[usize],
+        more: &[Self],
+    )
+        requires joining { IsJoining tables.now joining }
+        requires places { All (λ p. p < length tally.old) places.now }
+        requires kept { (p : ℕ) → IsKept (values_by tables.now joining) (kept_total (get_or tally.old p totals.Null)) }
+        requires more { IsAdded (values_by tables.now joining) (length places.now) (stand more.now) }
+        ensures { IsJoined tables.now joining places.now (stand more.now) tally.old tally.new };
+}
+
+impl Joins for Kept {
+    ghost stand = { λ cells. cells };
+
+    fn join_column(
+        tables: &[Table],
+        joining: Joining,
+        tally: &mut [KeptTotal],
+        places: &[usize],
+        more: &[Kept],
+    ) {
+        if let Joining::Adds = joining {
+            return add_all(tally, places, more);
+        }
+        for at in 0..places.len() {
+            joining.join(tables, &mut tally[places[at]], &KeptTotal::of(more[at]));
+        }
     }
 }
 
-// The same, where what is joined is the total of a group too.
-pub(crate) fn join_column(
-    tables: &[Table],
-    joining: Joining,
-    tally: &mut [KeptTotal],
-    places: &[usize],
-    more: &[KeptTotal],
-)
-    requires joining { IsJoining tables.now joining }
-    requires places { All (λ p. p < length tally.old) places.now }
-    requires beside { length places.now ≤ length more.now }
-    requires kept { (p : ℕ) → IsKept (values_by tables.now joining) (kept_total (get_or tally.old p totals.Null)) }
-    requires others { (p : ℕ) → IsKept (values_by tables.now joining) (kept_total (get_or more.now p totals.Null)) }
-    ensures { IsJoined tables.now joining places.now (kept_totals more.now) tally.old tally.new }
-{
-    for at in 0..places.len() {
-        joining.join(tables, &mut tally[places[at]], &more[at]);
-    }
-}
+impl Joins for KeptTotal {
+    ghost stand = { kept_totals };
 
-// Joins to the totals of all aggregates at some places those beside the places.
-pub(crate) fn join_all_alone(
-    columns: &Columns,
-    tallies: &mut [Tally],
-    places: &[usize],
-    more: &[Alone],
-)
-    requires tallies { ArePlacesOf columns.now (lists tallies.old) places.now }
-    requires more { AreAdded columns.now (length places.now) (cell_lists more.now) }
-    ensures { AreJoined columns.now places.now (cell_lists more.now) (lists tallies.old) (lists tallies.new) }
-{
-    let tables = columns.tables();
-    let joinings = columns.joinings();
-    for at in 0..joinings.len() {
-        let tally = tallies[at].as_mut_slice();
-        join_alone(tables, joinings[at], tally, places, more[at].as_slice());
+    fn join_column(
+        tables: &[Table],
+        joining: Joining,
+        tally: &mut [KeptTotal],
+        places: &[usize],
+        more: &[KeptTotal],
+    ) {
+        for at in 0..places.len() {
+            joining.join(tables, &mut tally[places[at]], &more[at]);
+        }
     }
 }
 
@@ -135,15 +129,20 @@ pub(crate) fn grow(tallies: &mut [Tally], groups: usize) -> Result<(), AllocErro
 }
 
 // Joins to the totals of all aggregates at some places those beside the places.
-pub(crate) fn join_all(columns: &Columns, tallies: &mut [Tally], places: &[usize], more: &[Tally])
+pub(crate) fn join_all<T: Joins>(
+    columns: &Columns,
+    tallies: &mut [Tally],
+    places: &[usize],
+    more: &[Vec<T>],
+)
     requires tallies { ArePlacesOf columns.now (lists tallies.old) places.now }
-    requires more { AreTallies columns.now (length places.now) (lists more.now) }
-    ensures { AreJoined columns.now places.now (kept_lists (lists more.now)) (lists tallies.old) (lists tallies.new) }
+    requires more { AreAdded columns.now (length places.now) (stand_lists T.stand more.now) }
+    ensures { AreJoined columns.now places.now (stand_lists T.stand more.now) (lists tallies.old) (lists tallies.new) }
 {
     let tables = columns.tables();
     let joinings = columns.joinings();
     for at in 0..joinings.len() {
         let tally = tallies[at].as_mut_slice();
-        join_column(tables, joinings[at], tally, places, more[at].as_slice());
+        T::join_column(tables, joinings[at], tally, places, more[at].as_slice());
     }
 }

@@ -1,9 +1,10 @@
-use Rattle.std.proofs.Common.{◌∙◌, ◌<◌, get_or, length, map, ap, subst, sym}
+use Rattle.std.proofs.Common.{◌∙◌, ◌<◌, get_or, length, map, rules, ap, subst, sym}
 use Rattle.ssb_groups.specs.GroupKeys.{keys_in}
 use Rattle.ssb_groups.specs.Keys.{cells_in}
 use Rattle.ssb_groups.specs.Places.{OpenAll}
-use Rattle.ssb_groups.specs.Tallies.{AreTallies, lists}
+use Rattle.ssb_groups.specs.Tallies.{AreAdded, AreTallies, lists}
 use Rattle.ssb_groups.proofs.PlacedRows.{all-within, placed-long}
+use Rattle.ssb_groups.proofs.TallyFacts.{stood, tallies-added}
 use Rattle.ssb_groups.proofs.table.GroupTable.try_groups.Goals as goal
 
 -- the places that are found
@@ -18,4 +19,9 @@ join-requires-clause-places c = λ k d lt.
 pub join-requires-clause-more : goal.join-requires-clause-more
 join-requires-clause-more c =
     let long = ap length c.deref.ensures.value ∙ placed-long c.args.columns.now (keys_in c.open_keys.new.keys) (cells_in c.args.columns.now) (keys_in c.args.other.now.keys) c.open_keys.new.room.places.items (opened c).placed in
-    subst (λ ts. AreTallies c.args.columns.now (length c.deref.result.now) (lists ts)) (sym c.deref-2.ensures.value) (subst (λ n. AreTallies c.args.columns.now n (lists c.args.other.now.tallies.items)) (sym long) c.requires.other.are)
+    subst (AreAdded c.args.columns.now (length c.deref.result.now)) (stood c.deref-2.result.now)
+    (tallies-added c.args.columns.now (length c.deref.result.now) (lists c.deref-2.result.now)
+    (subst (λ ts. AreTallies c.args.columns.now (length c.deref.result.now) (lists ts)) (sym c.deref-2.ensures.value) (subst (λ n. AreTallies c.args.columns.now n (lists c.args.other.now.tallies.items)) (sym long) c.requires.other.are)))
+
+pub returns-clause-joined : goal.returns-clause-joined
+returns-clause-joined c = rw (stood c.args.other.now.tallies.items) (search rules)

@@ -1,12 +1,15 @@
 use Rattle.std.proofs.Common.{get_or, sym, subst}
 use Rattle.ssb_groups.specs.Joining.{JoinsTotal, values_by}
-use Rattle.ssb_groups.specs.Keys.{kept_total, spelt_cell}
+use Rattle.ssb_groups.specs.Keys.{IsKept, kept_total, spelt_cell}
 use Rattle.ssb_groups.specs.Tallies.{kept_totals, total_at}
 use Rattle.ssb_groups.proofs.TallyFacts.{joined-all, joined-next, joined-none, kept-at}
-use Rattle.ssb_groups.proofs.tallies.join_column.Goals as goal
+use Rattle.ssb_groups.proofs.tallies.KeptTotalJoins.join_column.Goals as goal
 
 pub loop-at-init : goal.loop-at-init
 loop-at-init c = joined-none c.args.tables.now c.args.joining c.args.places.now (kept_totals c.args.more.now) c.args.tally.now c.requires.kept
+
+pub join-requires-clause-right : goal.join-requires-clause-right
+join-requires-clause-right c = subst (IsKept (values_by c.args.tables.now c.args.joining)) (kept-at c.args.more.now c.loop-at.at) (c.requires.more.kept c.loop-at.at)
 
 pub loop-at-preserved : goal.loop-at-preserved
 loop-at-preserved c =

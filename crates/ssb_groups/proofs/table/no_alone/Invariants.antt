@@ -1,5 +1,0 @@
-use Rattle.std.proofs.Common.{◌≡◌, length}
-use Rattle.ssb_groups.proofs.table.no_alone.Given as goal
-
-abbrev pub invariant-loop : goal.invariant-loop
-invariant-loop l = length l.totals.items ≡ l.counter

@@ -203,19 +203,17 @@ fn gather_plain(
 fn gather_rows(
     job: &Job,
     block: &Block,
-    place: usize,
+    aggregate: &Aggregate<BoundColumn>,
+    input: &Input,
     so_far: Option<u32>,
     totals: &mut Alone,
 ) -> Result<Option<u32>, AllocError>
     requires rows { All (IsCombination (from_tables job.now)) block.now }
-    requires place { place < length job.now.query.aggregates }
-    ensures least { IfOk result (λ n. (a : AnyAggregate AnyColumn) → slice_get job.now.query.aggregates place ≡ Some a → n ≡ least_of so_far (least (facts_where job.now (over_at job.now a) block.now))) }
-    ensures taken { OnOk result ((a : AnyAggregate AnyColumn) → slice_get job.now.query.aggregates place ≡ Some a → AreTaken job.now a block.now totals.new.items) }
+    requires input { input.now ≡ input_of job.now.query aggregate.now }
+    requires there { list_all (has_column job.now.query job.now.tables) (input_columns input.now) ≡ true }
+    ensures least { IfOk result (λ n. n ≡ least_of so_far (least (facts_where job.now (over_at job.now aggregate.now) block.now))) }
+    ensures taken { OnOk result (AreTaken job.now aggregate.now block.now totals.new.items) }
 {
-    let aggregates = job.query().parts().aggregates.as_slice();
-    let inputs = job.plan().inputs.as_slice();
-    let aggregate = &aggregates[place];
-    let input = &inputs[place];
     totals.clear();
     let mut found = so_far;
     for at in 0..block.len() {
@@ -225,6 +223,18 @@ fn gather_rows(
         totals.push(taken.total)?;
     }
     Ok(found)
+}
+
+// An aggregate of a job, and what it takes.
+fn aggregate_at(job: &Job, place: usize) -> (&Aggregate<BoundColumn>, &Input)
+    requires { place < length job.now.query.aggregates }
+    ensures own { slice_get job.now.query.aggregates place ≡ Some result.0.now }
+    ensures input { result.1.now ≡ input_of job.now.query result.0.now }
+    ensures there { list_all (has_column job.now.query job.now.tables) (input_columns result.1.now) ≡ true }
+{
+    let aggregates = job.query().parts().aggregates.as_slice();
+    let inputs = job.plan().inputs.as_slice();
+    (&aggregates[place], &inputs[place])
 }
 
 // Fills a list with an aggregate over each combination of a block alone, by loops over columns where it takes one, or
@@ -243,12 +253,11 @@ fn gather_column(
     ensures least { IfOk result (λ n. (a : AnyAggregate AnyColumn) → slice_get job.now.query.aggregates place ≡ Some a → n ≡ least_of so_far (least (facts_where job.now (over_at job.now a) block.now))) }
     ensures taken { OnOk result ((a : AnyAggregate AnyColumn) → slice_get job.now.query.aggregates place ≡ Some a → AreTaken job.now a block.now totals.new.items) }
 {
-    let aggregates = job.query().parts().aggregates.as_slice();
-    let inputs = job.plan().inputs.as_slice();
-    if gather_plain(job, block, &aggregates[place], &inputs[place], room, totals)? {
+    let (aggregate, input) = aggregate_at(job, place);
+    if gather_plain(job, block, aggregate, input, room, totals)? {
         return Ok(so_far);
     }
-    gather_rows(job, block, place, so_far, totals)
+    gather_rows(job, block, aggregate, input, so_far, totals)
 }
 
 // Fills lists with the aggregates over each combination of a block alone. The least row of the fact table at which

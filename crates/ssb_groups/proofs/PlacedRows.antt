@@ -1,10 +1,10 @@
 -- The rows of a block, and those of other groups, at the places of their keys.
-use Rattle.std.proofs.Common.{◌≡◌, ◌≢◌, ◌∙◌, ◌⊎◌, inl, inr, ⊎_elim, ℕ, zero, suc, ◌+◌, ◌<◌, ◌≤◌, ◌^◌, Bool, true, false, cond, nat_eq, List, [], ◌∷◌, ◌++◌, length, map, get_or, slice_get, Option, None, Some, refl, sym, ap, ap₂, subst, arith, append-nil, append_assoc, length-append}
+use Rattle.std.proofs.Common.{◌≡◌, ◌≢◌, ◌∙◌, ◌⊎◌, inl, inr, ⊎_elim, ℕ, zero, suc, ◌+◌, ◌<◌, ◌≤◌, ◌^◌, Bool, true, false, cond, nat_eq, List, [], ◌∷◌, ◌++◌, length, map, get_or, slice_get, take, Option, None, Some, refl, sym, ap, ap₂, subst, arith, append-nil, append_assoc, length-append}
 use Rattle.std.specs.List.{IsDistinct}
 use Rattle.std.proofs.Math.Dec.{ltb}
 use Rattle.std.proofs.lemmas.Bool.{eqb-true, eq-eqb, ltb-false, ltb-true}
-use Rattle.std.proofs.lemmas.List.{length-map}
-use Rattle.std.proofs.lemmas.Option.{same_Some}
+use Rattle.std.proofs.lemmas.List.{length-map, map-append, take_more}
+use Rattle.std.proofs.lemmas.Option.{get_or_from_slice_get, same_Some, slice_get_within}
 use Rattle.ssb_plan.specs.JobShape.{JobShape}
 use Rattle.ssb_groups.specs.Keys.{cells_in}
 use Rattle.ssb_groups.specs.Places.{AllRanged, ArePlaced, CanJoin, IsPlaced, OpenAll, Opens, rows_at}
@@ -60,6 +60,12 @@ module _ (j : JobShape) where
               let not = ltb-false n (length mid) e in
               let here : p ≡ n = omega (arith, lt, long, place, not, length-append mid (last.0 ∷ [])) in
               (length ps, get-last ps p ∙ ap Some here)
+
+  -- the same, where the values are those of the first of a list
+  pub open-next : {X : Type 0} (f : X → Key) (old mid new : List GroupKey) (xs : List X) (ps : List ℕ) (k p : ℕ) (x : X) → slice_get xs k ≡ Some x → OpenAll j old mid (map f (take k xs)) ps → Opens j mid new (f x) p → OpenAll j old new (map f (take (k + 1) xs)) (ps ++ p ∷ [])
+  open-next f old mid new xs ps k p x there opened opens =
+      let more = take_more xs k x (slice_get_within xs k x there) ∙ ap (λ y. take k xs ++ y ∷ []) (get_or_from_slice_get xs k x x there) in
+      subst (λ vs. OpenAll j old new vs (ps ++ p ∷ [])) (sym (ap (map f) more ∙ map-append f (take k xs) (x ∷ []))) (open-more old mid new (map f (take k xs)) ps (f x) p opened opens)
 
 tail-apart : (j : JobShape) (o : GroupKey) (os : List GroupKey) → AreApart j (o ∷ os) → AreApart j os
 unfolding IsDistinct

@@ -1,10 +1,11 @@
 use Rattle.std.proofs.Common.{◌≡◌, ◌∙◌, ◌<◌, ◌∷◌, ◌++◌, ◌+◌, [], ℕ, zero, suc, List, length, get_or, map, take, refl, ap, subst, sym, arith}
 use Rattle.std.proofs.Math.ListN.{set}
-use Rattle.std.proofs.lemmas.List.{length-set, map-append, take_more}
+use Rattle.std.proofs.lemmas.List.{length-set}
+use Rattle.std.proofs.lemmas.Option.{slice_get-get_or}
 use Rattle.ssb_plan.specs.JobShape.{JobShape}
 use Rattle.ssb_groups.specs.GroupKeys.{GroupKey, keys_in}
 use Rattle.ssb_groups.specs.Places.{OpenAll, Opens, number_cells}
-use Rattle.ssb_groups.proofs.PlacedRows.{open-more}
+use Rattle.ssb_groups.proofs.PlacedRows.{open-next}
 use Rattle.ssb_groups.proofs.places.fill_places.Goals as goal
 
 -- the list up to a place that is written
@@ -19,9 +20,7 @@ up-to (q ∷ ps) (suc k) p lt =
 next : (j : JobShape) (old mid new : List GroupKey) (ns ps : List ℕ) (k p : ℕ) → k < length ns → k < length ps → OpenAll j old mid (map (number_cells j) (take k ns)) (take k ps) → Opens j mid new (number_cells j (get_or ns k 0)) p
     → OpenAll j old new (map (number_cells j) (take (k + 1) ns)) (take (k + 1) (set ps k p))
 next j old mid new ns ps k p lt within opened opens =
-    let more = ap (map (number_cells j)) (take_more ns k 0 lt) ∙ map-append (number_cells j) (take k ns) (get_or ns k 0 ∷ []) in
-    subst (λ qs. OpenAll j old new (map (number_cells j) (take (k + 1) ns)) qs) (sym (up-to ps k p within))
-    (subst (λ vs. OpenAll j old new vs (take k ps ++ p ∷ [])) (sym more) (open-more j old mid new (map (number_cells j) (take k ns)) (take k ps) (number_cells j (get_or ns k 0)) p opened opens))
+    subst (λ qs. OpenAll j old new (map (number_cells j) (take (k + 1) ns)) qs) (sym (up-to ps k p within)) (open-next j (number_cells j) old mid new ns (take k ps) k p (get_or ns k 0) (slice_get-get_or ns k 0 lt) opened opens)
 
 pub loop-at-preserved : goal.loop-at-preserved
 loop-at-preserved c =

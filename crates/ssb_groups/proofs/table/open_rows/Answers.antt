@@ -1,5 +1,4 @@
 use Rattle.std.proofs.Common.{◌≡◌, ◌∙◌, ℕ, List, slice_get, Some, ◌∷◌, ◌++◌, ◌+◌, [], map, take, ap, subst, sym}
-use Rattle.std.proofs.lemmas.List.{map-append, take_more}
 use Rattle.std.proofs.lemmas.Option.{get_or_from_slice_get, slice_get_within}
 use Rattle.ssb_conditions.specs.Rows.{IsCombination}
 use Rattle.ssb_plan.specs.JobShape.{JobShape, from_tables}
@@ -11,7 +10,7 @@ use Rattle.ssb_groups.specs.Places.{OpenAll, Opens}
 use Rattle.ssb_groups.specs.GroupKeys.{GroupKey}
 use Rattle.ssb_keys.specs.declared.kept.Kept.{Kept}
 use Rattle.ssb_groups.proofs.ColumnFacts.{key-kept, key-spelt}
-use Rattle.ssb_groups.proofs.PlacedRows.{open-more}
+use Rattle.ssb_groups.proofs.PlacedRows.{open-next}
 use Rattle.ssb_groups.proofs.table.open_rows.Goals as goal
 
 -- the key of the combination is added to the keys, where it is not among them
@@ -20,11 +19,7 @@ next : (j : JobShape) (old mid new : List GroupKey) (block : List (List ℕ)) (p
 next j old mid new block ps k p row cells there has same opened opens =
     let is : IsKey j (form.Cells cells) = record { form = has; kept = subst (AreKept (key_columns j)) (sym same) (key-kept j row) } in
     let values : cells_in j (form.Cells cells) ≡ key_at j row = ap (spelt (key_columns j)) same ∙ key-spelt j row in
-    let more = take_more block k row (slice_get_within block k row there) ∙ ap (λ x. take k block ++ x ∷ []) (get_or_from_slice_get block k row row there) in
-    let one = subst (λ v. Opens j mid new v p) values (opens is) in (
-      subst (λ vs. OpenAll j old new vs (ps ++ p ∷ [])) (sym (ap (map (key_at j)) more ∙ map-append (key_at j) (take k block) (row ∷ []))) (open-more j old mid new (map (key_at j) (take k block)) ps (key_at j row) p opened one),
-      is,
-    )
+    (open-next j (key_at j) old mid new block ps k p row there opened (subst (λ v. Opens j mid new v p) values (opens is)), is)
 
 pub fill-requires : goal.fill-requires
 fill-requires c =

@@ -39,6 +39,7 @@ code_cell (Some code) = kept.Code code
 abbrev pub wide : ℤ → ℕ → ℤ
 wide high low = high *ℤ pos (2 ^ 64) +ℤ pos low
 
+-- the numbers that a total has room for: those of 96 bits, from -2^95 to 2^95 - 1
 abbrev pub FitsSum : ℤ → Type 0
 FitsSum s = (neg_ℤ (pos (2 ^ 95)) ≤ℤ s) × (s <ℤ pos (2 ^ 95))
 

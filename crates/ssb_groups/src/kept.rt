@@ -15,8 +15,7 @@ const BEYOND_LOW: i128 = 0x1_0000_0000_0000_0000;
 pub(crate) enum KeptTotal {
     /// No value.
     Null,
-    /// A number of up to 96 bits: a sum of as many 64-bit numbers as a table has rows never leaves them, on the way
-    /// neither.
+    /// A number of up to 96 bits: they hold each sum of at most as many 64-bit numbers as a table has rows.
     Number {
         /// Its bits above the low 64.
         high: i32,
@@ -36,7 +35,8 @@ pub(crate) fn wide(high: i32, low: u64) -> i128
 }
 
 impl KeptTotal {
-    // What stands for a number of up to 96 bits.
+    // What stands for a number of up to 96 bits. A greater one would become another, but no caller has one: each has a
+    // 64-bit number, or a sum of at most as many as a table has rows.
     #[inline(always)]
     pub(crate) fn of_number(number: i128) -> KeptTotal
         ensures number { FitsSum number → kept_total result ≡ kept.Number number }

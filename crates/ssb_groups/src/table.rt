@@ -6,7 +6,7 @@ ghost use Rattle.ssb_conditions.specs.Rows.{IsCombination};
 ghost use Rattle.ssb_plan.specs.JobShape.{from_tables};
 ghost use Rattle.ssb_groups.specs.Gathering.{key_at};
 ghost use Rattle.ssb_groups.specs.GroupKeys.{AreUnique, keys_in};
-ghost use Rattle.ssb_groups.specs.Keys.{HasCells, cells_in};
+ghost use Rattle.ssb_groups.specs.Keys.{cells_in};
 ghost use Rattle.ssb_groups.specs.Places.{AreGrown, AreKeys, IsFront, IsTable, JoinsGrown, JoinsRows, OpenAll};
 ghost use Rattle.ssb_groups.specs.Tallies.{AreAdded, AreTallies, kept_lists, lists, stand_lists};
 
@@ -37,33 +37,8 @@ pub(crate) fn no_totals<T: Joins>(alloc: Global, count: usize) -> Result<Vec<Vec
     Ok(tallies)
 }
 
-// Finds the places of the keys of a block's combinations, one after the other, and adds those that are not there. Where
-// memory is refused, some may be added.
-fn open_rows(
-    columns: &Columns,
-    keys: &mut Keys,
-    block: &Block,
-    room: &mut Room,
-) -> Result<(), AllocError>
-    requires cells { HasCells columns.now }
-    requires unique { AreUnique keys.old }
-    requires keys { AreKeys columns.now (keys_in keys.old) }
-    requires rows { All (IsCombination (from_tables columns.now)) block.now }
-    ensures unique { AreUnique keys.new }
-    ensures keys { AreKeys columns.now (keys_in keys.new) }
-    ensures front { IsFront (keys_in keys.old) (keys_in keys.new) }
-    ensures opened { OnOk result (OpenAll columns.now (keys_in keys.old) (keys_in keys.new) (map (key_at columns.now) block.now) room.new.places.items) }
-{
-    room.places.clear();
-    for at in 0..block.len() {
-        columns.fill(&block.row(at), &mut room.cells)?;
-        let place = keys.open_cells(room.alloc, &room.cells)?;
-        room.places.push(place)?;
-    }
-    Ok(())
-}
-
-// The same, by the numbers of the keys where they have some.
+// Finds the places of the keys of a block's combinations, and adds those that are not there: by the numbers of the keys
+// where they have some, else one after the other. Where memory is refused, some may be added.
 fn open_block(
     columns: &Columns,
     keys: &mut Keys,
@@ -78,17 +53,23 @@ fn open_block(
     ensures front { IsFront (keys_in keys.old) (keys_in keys.new) }
     ensures opened { OnOk result (OpenAll columns.now (keys_in keys.old) (keys_in keys.new) (map (key_at columns.now) block.now) room.new.places.items) }
 {
-    let Some(domains) = columns.domains() else {
-        return open_rows(columns, keys, block, room);
-    };
-    columns.number_keys(domains, block, &mut room.cells, &mut room.numbers)?;
-    open_numbers(
-        columns,
-        keys,
-        &mut room.guesses,
-        &room.numbers,
-        &mut room.places,
-    )
+    if let Some(domains) = columns.domains() {
+        columns.number_keys(domains, block, &mut room.cells, &mut room.numbers)?;
+        return open_numbers(
+            columns,
+            keys,
+            &mut room.guesses,
+            &room.numbers,
+            &mut room.places,
+        );
+    }
+    room.places.clear();
+    for at in 0..block.len() {
+        columns.fill(&block.row(at), &mut room.cells)?;
+        let place = keys.open_cells(room.alloc, &room.cells)?;
+        room.places.push(place)?;
+    }
+    Ok(())
 }
 
 // The same of the keys of other groups.

@@ -2,7 +2,7 @@ use Rattle.std.proofs.Common.{map, take}
 use Rattle.ssb_groups.specs.GroupKeys.{AreUnique, keys_in}
 use Rattle.ssb_groups.specs.Gathering.{key_at}
 use Rattle.ssb_groups.specs.Places.{AreKeys, OpenAll}
-use Rattle.ssb_groups.proofs.table.open_rows.Given as goal
+use Rattle.ssb_groups.proofs.table.open_block.Given as goal
 
 abbrev pub invariant-loop-at : goal.invariant-loop-at
 invariant-loop-at l =

@@ -10,7 +10,7 @@ use Rattle.ssb_groups.specs.Places.{AllOver, AreGrown, IsTable, JoinsRows, OpenA
 use Rattle.ssb_groups.specs.Rows.{SeenRow}
 use Rattle.ssb_groups.specs.Seen.{seen}
 use Rattle.ssb_groups.specs.Stands.{AreRanged, GroupMap, Stands, group, overflows}
-use Rattle.ssb_groups.specs.Tallies.{IsTally, entries_from, entries_of, kept_lists, texts_of, totals_at, totals_in}
+use Rattle.ssb_groups.specs.Tallies.{IsTally, entries_from, entries_of, kept_totals, texts_of, totals_at, totals_in}
 use Rattle.ssb_groups.specs.GroupKeys.{GroupKey}
 use Rattle.ssb_groups.specs.declared.kept.KeptTotal.{KeptTotal}
 use Rattle.ssb_groups.specs.declared.kept.KeptTotal.TheVariants as total
@@ -53,7 +53,7 @@ module _ (j : JobShape) (ks new : List GroupKey) (tallies after : List (List Kep
       stands-after g A ks tallies stands refl are new opens.front.0 opens.front.1 new-apart (groups_of j new after None n) B joins.places (map (λ r. r ∷ []) B) adds after new-table.are.many tells refl refl counted refl
 
   -- other groups
-  pub stands-groups : (os : List GroupKey) (more : List (List KeptTotal)) (k : ℕ) → Stands (groups_of j os more None k) B → IsDistinct keys_equal os → IsTable j os more → JoinsRows j (map (cells_in j) os) (kept_lists more) ks new tallies after → overflows B ≡ [] → Stands (groups_of j new after None n) (A ++ B)
+  pub stands-groups : (os : List GroupKey) (more : List (List KeptTotal)) (k : ℕ) → Stands (groups_of j os more None k) B → IsDistinct keys_equal os → IsTable j os more → JoinsRows j (map (cells_in j) os) (map kept_totals more) ks new tallies after → overflows B ≡ [] → Stands (groups_of j new after None n) (A ++ B)
   stands-groups os more k others os-distinct os-table joins plain =
       let h : GroupMap = groups_of j os more None k in
       let os-apart : AreApart j os = apart j os os-table.keys os-distinct in
@@ -62,7 +62,7 @@ module _ (j : JobShape) (ks new : List GroupKey) (tallies after : List (List Kep
       let can = can-groups j new A B joins.places stands.ranged others.ranged short os (placed-long j new (cells_in j) os joins.places joins.opens.placed) adds.rows in
       let before = tells-before g A ks tallies stands refl are new joins.opens.front.0 joins.opens.front.1 new-apart in
       let Rs = map (λ o. group (cells_in j o) B) os in
-      let over : AllOver j (kept_lists more) Rs = λ i a at p lt.
+      let over : AllOver j (map kept_totals more) Rs = λ i a at p lt.
       let one = found os p (let long = length-map os (λ o. group (cells_in j o) B) in omega (arith, lt, long)) in
       ap (λ ts. spelt_cell (texts_of j a) (get_or ts p kept.Null)) (lists-at more i) ∙ ap (spelt_cell (texts_of j a)) (kept-at (get_or more i []) p) ∙ tells-here h B os more others refl theirs p one.0 one.1 i a at ∙ ap (λ R. agg a (arguments_at i R)) (sym (mapped-here (λ o. group (cells_in j o) B) os p one.0 [] one.1)) in
       let tells = joins.joins.joined.joined (group_at j new A) Rs can (tells-grown j tallies joins.joins.grown (group_at j new A) joins.joins.grows before) over in

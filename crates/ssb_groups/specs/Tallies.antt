@@ -42,10 +42,7 @@ lists tallies = map items tallies
 abbrev pub kept_totals : List KeptTotal → List Kept
 kept_totals ts = map kept_total ts
 
-abbrev pub kept_lists : List (List KeptTotal) → List (List Kept)
-kept_lists tallies = map kept_totals tallies
-
--- the same, by what the totals of one aggregate stand for
+-- what tallies stand for, by what one of them does
 abbrev pub stand_lists : {X : Type 0} → (List X → List Kept) → List (Vec X Global) → List (List Kept)
 stand_lists stand tallies = map (λ tally. stand tally.items) tallies
 

@@ -8,7 +8,7 @@ ghost use Rattle.ssb_groups.specs.Gathering.{key_at};
 ghost use Rattle.ssb_groups.specs.GroupKeys.{AreUnique, keys_in};
 ghost use Rattle.ssb_groups.specs.Keys.{cells_in};
 ghost use Rattle.ssb_groups.specs.Places.{AreGrown, AreKeys, IsFront, IsTable, JoinsGrown, JoinsRows, OpenAll};
-ghost use Rattle.ssb_groups.specs.Tallies.{AreAdded, AreTallies, kept_lists, lists, stand_lists};
+ghost use Rattle.ssb_groups.specs.Tallies.{AreAdded, AreTallies, kept_totals, lists, stand_lists};
 
 use crate::columns::Columns;
 use crate::keys::Keys;
@@ -167,7 +167,7 @@ impl GroupTable {
         ensures unique { AreUnique self.new.keys }
         ensures front { IsFront (keys_in self.old.keys) (keys_in self.new.keys) }
         ensures table { OnOk result (IsTable columns.now (keys_in self.new.keys) (lists self.new.tallies.items)) }
-        ensures joined { OnOk result (JoinsRows columns.now (map (cells_in columns.now) (keys_in other.now.keys)) (kept_lists (lists other.now.tallies.items)) (keys_in self.old.keys) (keys_in self.new.keys) (lists self.old.tallies.items) (lists self.new.tallies.items)) }
+        ensures joined { OnOk result (JoinsRows columns.now (map (cells_in columns.now) (keys_in other.now.keys)) (stand_lists kept_totals other.now.tallies.items) (keys_in self.old.keys) (keys_in self.new.keys) (lists self.old.tallies.items) (lists self.new.tallies.items)) }
         ensures grown { OnErr result (AreGrown (lists self.old.tallies.items) (lists self.new.tallies.items)) }
     {
         open_keys(columns, &mut self.keys, &other.keys, room)?;
@@ -213,7 +213,7 @@ impl GroupTable {
         requires other { IsTable columns.now (keys_in other.now.keys) (lists other.now.tallies.items) }
         ensures unique { AreUnique self.new.keys }
         ensures table { IsTable columns.now (keys_in self.new.keys) (lists self.new.tallies.items) }
-        ensures joined { OnOk result (JoinsRows columns.now (map (cells_in columns.now) (keys_in other.now.keys)) (kept_lists (lists other.now.tallies.items)) (keys_in self.old.keys) (keys_in self.new.keys) (lists self.old.tallies.items) (lists self.new.tallies.items)) }
+        ensures joined { OnOk result (JoinsRows columns.now (map (cells_in columns.now) (keys_in other.now.keys)) (stand_lists kept_totals other.now.tallies.items) (keys_in self.old.keys) (keys_in self.new.keys) (lists self.old.tallies.items) (lists self.new.tallies.items)) }
         ensures keys { OnErr result ((keys_in self.new.keys) ≡ (keys_in self.old.keys)) }
         ensures grown { OnErr result (AreGrown (lists self.old.tallies.items) (lists self.new.tallies.items)) }
     {

@@ -1,7 +1,8 @@
-use Rattle.std.proofs.Common.{◌≡◌, ◌∙◌, ◌+◌, ◌++◌, ◌<◌, ◌^◌, None, ap, refl, subst, sym, arith}
+use Rattle.std.proofs.Common.{◌≡◌, ◌∙◌, ◌+◌, ◌++◌, ◌<◌, ◌^◌, None, ap, map, refl, subst, sym, arith}
 use Rattle.ssb_plan.specs.JobShape.{JobShape}
 use Rattle.ssb_groups.specs.GroupKeys.{keys_in}
-use Rattle.ssb_groups.specs.Places.{IsTable}
+use Rattle.ssb_groups.specs.Keys.{cells_in}
+use Rattle.ssb_groups.specs.Places.{IsTable, JoinsRows}
 use Rattle.ssb_groups.specs.Stands.{GroupMap, Stands, least_of, overflows}
 use Rattle.ssb_groups.specs.Tallies.{entries_of, lists}
 use Rattle.ssb_groups.specs.contracts.store.Store.{the_view}
@@ -10,6 +11,7 @@ use Rattle.ssb_groups.proofs.GroupKeysFacts.{keys-distinct}
 use Rattle.ssb_groups.proofs.PlaceFacts.{where-err}
 use Rattle.ssb_groups.proofs.StandsFacts.{Stands-join, least-nothing, none_from, none_left, none_right, not_none_from}
 use Rattle.ssb_groups.proofs.StoreFacts.{entries-grown, groups_of, stands-groups}
+use Rattle.ssb_groups.proofs.TallyFacts.{stood}
 use Rattle.ssb_groups.proofs.store.Store.merge.Goals as goal
 use Rattle.ssb_groups.proofs.store.Store.merge.Goals.{then-is_none+in_ok-add_groups, else-is_none}
 
@@ -53,7 +55,8 @@ returns-clause-stands c = λ A B before others.
           let their-table : IsTable k os us = subst (λ (x : JobShape). IsTable x os us) theirs c.other.invariant.1 in
           let counted = q.counted in
           let after : Stands (groups_of k (keys_in new.keys) (lists new.tallies.items) None count) (A ++ B) =
-          stands-groups k ks (keys_in new.keys) ts (lists new.tallies.items) c.self.inside.counted count A B mine-stand (keys-distinct c.self.inside.table.keys c.self.invariant.0) table (keys-distinct new.keys joined.unique) joined.table (ap (λ m. c.self.inside.counted + m) counted) (omega (arith, few, counted)) os us c.other.inside.counted their-stand (keys-distinct c.other.inside.table.keys c.other.invariant.0) their-table joined.joined
+          stands-groups k ks (keys_in new.keys) ts (lists new.tallies.items) c.self.inside.counted count A B mine-stand (keys-distinct c.self.inside.table.keys c.self.invariant.0) table (keys-distinct new.keys joined.unique) joined.table (ap (λ m. c.self.inside.counted + m) counted) (omega (arith, few, counted)) os us c.other.inside.counted their-stand (keys-distinct c.other.inside.table.keys c.other.invariant.0) their-table
+          (subst (λ more. JoinsRows k (map (cells_in k) os) more ks (keys_in new.keys) ts (lists new.tallies.items)) (sym (stood c.other.inside.table.tallies.items)) joined.joined)
           (least-nothing (overflows B) (sym q.overflow ∙ nor)) in
           subst (λ (x : Inside). Stands (the_view (record { job = x.job; table = x.table; overflow = over; counted = x.counted + c.other.inside.counted })) (A ++ B)) (sym w.self-inside-is)
           (subst (λ o. Stands (groups_of c.self.inside.job.value (keys_in new.keys) (lists new.tallies.items) o count) (A ++ B)) (sym none)

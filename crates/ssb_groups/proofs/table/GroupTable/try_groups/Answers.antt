@@ -1,4 +1,4 @@
-use Rattle.std.proofs.Common.{◌∙◌, ◌<◌, get_or, length, map, rules, ap, subst, sym}
+use Rattle.std.proofs.Common.{◌∙◌, ◌<◌, get_or, length, map, ap, subst, sym}
 use Rattle.ssb_groups.specs.GroupKeys.{keys_in}
 use Rattle.ssb_groups.specs.Keys.{cells_in}
 use Rattle.ssb_groups.specs.Places.{OpenAll}
@@ -22,6 +22,3 @@ join-requires-clause-more c =
     subst (AreAdded c.args.columns.now (length c.deref.result.now)) (stood c.deref-2.result.now)
     (tallies-added c.args.columns.now (length c.deref.result.now) (lists c.deref-2.result.now)
     (subst (λ ts. AreTallies c.args.columns.now (length c.deref.result.now) (lists ts)) (sym c.deref-2.ensures.value) (subst (λ n. AreTallies c.args.columns.now n (lists c.args.other.now.tallies.items)) (sym long) c.requires.other.are)))
-
-pub returns-clause-joined : goal.returns-clause-joined
-returns-clause-joined c = rw (stood c.args.other.now.tallies.items) (search rules)

@@ -26,7 +26,7 @@ CONDITIONS = 2000
 ROWS = 1500
 
 # How each session works.
-SETTINGS = [["--workers", "1"], ["--workers", "3", "--morsel", "100", "--parts", "2", "--batch", "4"]]
+SETTINGS = [["--workers", "1"], ["--workers", "3", "--morsel", "10", "--parts", "2", "--batch", "4"]]
 
 GREATEST = 2**63 - 1
 

@@ -1,6 +1,6 @@
 -- How the key of a combination is read in the group columns, and spelt again.
 use Rattle.std.proofs.Common.{◌≡◌, ◌∙◌, ◌<◌, ◌≤◌, ◌+◌, ◌++◌, ℕ, zero, suc, Bool, true, true≢false, bytes_eq, cond, get_or, List, [], ◌∷◌, Option, None, Some, Result, Ok, Err, Contains, length, drop, fold, map, slice_get, refl, sym, ap, ap₂, subst, arith, append-nil, append_assoc}
-use Rattle.std.specs.Prelude.{OnOk, unwrap_or, option_map}
+use Rattle.std.specs.Prelude.{IfOk, OnOk, unwrap_or, option_map}
 use Rattle.std.specs.List.{list_all, position_or_len}
 use Rattle.std.proofs.Math.Dec.{ltb}
 use Rattle.std.proofs.lemmas.Bool.{eqb-true, ltb-true, lt-ltb}
@@ -281,6 +281,10 @@ cells-of-block tables r block rows cells there are =
     get-same [] k d lt = absurd (omega (arith, lt))
     get-same (x ∷ xs) zero d lt = refl
     get-same (x ∷ xs) (suc k) d lt = get-same xs k d (omega (arith, lt))
+
+pub if-ok : {X E : Type 0} (r : Result X E) (P Q R : X → Type 0) → ((x : X) → P x → Q x → R x) → IfOk r P → IfOk r Q → IfOk r R
+if-ok (Ok x) P Q R f p q = f x p q
+if-ok (Err x) P Q R f p q = tt
 
 pub ok-map : {X E : Type 0} (r : Result X E) (P Q : Type 0) → (P → Q) → OnOk r P → OnOk r Q
 ok-map (Ok x) P Q f h = f h

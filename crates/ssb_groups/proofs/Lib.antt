@@ -9,6 +9,7 @@ pub mod GroupKeysFacts
 pub mod InputFacts
 pub mod JoiningFacts
 pub mod KeyFacts
+pub mod NumberFacts
 pub mod NumberedKeys
 pub mod Permuted
 pub mod PlaceFacts

@@ -19,7 +19,7 @@ use Rattle.ssb_groups.specs.Keys.{IsKept, kept_total, spelt_cell}
 use Rattle.ssb_groups.specs.Places.{AllRanged, AreGrown, AreOver, CanJoin, IsJoined, rows_at}
 use Rattle.ssb_groups.specs.Rows.{SeenRow}
 use Rattle.ssb_groups.specs.Stands.{AreRanged}
-use Rattle.ssb_groups.specs.Tallies.{AllTell, AreAdded, AreTallies, IsAdded, IsTotal, Tells, items, kept_totals, lists, stand_lists, texts_of, total_at}
+use Rattle.ssb_groups.specs.Tallies.{AllTell, AreAdded, AreTallies, IsAdded, IsTotal, Tells, items, kept_totals, lists, tally_cells, texts_of, total_at}
 use Rattle.ssb_groups.specs.declared.joining.Joining.{Joining}
 use Rattle.ssb_groups.specs.declared.joining.Joining.TheVariants as joining
 use Rattle.ssb_groups.specs.declared.kept.KeptTotal.{KeptTotal}
@@ -223,7 +223,7 @@ lists-at [] i = refl
 lists-at (t ∷ tallies) zero = refl
 lists-at (t ∷ tallies) (suc i) = lists-at tallies i
 
-pub stood : (tallies : List (Vec KeptTotal Global)) → map kept_totals (lists tallies) ≡ stand_lists kept_totals tallies
+pub stood : (tallies : List (Vec KeptTotal Global)) → map kept_totals (lists tallies) ≡ map tally_cells tallies
 stood tallies = map-map kept_totals items tallies
 
 pub tallies-added : (j : JobShape) (n : ℕ) (tallies : List (List KeptTotal)) → AreTallies j n tallies → AreAdded j n (map kept_totals tallies)

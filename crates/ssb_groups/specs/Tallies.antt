@@ -1,17 +1,20 @@
 -- Totals as they are kept: for each aggregate a list, its tally, in which the total of each group stands at the group's place.
 -- For the contracts inside this crate.
-use Rattle.std.specs.Prelude.{◌≡◌, ◌⊎◌, ℕ, suc, ◌≤◌, List, [], ◌∷◌, map, length, get_or, Some, slice_get}
+use Rattle.std.specs.Prelude.{◌≡◌, ◌⊎◌, ◌+ℤ◌, ℕ, ℤ, suc, ◌≤◌, List, [], ◌∷◌, map, length, get_or, Some, slice_get}
 use Rattle.std.specs.declared.alloc.Global.{Global}
 use Rattle.std.specs.declared.vec.Vec.{Vec}
-use Rattle.ssb_cells.specs.Cell.{Cell, null}
+use Rattle.ssb_cells.specs.Cell.{Cell, null, number}
 use Rattle.ssb_plan.specs.JobShape.{JobShape}
 use Rattle.ssb_query.specs.declared.column.BoundColumn.{BoundColumn}
 use Rattle.ssb_trees.specs.declared.aggregate.Aggregate.{Aggregate}
 use Rattle.ssb_groups.specs.Aggregates.{agg, arguments_at}
-use Rattle.ssb_groups.specs.Joining.{joining_of, joinings_of, values_by}
+use Rattle.ssb_groups.specs.Joining.{added, joining_of, joinings_of, values_by}
 use Rattle.ssb_groups.specs.Keys.{AreKept, IsKept, cells_in, kept_total, spelt, spelt_cell}
 use Rattle.ssb_groups.specs.Rows.{Key, SeenRow}
 use Rattle.ssb_groups.specs.GroupKeys.{GroupKey}
+use Rattle.ssb_groups.specs.declared.block_totals.BlockTotals.{BlockTotals}
+use Rattle.ssb_groups.specs.declared.block_totals.Form.{Form}
+use Rattle.ssb_groups.specs.declared.block_totals.Form.TheVariants as form
 use Rattle.ssb_groups.specs.declared.kept.KeptTotal.{KeptTotal}
 use Rattle.ssb_groups.specs.declared.kept.KeptTotal.TheVariants as total
 use Rattle.ssb_keys.specs.declared.kept.Kept.{Kept}
@@ -42,9 +45,24 @@ lists tallies = map items tallies
 abbrev pub kept_totals : List KeptTotal → List Kept
 kept_totals ts = map kept_total ts
 
--- what tallies stand for, by what one of them does
-abbrev pub stand_lists : {X : Type 0} → (List X → List Kept) → List (Vec X Global) → List (List Kept)
-stand_lists stand tallies = map (λ tally. stand tally.items) tallies
+abbrev pub tally_cells : Vec KeptTotal Global → List Kept
+tally_cells tally = kept_totals tally.items
+
+-- what stands for numbers
+abbrev pub kept_numbers : List ℤ → List Kept
+kept_numbers ns = map kept.Number ns
+
+-- what stands for an aggregate over each combination of a block alone, by the list that has it
+abbrev pub cells_by : Form → List Kept → List ℤ → List Kept
+cells_by form.Cells cells numbers = cells
+cells_by form.Numbers cells numbers = kept_numbers numbers
+
+abbrev pub block_cells : BlockTotals → List Kept
+block_cells a = cells_by a.form a.cells.items a.numbers.items
+
+-- a sum that has come to a total goes on from a number: to add more to both gives the same
+abbrev pub GoesOn : Kept → ℤ → Type 0
+GoesOn t s = (n : ℤ) → added (spelt_cell [] t) (number n) ≡ number (s +ℤ n)
 
 -- the totals at a place
 abbrev pub totals_at : List (List KeptTotal) → ℕ → List Kept

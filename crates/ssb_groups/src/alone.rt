@@ -1,9 +1,12 @@
 // Set functions over each of many values alone.
 
 ghost use Rattle.std.specs.Prelude.{◌≡◌, true, length};
-ghost use Rattle.ssb_groups.specs.Alone.{AreAlone, AreApplied, IsAlone};
+ghost use Rattle.ssb_groups.specs.Alone.{AreAlone, AreApplied, IsAlone, IsItself};
 ghost use Rattle.ssb_groups.specs.Keys.{AreOfKind, IsOfKind};
+ghost use Rattle.ssb_groups.specs.Tallies.{kept_numbers};
 ghost use Rattle.ssb_keys.specs.declared.kept.Kept.{Kept as AnyKept};
+ghost use Rattle.ssb_terms.specs.declared.rule.ColType.TheVariants as kinds;
+ghost use Rattle.ssb_trees.specs.declared.aggregate.SetFunction.{SetFunction as AnyFunction};
 
 use crate::outcome::{Operation, Outcome};
 use ssb_keys::Kept;
@@ -30,7 +33,7 @@ pub(crate) fn alone(function: SetFunction, cell: Kept) -> Kept
 }
 
 // Whether a set function over a value of a column of this type alone is that value.
-fn is_itself(function: SetFunction, kind: ColType) -> bool
+pub(crate) fn is_itself(function: SetFunction, kind: ColType) -> bool
     ensures { (cell : AnyKept) → result ≡ true → IsOfKind kind cell → IsAlone function cell cell }
 {
     match (function, kind) {
@@ -71,6 +74,23 @@ pub(crate) fn apply_all(
             return false;
         };
         totals[at] = alone(function, cell);
+    }
+    true
+}
+
+// Makes each number what an operation makes of it and of the one that stands beside it, unless 64 bits do not hold one of
+// them.
+pub(crate) fn apply_numbers(operation: Operation, left: &mut [i64], right: &[i64]) -> bool
+    requires many { length left.old ≡ length right.now }
+    requires left { AreOfKind kinds.Int (kept_numbers left.old) }
+    requires right { AreOfKind kinds.Int (kept_numbers right.now) }
+    ensures { (f : AnyFunction) → result ≡ true → IsItself f → AreApplied operation f (kept_numbers left.old) (kept_numbers right.now) (kept_numbers left.new) }
+{
+    for at in 0..left.len() {
+        let Some(number) = operation.on(left[at], right[at]) else {
+            return false;
+        };
+        left[at] = number;
     }
     true
 }

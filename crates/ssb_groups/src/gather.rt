@@ -5,6 +5,7 @@ ghost use Rattle.std.specs.List.{All, list_all};
 ghost use Rattle.ssb_query.specs.declared.column.BoundColumn.{BoundColumn as AnyColumn};
 ghost use Rattle.ssb_trees.specs.declared.aggregate.Aggregate.{Aggregate as AnyAggregate};
 ghost use Rattle.ssb_trees.specs.declared.aggregate.Aggregate.TheVariants as aggregates;
+ghost use Rattle.ssb_trees.specs.declared.aggregate.SetFunction.{SetFunction as AnyFunction};
 ghost use Rattle.ssb_trees.specs.declared.expr.Expr.{Expr as AnyExpr};
 ghost use Rattle.ssb_conditions.specs.Rows.{IsCombination};
 ghost use Rattle.ssb_plan.specs.Inputs.{has_column, input_columns, input_of};
@@ -16,20 +17,21 @@ ghost use Rattle.ssb_groups.specs.Pairs.{IsPairOf};
 ghost use Rattle.ssb_groups.specs.Refs.{input_texts, input_value};
 ghost use Rattle.ssb_groups.specs.Seen.{fact_of, seen};
 ghost use Rattle.ssb_groups.specs.Stands.{IsRanged, least, least_of, overflows};
-ghost use Rattle.ssb_groups.specs.Tallies.{lists};
-ghost use Rattle.ssb_keys.specs.declared.kept.Kept.TheVariants as kept;
+ghost use Rattle.ssb_groups.specs.Alone.{IsItself};
+ghost use Rattle.ssb_groups.specs.Tallies.{block_cells, kept_numbers};
 ghost use Rattle.ssb_plan.specs.declared.input.Input.TheVariants as inputs;
 
-use crate::alone::{alone, alone_all, apply_all};
-use crate::column::{cell, fill_cells, kind_at};
+use crate::alone::{alone, alone_all, apply_all, apply_numbers, is_itself};
+use crate::block_totals::{BlockTotals, Form};
+use crate::column::{cell, fill_cells, kind_at, list_numbers};
 use crate::evaluate::number;
 use crate::pair::{Pair, pair_of};
 use crate::room::Room;
-use crate::tallies::Alone;
 use ssb_job::{Block, Job, JoinedRow};
 use ssb_keys::Kept;
 use ssb_plan::{ColumnRef, Input};
 use ssb_query::BoundColumn;
+use ssb_terms::ColType;
 use ssb_trees::{Aggregate, SetFunction};
 use std::alloc::AllocError;
 
@@ -112,22 +114,13 @@ fn least_with(job: &Job, row: &JoinedRow, taken: Taken, so_far: Option<u32>) -> 
     }
 }
 
-// Fills a list with COUNT(*) over each of so many combinations alone.
-fn gather_count(count: usize, totals: &mut Alone) -> Result<(), AllocError>
-    ensures many { OnOk result (length totals.new.items ≡ count) }
-    ensures each { OnOk result ((n : ℕ) → n < count → get_or totals.new.items n kept.Null ≡ kept.Number (pos 1)) }
-{
-    totals.clear();
-    totals.resize(count, Kept::Number(1))
-}
-
 // Fills a list with a set function over a column's value in each combination of a block alone.
 fn gather_values(
     job: &Job,
     block: &Block,
     function: SetFunction,
     column: ColumnRef,
-    totals: &mut Alone,
+    totals: &mut Vec<Kept>,
 ) -> Result<(), AllocError>
     requires rows { All (IsCombination (from_tables job.now)) block.now }
     requires there { has_column job.now.query job.now.tables column ≡ true }
@@ -147,7 +140,7 @@ fn gather_pairs(
     function: SetFunction,
     pair: Pair,
     room: &mut Room,
-    totals: &mut Alone,
+    totals: &mut Vec<Kept>,
 ) -> Result<bool, AllocError>
     requires rows { All (IsCombination (from_tables job.now)) block.now }
     requires left { has_column job.now.query job.now.tables pair.left ≡ true }
@@ -174,7 +167,7 @@ fn gather_plain(
     aggregate: &Aggregate<BoundColumn>,
     input: &Input,
     room: &mut Room,
-    totals: &mut Alone,
+    totals: &mut Vec<Kept>,
 ) -> Result<bool, AllocError>
     requires rows { All (IsCombination (from_tables job.now)) block.now }
     requires input { input.now ≡ input_of job.now.query aggregate.now }
@@ -182,10 +175,6 @@ fn gather_plain(
     ensures { IfOk result (λ plain. plain ≡ true → AreTakenPlain job.now aggregate.now block.now totals.new.items) }
 {
     match (aggregate, input) {
-        (Aggregate::Rows, _) => {
-            gather_count(block.len(), totals)?;
-            Ok(true)
-        }
         (Aggregate::Of(function, _), Input::Column(column)) => {
             gather_values(job, block, *function, *column, totals)?;
             Ok(true)
@@ -194,7 +183,104 @@ fn gather_plain(
             Some(pair) => gather_pairs(job, block, *function, pair, room, totals),
             None => Ok(false),
         },
-        (Aggregate::Of(_, _), Input::Rows) => Ok(false),
+        (Aggregate::Rows, _) | (Aggregate::Of(_, _), Input::Rows) => Ok(false),
+    }
+}
+
+// Fills a list with COUNT(*) over each of so many combinations alone.
+fn number_rows(count: usize, numbers: &mut Vec<i64>) -> Result<(), AllocError>
+    ensures many { OnOk result (length numbers.new.items ≡ count) }
+    ensures each { OnOk result ((n : ℕ) → n < count → get_or numbers.new.items n (pos 0) ≡ pos 1) }
+{
+    numbers.clear();
+    numbers.resize(count, 1)
+}
+
+// Fills a list with a column's values in the combinations of a block, if all are numbers, where a set function over one
+// alone is that one. Whether they are: if not, the list is of no matter.
+fn number_values(
+    job: &Job,
+    block: &Block,
+    column: ColumnRef,
+    numbers: &mut Vec<i64>,
+) -> Result<bool, AllocError>
+    requires rows { All (IsCombination (from_tables job.now)) block.now }
+    requires there { has_column job.now.query job.now.tables column ≡ true }
+    ensures { IfOk result (λ plain. (f : AnyFunction) (e : AnyExpr AnyColumn) → plain ≡ true → IsItself f → input_of job.now.query (aggregates.Of f e) ≡ inputs.Column column → AreTakenPlain job.now (aggregates.Of f e) block.now (kept_numbers numbers.new.items)) }
+{
+    list_numbers(job.tables(), block, column, numbers)
+}
+
+// The same of an expression of two columns.
+fn number_pairs(
+    job: &Job,
+    block: &Block,
+    pair: Pair,
+    right: &mut Vec<i64>,
+    numbers: &mut Vec<i64>,
+) -> Result<bool, AllocError>
+    requires rows { All (IsCombination (from_tables job.now)) block.now }
+    requires left { has_column job.now.query job.now.tables pair.left ≡ true }
+    requires right { has_column job.now.query job.now.tables pair.right ≡ true }
+    ensures { IfOk result (λ plain. (f : AnyFunction) (e : AnyExpr AnyColumn) (x : AnyExpr ColumnRef) → plain ≡ true → IsItself f → input_of job.now.query (aggregates.Of f e) ≡ inputs.Number x → IsPairOf x pair → AreTakenPlain job.now (aggregates.Of f e) block.now (kept_numbers numbers.new.items)) }
+{
+    if !list_numbers(job.tables(), block, pair.left, numbers)? {
+        return Ok(false);
+    }
+    if !list_numbers(job.tables(), block, pair.right, right)? {
+        return Ok(false);
+    }
+    Ok(apply_numbers(pair.operation, numbers.as_mut_slice(), right.as_slice()))
+}
+
+// The same of an input.
+fn number_input(
+    job: &Job,
+    block: &Block,
+    input: &Input,
+    right: &mut Vec<i64>,
+    numbers: &mut Vec<i64>,
+) -> Result<bool, AllocError>
+    requires rows { All (IsCombination (from_tables job.now)) block.now }
+    requires there { list_all (has_column job.now.query job.now.tables) (input_columns input.now) ≡ true }
+    ensures { IfOk result (λ plain. (f : AnyFunction) (e : AnyExpr AnyColumn) → plain ≡ true → IsItself f → input_of job.now.query (aggregates.Of f e) ≡ input.now → AreTakenPlain job.now (aggregates.Of f e) block.now (kept_numbers numbers.new.items)) }
+{
+    match input {
+        Input::Column(column) => number_values(job, block, *column, numbers),
+        Input::Number(expr) => match pair_of(expr) {
+            Some(pair) => number_pairs(job, block, pair, right, numbers),
+            None => Ok(false),
+        },
+        Input::Rows => Ok(false),
+    }
+}
+
+// Fills a list with an aggregate over each combination of a block alone, if it is COUNT(*), or is over numbers of columns
+// without nulls that are nowhere Over. Whether it is: if not, the list is of no matter.
+fn gather_numbers(
+    job: &Job,
+    block: &Block,
+    aggregate: &Aggregate<BoundColumn>,
+    input: &Input,
+    room: &mut Room,
+    numbers: &mut Vec<i64>,
+) -> Result<bool, AllocError>
+    requires rows { All (IsCombination (from_tables job.now)) block.now }
+    requires input { input.now ≡ input_of job.now.query aggregate.now }
+    requires there { list_all (has_column job.now.query job.now.tables) (input_columns input.now) ≡ true }
+    ensures { IfOk result (λ plain. plain ≡ true → AreTakenPlain job.now aggregate.now block.now (kept_numbers numbers.new.items)) }
+{
+    match aggregate {
+        Aggregate::Rows => {
+            number_rows(block.len(), numbers)?;
+            Ok(true)
+        }
+        Aggregate::Of(function, _) => {
+            if !is_itself(*function, ColType::Int) {
+                return Ok(false);
+            }
+            number_input(job, block, input, &mut room.right_numbers, numbers)
+        }
     }
 }
 
@@ -206,7 +292,7 @@ fn gather_rows(
     aggregate: &Aggregate<BoundColumn>,
     input: &Input,
     so_far: Option<u32>,
-    totals: &mut Alone,
+    totals: &mut Vec<Kept>,
 ) -> Result<Option<u32>, AllocError>
     requires rows { All (IsCombination (from_tables job.now)) block.now }
     requires input { input.now ≡ input_of job.now.query aggregate.now }
@@ -246,18 +332,23 @@ fn gather_column(
     place: usize,
     so_far: Option<u32>,
     room: &mut Room,
-    totals: &mut Alone,
+    totals: &mut BlockTotals,
 ) -> Result<Option<u32>, AllocError>
     requires rows { All (IsCombination (from_tables job.now)) block.now }
     requires place { place < length job.now.query.aggregates }
     ensures least { IfOk result (λ n. (a : AnyAggregate AnyColumn) → slice_get job.now.query.aggregates place ≡ Some a → n ≡ least_of so_far (least (facts_where job.now (over_at job.now a) block.now))) }
-    ensures taken { OnOk result ((a : AnyAggregate AnyColumn) → slice_get job.now.query.aggregates place ≡ Some a → AreTaken job.now a block.now totals.new.items) }
+    ensures taken { OnOk result ((a : AnyAggregate AnyColumn) → slice_get job.now.query.aggregates place ≡ Some a → AreTaken job.now a block.now (block_cells totals.new)) }
 {
     let (aggregate, input) = aggregate_at(job, place);
-    if gather_plain(job, block, aggregate, input, room, totals)? {
+    if gather_numbers(job, block, aggregate, input, room, &mut totals.numbers)? {
+        totals.form = Form::Numbers;
         return Ok(so_far);
     }
-    gather_rows(job, block, aggregate, input, so_far, totals)
+    totals.form = Form::Cells;
+    if gather_plain(job, block, aggregate, input, room, &mut totals.cells)? {
+        return Ok(so_far);
+    }
+    gather_rows(job, block, aggregate, input, so_far, &mut totals.cells)
 }
 
 // Fills lists with the aggregates over each combination of a block alone. The least row of the fact table at which
@@ -266,12 +357,12 @@ pub(crate) fn gather(
     job: &Job,
     block: &Block,
     room: &mut Room,
-    totals: &mut [Alone],
+    totals: &mut [BlockTotals],
 ) -> Result<Option<u32>, AllocError>
     requires rows { All (IsCombination (from_tables job.now)) block.now }
     requires many { length totals.old ≡ length job.now.query.aggregates }
     ensures least { IfOk result (λ n. n ≡ least (overflows (map (seen job.now) block.now))) }
-    ensures taken { OnOk result (AllTaken job.now block.now (lists totals.new)) }
+    ensures taken { OnOk result (AllTaken job.now block.now (map block_cells totals.new)) }
     ensures many { length totals.new ≡ length totals.old }
 {
     let mut found = None;

@@ -14,12 +14,11 @@ ghost use Rattle.ssb_groups.specs.Stands.{AnyRowsHaveGroups, GroupMap, Stands};
 ghost use Rattle.ssb_groups.specs.Totals.{total_cell};
 ghost use Rattle.std.specs.List.Sorted.{IsPermutation};
 
+use crate::block_totals::BlockTotals;
 use crate::columns::Columns;
 use crate::gather::gather;
 use crate::room::Room;
 use crate::store::Store;
-use crate::table::no_totals;
-use crate::tallies::Alone;
 use crate::totals::Total;
 use ssb_cells::Value;
 use ssb_job::{Block, Job, JoinedRow};
@@ -39,7 +38,7 @@ pub struct Groups {
     store: Store,
     room: Room,
     // The totals over each combination of a block alone, whose memory is used again for the next block.
-    totals: Vec<Alone>,
+    totals: Vec<BlockTotals>,
 }
 
 // Written out, so that the crates above need no proof of how its parts are let go.
@@ -82,6 +81,17 @@ pub struct Group<'a> {
     pub key: Vec<Value<'a>>,
     /// Its aggregates, in the order of the query.
     pub totals: Vec<Total<'a>>,
+}
+
+// So many lists of an aggregate over each combination of a block alone, of none yet.
+fn no_totals(alloc: Global, count: usize) -> Result<Vec<BlockTotals>, AllocError>
+    ensures { IfOk result (λ totals. length totals.items ≡ count) }
+{
+    let mut totals = Vec::with_capacity(alloc, count)?;
+    for _ in 0..count {
+        totals.push(BlockTotals::new(alloc))?;
+    }
+    Ok(totals)
 }
 
 impl Groups {

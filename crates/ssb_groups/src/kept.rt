@@ -34,6 +34,14 @@ pub(crate) fn wide(high: i32, low: u64) -> i128
     i128::from(high) * BEYOND_LOW + i128::from(low)
 }
 
+// The sum of a number of up to 96 bits and another. A greater sum may become another, but no caller has one.
+#[inline(always)]
+pub(crate) fn plus(total: i128, more: i128) -> i128
+    ensures { FitsSum (total +ℤ more) → result ≡ total +ℤ more }
+{
+    total.wrapping_add(more)
+}
+
 impl KeptTotal {
     // What stands for a number of up to 96 bits. A greater one would become another, but no caller has one: each has a
     // 64-bit number, or a sum of at most as many as a table has rows.
@@ -54,7 +62,7 @@ impl KeptTotal {
         ensures number { FitsSum (wide high low +ℤ more) → kept_total result ≡ kept.Number (wide high low +ℤ more) }
         ensures kept { (values : List Cell) → IsKept values (kept_total result) }
     {
-        KeptTotal::of_number(wide(high, low).wrapping_add(more))
+        KeptTotal::of_number(plus(wide(high, low), more))
     }
 
     // What stands for a value, as that of an aggregate.

@@ -4,14 +4,15 @@
 //!   `add_block`, `merge`; [`Group`] and [`Total`], which they lend.
 //! - Callers: `ssb_pipeline`, whose parts hold groups; `ssb_rows`, which makes rows of them.
 //! - Files: `groups`, `store`, `table`; `places`, `guesses`, `room`: where keys stand; `key`, `keys`, `column`,
-//!   `columns`, `domains`: keys; `gather`, `alone`, `pair`, `evaluate`, `outcome`: what a block adds; `kept`, `totals`,
-//!   `tallies`, `joining`: aggregates.
+//!   `columns`, `domains`: keys; `gather`, `block_totals`, `alone`, `pair`, `evaluate`, `outcome`: what a block
+//!   adds; `kept`, `totals`, `tallies`, `joining`: aggregates.
 //! - Definitions: `Value`, `Aggregates`, `Rows`, `Seen`, `Stands`, `Added`: what groups stand for; `Keys`,
 //!   `GroupKeys`, `Refs`, `Places`, `Tallies`, `Joining`, `Gathering`, `Alone`, `Pairs`, `Outcomes`, `Totals`: how they
 //!   are kept.
 #![tactic(auto)]
 
 mod alone;
+mod block_totals;
 mod column;
 mod columns;
 mod domains;

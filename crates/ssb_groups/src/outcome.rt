@@ -33,7 +33,8 @@ pub(crate) enum Outcome {
 
 impl Operation {
     // The exact number, where 64 bits hold it.
-    fn on(self, a: i64, b: i64) -> Option<i64>
+    #[inline(always)]
+    pub(crate) fn on(self, a: i64, b: i64) -> Option<i64>
         ensures { checked_outcome result ≡ checked (exact self a b) }
     {
         match self {

@@ -12,6 +12,8 @@ pub(crate) struct Room {
     pub(crate) cells: Vec<Kept>,
     /// What stands for the values of a second column.
     pub(crate) right_cells: Vec<Kept>,
+    /// These values, where all are numbers.
+    pub(crate) right_numbers: Vec<i64>,
     /// The number of each combination's key.
     pub(crate) numbers: Vec<u64>,
     /// The place of each combination's key.
@@ -26,6 +28,7 @@ impl Room {
             alloc,
             cells: Vec::new(alloc),
             right_cells: Vec::new(alloc),
+            right_numbers: Vec::new(alloc),
             numbers: Vec::new(alloc),
             places: Vec::new(alloc),
             guesses: Guesses::new(alloc),

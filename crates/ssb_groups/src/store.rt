@@ -10,16 +10,17 @@ ghost use Rattle.ssb_groups.specs.Keys.{IsKey, cells_in};
 ghost use Rattle.ssb_groups.specs.Rows.{SeenRow};
 ghost use Rattle.ssb_groups.specs.Seen.{seen};
 ghost use Rattle.ssb_groups.specs.Stands.{AreRanged, Stands, least, overflows};
-ghost use Rattle.ssb_groups.specs.Tallies.{AreTotals, lists, totals_at, totals_in};
+ghost use Rattle.ssb_groups.specs.Tallies.{AreTotals, block_cells, lists, totals_at, totals_in};
 ghost use Rattle.ssb_job.specs.Kept.{AreOneJob};
 ghost use Rattle.ssb_plan.specs.JobShape.{from_tables};
 
+use crate::block_totals::BlockTotals;
 use crate::columns::Columns;
 use crate::gather::lesser;
 use crate::key::KeyRef;
 use crate::room::Room;
 use crate::table::GroupTable;
-use crate::tallies::{Alone, Tally};
+use crate::tallies::Tally;
 use ssb_job::{Block, Job};
 use std::alloc::{AllocError, Global};
 use std::marker::Model;
@@ -86,13 +87,13 @@ impl Store {
         columns: &Columns,
         block: &Block,
         room: &mut Room,
-        totals: &[Alone],
+        totals: &[BlockTotals],
     ) -> Result<(), AllocError>
         requires columns { columns.now ≡ self.old.job }
         requires rows { All (IsCombination (from_tables self.old.job)) block.now }
         requires few { self.old.counted + length block.now < 2 ^ 32 }
         requires many { length totals.now ≡ length self.old.job.query.aggregates }
-        requires totals { AllTaken self.old.job block.now (lists totals.now) }
+        requires totals { AllTaken self.old.job block.now (map block_cells totals.now) }
         requires plain { overflows (map (seen self.old.job) block.now) ≡ [] }
         requires ranged { AreRanged (map (seen self.old.job) block.now) }
         ensures stands { OnOk result (AddsRows self.old.job block.now self.old self.new) }

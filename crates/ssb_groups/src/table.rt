@@ -8,13 +8,14 @@ ghost use Rattle.ssb_groups.specs.Gathering.{key_at};
 ghost use Rattle.ssb_groups.specs.GroupKeys.{AreUnique, keys_in};
 ghost use Rattle.ssb_groups.specs.Keys.{cells_in};
 ghost use Rattle.ssb_groups.specs.Places.{AreGrown, AreKeys, IsFront, IsTable, JoinsGrown, JoinsRows, OpenAll};
-ghost use Rattle.ssb_groups.specs.Tallies.{AreAdded, AreTallies, kept_totals, lists, stand_lists};
+ghost use Rattle.ssb_groups.specs.Tallies.{AreAdded, AreTallies, block_cells, lists, tally_cells};
 
+use crate::block_totals::BlockTotals;
 use crate::columns::Columns;
 use crate::keys::Keys;
 use crate::places::{open, open_numbers};
 use crate::room::Room;
-use crate::tallies::{Alone, Joins, Tally, grow, join_all};
+use crate::tallies::{Joins, Tally, grow, join_all};
 use ssb_job::Block;
 use std::alloc::{AllocError, Global};
 
@@ -25,8 +26,8 @@ pub(crate) struct GroupTable {
     pub(crate) tallies: Vec<Tally>,
 }
 
-// So many empty lists of totals.
-pub(crate) fn no_totals<T: Joins>(alloc: Global, count: usize) -> Result<Vec<Vec<T>>, AllocError>
+// So many tallies, of no group.
+fn no_tallies(alloc: Global, count: usize) -> Result<Vec<Tally>, AllocError>
     ensures many { IfOk result (λ tallies. length tallies.items ≡ count) }
     ensures none { IfOk result (λ tallies. (i : ℕ) → get_or (lists tallies.items) i [] ≡ []) }
 {
@@ -108,7 +109,7 @@ impl GroupTable {
     {
         Ok(GroupTable {
             keys: Keys::new(alloc),
-            tallies: no_totals(alloc, count)?,
+            tallies: no_tallies(alloc, count)?,
         })
     }
 
@@ -117,12 +118,12 @@ impl GroupTable {
         &mut self,
         columns: &Columns,
         places: &[usize],
-        more: &[Vec<T>],
+        more: &[T],
     ) -> Result<(), AllocError>
         requires tallies { (n : ℕ) × (n ≤ length (keys_in self.old.keys)) × AreTallies columns.now n (lists self.old.tallies.items) }
         requires places { All (λ p. p < length (keys_in self.old.keys)) places.now }
-        requires more { AreAdded columns.now (length places.now) (stand_lists T.stand more.now) }
-        ensures joined { OnOk result (JoinsGrown columns.now places.now (stand_lists T.stand more.now) (lists self.old.tallies.items) (lists self.new.tallies.items)) }
+        requires more { AreAdded columns.now (length places.now) (map T.stand more.now) }
+        ensures joined { OnOk result (JoinsGrown columns.now places.now (map T.stand more.now) (lists self.old.tallies.items) (lists self.new.tallies.items)) }
         ensures tallies { OnOk result (AreTallies columns.now (length (keys_in self.old.keys)) (lists self.new.tallies.items)) }
         ensures grown { OnErr result (AreGrown (lists self.old.tallies.items) (lists self.new.tallies.items)) }
         ensures keys { self.new.keys ≡ self.old.keys }
@@ -138,16 +139,16 @@ impl GroupTable {
         columns: &Columns,
         block: &Block,
         room: &mut Room,
-        more: &[Alone],
+        more: &[BlockTotals],
     ) -> Result<(), AllocError>
         requires unique { AreUnique self.old.keys }
         requires table { IsTable columns.now (keys_in self.old.keys) (lists self.old.tallies.items) }
         requires rows { All (IsCombination (from_tables columns.now)) block.now }
-        requires more { AreAdded columns.now (length block.now) (lists more.now) }
+        requires more { AreAdded columns.now (length block.now) (map block_cells more.now) }
         ensures unique { AreUnique self.new.keys }
         ensures front { IsFront (keys_in self.old.keys) (keys_in self.new.keys) }
         ensures table { OnOk result (IsTable columns.now (keys_in self.new.keys) (lists self.new.tallies.items)) }
-        ensures joined { OnOk result (JoinsRows columns.now (map (key_at columns.now) block.now) (lists more.now) (keys_in self.old.keys) (keys_in self.new.keys) (lists self.old.tallies.items) (lists self.new.tallies.items)) }
+        ensures joined { OnOk result (JoinsRows columns.now (map (key_at columns.now) block.now) (map block_cells more.now) (keys_in self.old.keys) (keys_in self.new.keys) (lists self.old.tallies.items) (lists self.new.tallies.items)) }
         ensures grown { OnErr result (AreGrown (lists self.old.tallies.items) (lists self.new.tallies.items)) }
     {
         open_block(columns, &mut self.keys, block, room)?;
@@ -167,7 +168,7 @@ impl GroupTable {
         ensures unique { AreUnique self.new.keys }
         ensures front { IsFront (keys_in self.old.keys) (keys_in self.new.keys) }
         ensures table { OnOk result (IsTable columns.now (keys_in self.new.keys) (lists self.new.tallies.items)) }
-        ensures joined { OnOk result (JoinsRows columns.now (map (cells_in columns.now) (keys_in other.now.keys)) (stand_lists kept_totals other.now.tallies.items) (keys_in self.old.keys) (keys_in self.new.keys) (lists self.old.tallies.items) (lists self.new.tallies.items)) }
+        ensures joined { OnOk result (JoinsRows columns.now (map (cells_in columns.now) (keys_in other.now.keys)) (map tally_cells other.now.tallies.items) (keys_in self.old.keys) (keys_in self.new.keys) (lists self.old.tallies.items) (lists self.new.tallies.items)) }
         ensures grown { OnErr result (AreGrown (lists self.old.tallies.items) (lists self.new.tallies.items)) }
     {
         open_keys(columns, &mut self.keys, &other.keys, room)?;
@@ -181,15 +182,15 @@ impl GroupTable {
         columns: &Columns,
         block: &Block,
         room: &mut Room,
-        more: &[Alone],
+        more: &[BlockTotals],
     ) -> Result<(), AllocError>
         requires unique { AreUnique self.old.keys }
         requires table { IsTable columns.now (keys_in self.old.keys) (lists self.old.tallies.items) }
         requires rows { All (IsCombination (from_tables columns.now)) block.now }
-        requires more { AreAdded columns.now (length block.now) (lists more.now) }
+        requires more { AreAdded columns.now (length block.now) (map block_cells more.now) }
         ensures unique { AreUnique self.new.keys }
         ensures table { IsTable columns.now (keys_in self.new.keys) (lists self.new.tallies.items) }
-        ensures joined { OnOk result (JoinsRows columns.now (map (key_at columns.now) block.now) (lists more.now) (keys_in self.old.keys) (keys_in self.new.keys) (lists self.old.tallies.items) (lists self.new.tallies.items)) }
+        ensures joined { OnOk result (JoinsRows columns.now (map (key_at columns.now) block.now) (map block_cells more.now) (keys_in self.old.keys) (keys_in self.new.keys) (lists self.old.tallies.items) (lists self.new.tallies.items)) }
         ensures keys { OnErr result ((keys_in self.new.keys) ≡ (keys_in self.old.keys)) }
         ensures grown { OnErr result (AreGrown (lists self.old.tallies.items) (lists self.new.tallies.items)) }
     {
@@ -213,7 +214,7 @@ impl GroupTable {
         requires other { IsTable columns.now (keys_in other.now.keys) (lists other.now.tallies.items) }
         ensures unique { AreUnique self.new.keys }
         ensures table { IsTable columns.now (keys_in self.new.keys) (lists self.new.tallies.items) }
-        ensures joined { OnOk result (JoinsRows columns.now (map (cells_in columns.now) (keys_in other.now.keys)) (stand_lists kept_totals other.now.tallies.items) (keys_in self.old.keys) (keys_in self.new.keys) (lists self.old.tallies.items) (lists self.new.tallies.items)) }
+        ensures joined { OnOk result (JoinsRows columns.now (map (cells_in columns.now) (keys_in other.now.keys)) (map tally_cells other.now.tallies.items) (keys_in self.old.keys) (keys_in self.new.keys) (lists self.old.tallies.items) (lists self.new.tallies.items)) }
         ensures keys { OnErr result ((keys_in self.new.keys) ≡ (keys_in self.old.keys)) }
         ensures grown { OnErr result (AreGrown (lists self.old.tallies.items) (lists self.new.tallies.items)) }
     {

@@ -1,29 +1,27 @@
 // The totals of all groups, aggregate by aggregate.
 
-ghost use Rattle.std.specs.Prelude.{◌≡◌, ℕ, ◌<◌, ◌≤◌, List, [], get_or, length, OnOk};
+ghost use Rattle.std.specs.Prelude.{◌≡◌, ℕ, ◌<◌, ◌≤◌, List, [], get_or, length, map, OnOk};
 ghost use Rattle.std.specs.List.{All};
 ghost use Rattle.ssb_cells.specs.Tables.{Columns as AnyColumns};
 ghost use Rattle.ssb_groups.specs.Joining.{IsJoining, values_by};
 ghost use Rattle.ssb_groups.specs.Keys.{IsKept, kept_total};
 ghost use Rattle.ssb_groups.specs.Places.{AreGrown, AreJoined, ArePlacesOf, IsJoined};
-ghost use Rattle.ssb_groups.specs.Tallies.{AreAdded, IsAdded, kept_totals, lists, stand_lists};
+ghost use Rattle.ssb_groups.specs.Tallies.{AreAdded, GoesOn, IsAdded, block_cells, kept_numbers, kept_totals, lists, tally_cells};
 ghost use Rattle.ssb_groups.specs.declared.joining.Joining.TheVariants as joining;
 ghost use Rattle.ssb_groups.specs.declared.kept.KeptTotal.TheVariants as totals;
 ghost use Rattle.ssb_keys.specs.declared.kept.Kept.{Kept as AnyKept};
 ghost use Rattle.ssb_keys.specs.declared.kept.Kept.TheVariants as kept;
 
+use crate::block_totals::{BlockTotals, Form};
 use crate::columns::Columns;
 use crate::joining::{Joining, add_alone};
-use crate::kept::KeptTotal;
+use crate::kept::{KeptTotal, plus, wide};
 use ssb_cells::Table;
 use ssb_keys::Kept;
 use std::alloc::AllocError;
 
 /// The total of each group, of one aggregate, at the group's place.
 pub(crate) type Tally = Vec<KeptTotal>;
-
-/// An aggregate over each combination of a block alone.
-pub(crate) type Alone = Vec<Kept>;
 
 // Adds to the totals at some places those beside the places. A place may come again, and often does at once: the total
 // at one place is kept outside the tally until another place comes.
@@ -50,10 +48,108 @@ fn add_all(tally: &mut [KeptTotal], places: &[usize], more: &[Kept])
     tally[place] = total;
 }
 
+// The number from which a sum goes on: none yet is 0.
+fn number_of(total: KeptTotal) -> i128
+    requires { IsKept [] (kept_total total) }
+    ensures { GoesOn (kept_total total) result }
+{
+    match total {
+        KeptTotal::Number { high, low } => wide(high, low),
+        _ => 0,
+    }
+}
+
+// The same of numbers. The total at one place is kept as a number of 128 bits until another place comes.
+fn add_numbers(tally: &mut [KeptTotal], places: &[usize], more: &[i64])
+    requires places { All (λ p. p < length tally.old) places.now }
+    requires beside { length places.now ≤ length more.now }
+    requires kept { (p : ℕ) → IsKept [] (kept_total (get_or tally.old p totals.Null)) }
+    ensures { (tables : List AnyColumns) → IsJoined tables joining.Adds places.now (kept_numbers more.now) tally.old tally.new }
+{
+    if places.is_empty() {
+        return;
+    }
+    let mut place = places[0];
+    let mut total = number_of(tally[place]);
+    for at in 0..places.len() {
+        if places[at] != place {
+            tally[place] = KeptTotal::of_number(total);
+            place = places[at];
+            total = number_of(tally[place]);
+        }
+        total = plus(total, i128::from(more[at]));
+    }
+    tally[place] = KeptTotal::of_number(total);
+}
+
+// Joins to the totals at some places the cells beside the places: a place may come again.
+fn join_cells(
+    tables: &[Table],
+    joining: Joining,
+    tally: &mut [KeptTotal],
+    places: &[usize],
+    more: &[Kept],
+)
+    requires joining { IsJoining tables.now joining }
+    requires places { All (λ p. p < length tally.old) places.now }
+    requires kept { (p : ℕ) → IsKept (values_by tables.now joining) (kept_total (get_or tally.old p totals.Null)) }
+    requires more { IsAdded (values_by tables.now joining) (length places.now) more.now }
+    ensures { IsJoined tables.now joining places.now more.now tally.old tally.new }
+{
+    if let Joining::Adds = joining {
+        return add_all(tally, places, more);
+    }
+    for at in 0..places.len() {
+        joining.join(tables, &mut tally[places[at]], &KeptTotal::of(more[at]));
+    }
+}
+
+// The same of numbers.
+fn join_numbers(
+    tables: &[Table],
+    joining: Joining,
+    tally: &mut [KeptTotal],
+    places: &[usize],
+    more: &[i64],
+)
+    requires joining { IsJoining tables.now joining }
+    requires places { All (λ p. p < length tally.old) places.now }
+    requires kept { (p : ℕ) → IsKept (values_by tables.now joining) (kept_total (get_or tally.old p totals.Null)) }
+    requires more { length places.now ≤ length more.now }
+    ensures { IsJoined tables.now joining places.now (kept_numbers more.now) tally.old tally.new }
+{
+    if let Joining::Adds = joining {
+        return add_numbers(tally, places, more);
+    }
+    for at in 0..places.len() {
+        let number = KeptTotal::of(Kept::Number(more[at]));
+        joining.join(tables, &mut tally[places[at]], &number);
+    }
+}
+
+// The same of totals.
+fn join_totals(
+    tables: &[Table],
+    joining: Joining,
+    tally: &mut [KeptTotal],
+    places: &[usize],
+    more: &[KeptTotal],
+)
+    requires joining { IsJoining tables.now joining }
+    requires places { All (λ p. p < length tally.old) places.now }
+    requires kept { (p : ℕ) → IsKept (values_by tables.now joining) (kept_total (get_or tally.old p totals.Null)) }
+    requires more { IsAdded (values_by tables.now joining) (length places.now) (kept_totals more.now) }
+    ensures { IsJoined tables.now joining places.now (kept_totals more.now) tally.old tally.new }
+{
+    for at in 0..places.len() {
+        joining.join(tables, &mut tally[places[at]], &more[at]);
+    }
+}
+
 /// What may be joined to the totals of groups: totals of others, or over each combination of a block alone.
-pub(crate) trait Joins: Copy {
-    // What a list of them stands for.
-    ghost stand: { List Self → List AnyKept };
+pub(crate) trait Joins {
+    // What it stands for.
+    ghost stand: { Self → List AnyKept };
 
     // Joins to the totals at some places those beside the places: a place may come again.
     fn join_column(
@@ -61,7 +157,7 @@ pub(crate) trait Joins: Copy {
         joining: Joining,
         tally: &mut [KeptTotal],
         places: &[usize],
-        more: &[Self],
+        more: &Self,
     )
         requires joining { IsJoining tables.now joining }
         requires places { All (λ p. p < length tally.old) places.now }
@@ -70,38 +166,34 @@ pub(crate) trait Joins: Copy {
         ensures { IsJoined tables.now joining places.now (stand more.now) tally.old tally.new };
 }
 
-impl Joins for Kept {
-    ghost stand = { λ cells. cells };
+impl Joins for BlockTotals {
+    ghost stand = { block_cells };
 
     fn join_column(
         tables: &[Table],
         joining: Joining,
         tally: &mut [KeptTotal],
         places: &[usize],
-        more: &[Kept],
+        more: &BlockTotals,
     ) {
-        if let Joining::Adds = joining {
-            return add_all(tally, places, more);
-        }
-        for at in 0..places.len() {
-            joining.join(tables, &mut tally[places[at]], &KeptTotal::of(more[at]));
+        match more.form {
+            Form::Cells => join_cells(tables, joining, tally, places, &more.cells),
+            Form::Numbers => join_numbers(tables, joining, tally, places, &more.numbers),
         }
     }
 }
 
-impl Joins for KeptTotal {
-    ghost stand = { kept_totals };
+impl Joins for Tally {
+    ghost stand = { tally_cells };
 
     fn join_column(
         tables: &[Table],
         joining: Joining,
         tally: &mut [KeptTotal],
         places: &[usize],
-        more: &[KeptTotal],
+        more: &Tally,
     ) {
-        for at in 0..places.len() {
-            joining.join(tables, &mut tally[places[at]], &more[at]);
-        }
+        join_totals(tables, joining, tally, places, more);
     }
 }
 
@@ -133,16 +225,16 @@ pub(crate) fn join_all<T: Joins>(
     columns: &Columns,
     tallies: &mut [Tally],
     places: &[usize],
-    more: &[Vec<T>],
+    more: &[T],
 )
     requires tallies { ArePlacesOf columns.now (lists tallies.old) places.now }
-    requires more { AreAdded columns.now (length places.now) (stand_lists T.stand more.now) }
-    ensures { AreJoined columns.now places.now (stand_lists T.stand more.now) (lists tallies.old) (lists tallies.new) }
+    requires more { AreAdded columns.now (length places.now) (map T.stand more.now) }
+    ensures { AreJoined columns.now places.now (map T.stand more.now) (lists tallies.old) (lists tallies.new) }
 {
     let tables = columns.tables();
     let joinings = columns.joinings();
     for at in 0..joinings.len() {
         let tally = tallies[at].as_mut_slice();
-        T::join_column(tables, joinings[at], tally, places, more[at].as_slice());
+        T::join_column(tables, joinings[at], tally, places, &more[at]);
     }
 }

@@ -1,4 +1,4 @@
-use Rattle.std.proofs.Common.{◌≡◌, ◌∙◌, ◌∷◌, ◌++◌, ◌+◌, [], Some, get_or, slice_get, take, refl, ap, subst, sym, arith}
+use Rattle.std.proofs.Common.{◌≡◌, ◌∙◌, ◌∷◌, ◌++◌, ◌+◌, [], Some, get_or, map, slice_get, take, refl, ap, subst, sym, arith}
 use Rattle.std.proofs.lemmas.List.{length-map, length-set, map-set, take_all, take_more}
 use Rattle.std.proofs.lemmas.Option.{get_or_from_slice_get}
 use Rattle.std.specs.List.{list_any}
@@ -6,7 +6,7 @@ use Rattle.ssb_query.specs.declared.column.BoundColumn.{BoundColumn}
 use Rattle.ssb_trees.specs.declared.aggregate.Aggregate.{Aggregate}
 use Rattle.ssb_groups.specs.Gathering.{AreTaken, facts_where, over_at}
 use Rattle.ssb_groups.specs.Stands.{least}
-use Rattle.ssb_groups.specs.Tallies.{items, lists}
+use Rattle.ssb_groups.specs.Tallies.{block_cells}
 use Rattle.ssb_groups.proofs.TakenFacts.{facts-none, facts-seen, least-next}
 use Rattle.ssb_groups.proofs.TallyFacts.{done-more, found, within}
 use Rattle.ssb_groups.proofs.gather.gather.Goals as goal
@@ -36,8 +36,8 @@ loop-at-preserved c =
           subst (λ xs. c.in_ok-found.found ≡ least (facts_where j (λ rows. list_any (λ y. over_at j y rows) xs) block)) (sym more)
           (least-next j (take l.at aggs) a block l.found c.in_ok-found.found l.invariant.least (c.in_ok-found.ensures.least a one.1));
       taken = λ i b below at.
-          subst (λ ts. AreTaken j b block (get_or ts i [])) (sym (map-set items l.totals l.at x))
-          (done-more [] (λ n t. (b : Aggregate BoundColumn) → slice_get aggs n ≡ Some b → AreTaken j b block t) (lists l.totals) l.at (items x) (omega (arith, lt, many, all, length-map l.totals items)) (λ n less b e. l.invariant.taken n b less e) (λ b e. c.in_ok-found.ensures.taken b e) i below b at);
+          subst (λ ts. AreTaken j b block (get_or ts i [])) (sym (map-set block_cells l.totals l.at x))
+          (done-more [] (λ n t. (b : Aggregate BoundColumn) → slice_get aggs n ≡ Some b → AreTaken j b block t) (map block_cells l.totals) l.at (block_cells x) (omega (arith, lt, many, all, length-map l.totals block_cells)) (λ n less b e. l.invariant.taken n b less e) (λ b e. c.in_ok-found.ensures.taken b e) i below b at);
       many = length-set l.totals l.at x ∙ many;
     }
 

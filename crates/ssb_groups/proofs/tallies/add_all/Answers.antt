@@ -1,31 +1,13 @@
-use Rattle.std.proofs.Common.{◌≡◌, ◌∙◌, ◌<◌, ◌+◌, [], ℕ, List, length, get_or, sym, ap, subst, arith}
-use Rattle.std.specs.List.{All}
+use Rattle.std.proofs.Common.{◌∙◌, [], get_or, sym, ap, subst, arith}
 use Rattle.std.proofs.Math.ListN.{set}
-use Rattle.std.proofs.lemmas.List.{get_or-set_same, set-get_or, set-set}
-use Rattle.ssb_cells.specs.Tables.{Columns}
-use Rattle.ssb_groups.specs.Joining.{JoinsTotal}
-use Rattle.ssb_groups.specs.Keys.{IsKept, kept_total, spelt_cell}
+use Rattle.std.proofs.lemmas.List.{set-get_or}
+use Rattle.ssb_groups.specs.Keys.{IsKept, kept_total}
 use Rattle.ssb_groups.specs.declared.joining.Joining.TheVariants as joining
-use Rattle.ssb_groups.specs.declared.kept.KeptTotal.{KeptTotal}
 use Rattle.ssb_groups.specs.declared.kept.KeptTotal.TheVariants as total
-use Rattle.ssb_keys.specs.declared.kept.Kept.{Kept}
-use Rattle.ssb_keys.specs.declared.kept.Kept.TheVariants as kept
-use Rattle.ssb_groups.proofs.TallyFacts.{JoinedTo, joined-all, joined-next}
+use Rattle.ssb_groups.proofs.NumberFacts.{next}
+use Rattle.ssb_groups.proofs.TallyFacts.{JoinedTo, joined-all}
 use Rattle.ssb_groups.proofs.tallies.add_all.Goals as goal
 use Rattle.ssb_groups.proofs.tallies.add_all.Goals.{then-places-at, else-places-at}
-
--- one more is added to the total of the present place
-next : (tables : List Columns) (places : List ℕ) (more : List Kept) (before tally : List KeptTotal) (place at : ℕ) (sum x : KeptTotal) → All (λ p. p < length before) places → at < length places → place < length tally → place ≡ get_or places at 0
-    → JoinsTotal joining.Adds (spelt_cell [] (kept_total sum)) (spelt_cell [] (get_or more at kept.Null)) (spelt_cell [] (kept_total x)) → (IsKept [] (kept_total sum) → IsKept [] (kept_total x)) → JoinedTo tables joining.Adds places more before (set tally place sum) at
-    → JoinedTo tables joining.Adds places more before (set tally place x) (at + 1)
-next tables places more before tally place at sum x there lt inside is joins is-kept to =
-    let now = set tally place sum in
-    let here : get_or now place total.Null ≡ sum = get_or-set_same tally place sum total.Null inside in
-    let at-place : get_or now (get_or places at 0) total.Null ≡ sum = ap (λ p. get_or now p total.Null) (sym is) ∙ here in
-    let joined = joined-next tables joining.Adds places more before now at x there lt to
-    (subst (λ t. JoinsTotal joining.Adds (spelt_cell [] (kept_total t)) (spelt_cell [] (get_or more at kept.Null)) (spelt_cell [] (kept_total x))) (sym at-place) joins)
-    (is-kept (subst (λ t. IsKept [] (kept_total t)) here (to.kept place))) in
-    subst (λ xs. JoinedTo tables joining.Adds places more before xs (at + 1)) (ap (λ p. set now p x) (sym is) ∙ set-set tally place sum x) joined
 
 pub loop-at-preserved : goal.loop-at-preserved
 loop-at-preserved c =

@@ -1,11 +1,11 @@
-use Rattle.std.proofs.Common.{◌≡◌, ◌∙◌, ◌<◌, ℕ, Some, [], get_or, slice_get, refl, sym, ap, subst, length, arith}
+use Rattle.std.proofs.Common.{◌≡◌, ◌∙◌, ◌<◌, ℕ, Some, [], get_or, map, slice_get, refl, sym, ap, subst, length, arith}
 use Rattle.std.proofs.Math.ListN.{set}
 use Rattle.std.specs.Vec.{with_items}
 use Rattle.std.proofs.lemmas.List.{get_or-map, get_or-set_other, length-map, length-set, map-set, with_items_is}
 use Rattle.ssb_groups.specs.Joining.{IsJoining, joining_of, values_by}
 use Rattle.ssb_groups.specs.Keys.{IsKept, kept_total}
 use Rattle.ssb_groups.specs.Places.{IsJoined}
-use Rattle.ssb_groups.specs.Tallies.{IsAdded, items, lists, stand_lists}
+use Rattle.ssb_groups.specs.Tallies.{IsAdded, items, lists}
 use Rattle.ssb_groups.specs.declared.joining.Joining.TheVariants as joining
 use Rattle.ssb_groups.specs.declared.kept.KeptTotal.TheVariants as total
 use Rattle.ssb_trees.specs.declared.aggregate.Aggregate.{Aggregate}
@@ -13,24 +13,24 @@ use Rattle.ssb_query.specs.declared.column.BoundColumn.{BoundColumn}
 use Rattle.ssb_groups.proofs.JoiningFacts.{joining-at}
 use Rattle.ssb_groups.proofs.TallyFacts.{done-more, found, mapped-here, within}
 use Rattle.ssb_groups.proofs.tallies.join_all.Goals as goal
-use Rattle.ssb_groups.proofs.tallies.join_all.Goals.{After-as_slice}
+use Rattle.ssb_groups.proofs.tallies.join_all.Goals.{After-index-more-at}
 
 -- the aggregate whose tally is joined
-aggregate : (g : _) (c : After-as_slice g) → (a : Aggregate BoundColumn) × (slice_get c.args.columns.now.query.aggregates c.loop-at.at ≡ Some a)
+aggregate : (g : _) (c : After-index-more-at g) → (a : Aggregate BoundColumn) × (slice_get c.args.columns.now.query.aggregates c.loop-at.at ≡ Some a)
 aggregate g c =
     let j = c.args.columns.now in
     let many = ap length c.joinings-joinings.ensures.same ∙ length-map j.query.aggregates (joining_of j) in
     found j.query.aggregates c.loop-at.at (omega (arith, many, c.loop-at-test.true))
 
-way : (g : _) (c : After-as_slice g) → get_or c.joinings-joinings.result.now c.loop-at.at joining.Adds ≡ joining_of c.args.columns.now (aggregate g c).0
+way : (g : _) (c : After-index-more-at g) → get_or c.joinings-joinings.result.now c.loop-at.at joining.Adds ≡ joining_of c.args.columns.now (aggregate g c).0
 way g c =
     let j = c.args.columns.now in
     ap (λ ws. get_or ws c.loop-at.at joining.Adds) c.joinings-joinings.ensures.same ∙ mapped-here (joining_of j) j.query.aggregates c.loop-at.at (aggregate g c).0 joining.Adds (aggregate g c).1
 
-values : (g : _) (c : After-as_slice g) → values_by c.tables-tables.result.now (get_or c.joinings-joinings.result.now c.loop-at.at joining.Adds) ≡ values_by c.args.columns.now.tables (joining_of c.args.columns.now (aggregate g c).0)
+values : (g : _) (c : After-index-more-at g) → values_by c.tables-tables.result.now (get_or c.joinings-joinings.result.now c.loop-at.at joining.Adds) ≡ values_by c.args.columns.now.tables (joining_of c.args.columns.now (aggregate g c).0)
 values g c = ap (λ ts. values_by ts (get_or c.joinings-joinings.result.now c.loop-at.at joining.Adds)) c.tables-tables.ensures ∙ ap (values_by c.args.columns.now.tables) (way g c)
 
-old : (g : _) (c : After-as_slice g) → c.as_mut_slice-tally.result.now ≡ get_or (lists c.args.tallies.now) c.loop-at.at []
+old : (g : _) (c : After-index-more-at g) → c.as_mut_slice-tally.result.now ≡ get_or (lists c.args.tallies.now) c.loop-at.at []
 old g c =
     let l = c.loop-at in
     let many = l.invariant.many in
@@ -38,12 +38,12 @@ old g c =
     let here = within c.args.columns.now.query.aggregates l.at (aggregate g c).0 (aggregate g c).1 in
     c.as_mut_slice-tally.ensures.value ∙ sym (get_or-map items l.tallies l.at c.index-tallies-at.result [] (omega (arith, many, all, here, length-map c.args.tallies.now items))) ∙ l.invariant.later l.at (omega arith)
 
-more : (g : _) (c : After-as_slice g) → g.T.Joins.stand c.as_slice.result.now ≡ get_or (stand_lists g.T.Joins.stand c.args.more.now) c.loop-at.at []
+more : (g : _) (c : After-index-more-at g) → g.T.Joins.stand c.index-more-at.result ≡ get_or (map g.T.Joins.stand c.args.more.now) c.loop-at.at []
 more g c =
     let stand = g.T.Joins.stand in
     let all = c.requires.more.many in
     let here = within c.args.columns.now.query.aggregates c.loop-at.at (aggregate g c).0 (aggregate g c).1 in
-    ap stand (c.as_slice.ensures.value ∙ ap items c.index-more-at.is) ∙ sym (get_or-map (λ tally. stand (items tally)) c.args.more.now c.loop-at.at c.index-more-at.result [] (omega (arith, all, here, length-map c.args.more.now (λ tally. stand (items tally)))))
+    ap stand c.index-more-at.is ∙ sym (get_or-map stand c.args.more.now c.loop-at.at c.index-more-at.result [] (omega (arith, all, here, length-map c.args.more.now stand)))
 
 pub join_column-requires-clause-joining : goal.join_column-requires-clause-joining
 join_column-requires-clause-joining g c =
@@ -66,16 +66,16 @@ join_column-requires-clause-kept g c = λ p.
 
 pub join_column-requires-clause-more : goal.join_column-requires-clause-more
 join_column-requires-clause-more g c =
-    subst (λ vs. IsAdded vs (length c.args.places.now) (g.T.Joins.stand c.as_slice.result.now)) (sym (values g c))
+    subst (λ vs. IsAdded vs (length c.args.places.now) (g.T.Joins.stand c.index-more-at.result)) (sym (values g c))
     (subst (IsAdded (values_by c.args.columns.now.tables (joining_of c.args.columns.now (aggregate g c).0)) (length c.args.places.now)) (sym (more g c)) (c.requires.more.each c.loop-at.at (aggregate g c).0 (aggregate g c).1))
 
 pub loop-at-preserved : goal.loop-at-preserved
 loop-at-preserved g c =
     let l = c.loop-at in
     let x = c.join_column.new.tally in
-    let s = (goal.at.loop-at-preserved g c).After-as_slice in
+    let s = (goal.at.loop-at-preserved g c).After-index-more-at in
     let joins = λ (n : ℕ). IsJoined c.tables-tables.result.now (get_or c.joinings-joinings.result.now n joining.Adds) c.args.places.now in
-    let more-at = λ (n : ℕ). get_or (stand_lists g.T.Joins.stand c.args.more.now) n [] in
+    let more-at = λ (n : ℕ). get_or (map g.T.Joins.stand c.args.more.now) n [] in
     let old-at = λ (n : ℕ). get_or (lists c.args.tallies.now) n [] in
     let many = l.invariant.many in
     let all = c.requires.tallies.are.many in
@@ -101,12 +101,12 @@ returns g c =
     let j = c.args.columns.now in
     let past = c.loop-at-test.false in
     let many = ap length c.joinings-joinings.ensures.same ∙ length-map j.query.aggregates (joining_of j) in
-    let joined : (i : ℕ) (a : Aggregate BoundColumn) → slice_get j.query.aggregates i ≡ Some a → IsJoined j.tables (joining_of j a) c.args.places.now (get_or (stand_lists g.T.Joins.stand c.args.more.now) i []) (get_or (lists c.args.tallies.now) i []) (get_or (lists l.tallies) i []) =
+    let joined : (i : ℕ) (a : Aggregate BoundColumn) → slice_get j.query.aggregates i ≡ Some a → IsJoined j.tables (joining_of j a) c.args.places.now (get_or (map g.T.Joins.stand c.args.more.now) i []) (get_or (lists c.args.tallies.now) i []) (get_or (lists l.tallies) i []) =
     λ i a at.
     let here = within j.query.aggregates i a at in
     let way = ap (λ ws. get_or ws i joining.Adds) c.joinings-joinings.ensures.same ∙ mapped-here (joining_of j) j.query.aggregates i a joining.Adds at in
-    subst (λ w. IsJoined j.tables w c.args.places.now (get_or (stand_lists g.T.Joins.stand c.args.more.now) i []) (get_or (lists c.args.tallies.now) i []) (get_or (lists l.tallies) i [])) way
-    (subst (λ ts. IsJoined ts (get_or c.joinings-joinings.result.now i joining.Adds) c.args.places.now (get_or (stand_lists g.T.Joins.stand c.args.more.now) i []) (get_or (lists c.args.tallies.now) i []) (get_or (lists l.tallies) i [])) c.tables-tables.ensures
+    subst (λ w. IsJoined j.tables w c.args.places.now (get_or (map g.T.Joins.stand c.args.more.now) i []) (get_or (lists c.args.tallies.now) i []) (get_or (lists l.tallies) i [])) way
+    (subst (λ ts. IsJoined ts (get_or c.joinings-joinings.result.now i joining.Adds) c.args.places.now (get_or (map g.T.Joins.stand c.args.more.now) i []) (get_or (lists c.args.tallies.now) i []) (get_or (lists l.tallies) i [])) c.tables-tables.ensures
     (l.invariant.done i (omega (arith, past, many, here)))) in
     record {
       joined = λ rows Rs can before over i a at. (joined i a at).joined j i a rows Rs refl can (before i a at) (over i a at);

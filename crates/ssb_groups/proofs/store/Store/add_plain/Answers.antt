@@ -6,7 +6,7 @@ use Rattle.ssb_groups.specs.Gathering.{AllTaken}
 use Rattle.ssb_groups.specs.Places.{IsTable}
 use Rattle.ssb_groups.specs.Seen.{seen}
 use Rattle.ssb_groups.specs.Stands.{GroupMap, Stands}
-use Rattle.ssb_groups.specs.Tallies.{AreAdded, entries_of, lists}
+use Rattle.ssb_groups.specs.Tallies.{AreAdded, block_cells, entries_of, lists}
 use Rattle.ssb_groups.specs.contracts.store.Store.{the_view}
 use Rattle.ssb_groups.specs.declared.store.Store.TheInside.{Inside}
 use Rattle.ssb_groups.proofs.GroupKeysFacts.{keys-distinct}
@@ -19,8 +19,8 @@ use Rattle.ssb_groups.proofs.store.Store.add_plain.Goals.{then-is_none+in_ok-add
 
 pub add_block-requires-clause-more : goal.add_block-requires-clause-more
 add_block-requires-clause-more c =
-    subst (λ (x : JobShape). AreAdded x (length c.args.block.now) (lists c.args.totals.now)) (sym c.requires.columns)
-    (taken-added c.args.self.now.job c.args.block.now (lists c.args.totals.now) (length-map c.args.totals.now (λ t. t.items) ∙ c.requires.many) c.requires.totals)
+    subst (λ (x : JobShape). AreAdded x (length c.args.block.now) (map block_cells c.args.totals.now)) (sym c.requires.columns)
+    (taken-added c.args.self.now.job c.args.block.now (map block_cells c.args.totals.now) (length-map c.args.totals.now block_cells ∙ c.requires.many) c.requires.totals)
 
 pub returns-in_err-add_block-clause-err : goal.returns-in_err-add_block-clause-err
 returns-in_err-add_block-clause-err c =
@@ -53,10 +53,10 @@ returns-clause-stands c = λ A before.
           let joined = w.in_ok-add_block.ensures in
           let before : Stands (groups_of k ks ts None c.self.inside.counted) A = subst (λ o. Stands (groups_of k ks ts o c.self.inside.counted) A) none (subst (λ (x : JobShape). Stands (groups_of x ks ts g.overflow c.self.inside.counted) A) mine p) in
           let table : IsTable k ks ts = subst (λ (x : JobShape). IsTable x ks ts) mine c.self.invariant.1 in
-          let taken : AllTaken k c.args.block.now (lists c.args.totals.now) = subst (λ (x : JobShape). AllTaken x c.args.block.now (lists c.args.totals.now)) (sym c.requires.columns) c.requires.totals in
+          let taken : AllTaken k c.args.block.now (map block_cells c.args.totals.now) = subst (λ (x : JobShape). AllTaken x c.args.block.now (map block_cells c.args.totals.now)) (sym c.requires.columns) c.requires.totals in
           let seen-by : B ≡ map (seen k) c.args.block.now = ap (λ (x : JobShape). map (seen x) c.args.block.now) (sym c.requires.columns) in
           let after : Stands (groups_of k (keys_in new.keys) (lists new.tallies.items) None (c.self.inside.counted + c.len.result)) (A ++ B) =
-          stands-block k ks (keys_in new.keys) ts (lists new.tallies.items) c.self.inside.counted (c.self.inside.counted + c.len.result) A B before (keys-distinct c.self.inside.table.keys c.self.invariant.0) table (keys-distinct new.keys joined.unique) joined.table (omega (arith, long, many)) (omega (arith, few, many)) c.args.block.now (lists c.args.totals.now) seen-by joined.joined taken c.requires.plain c.requires.ranged in
+          stands-block k ks (keys_in new.keys) ts (lists new.tallies.items) c.self.inside.counted (c.self.inside.counted + c.len.result) A B before (keys-distinct c.self.inside.table.keys c.self.invariant.0) table (keys-distinct new.keys joined.unique) joined.table (omega (arith, long, many)) (omega (arith, few, many)) c.args.block.now (map block_cells c.args.totals.now) seen-by joined.joined taken c.requires.plain c.requires.ranged in
           subst (λ (x : Inside). Stands (the_view (record { job = x.job; table = x.table; overflow = x.overflow; counted = x.counted + c.len.result })) (A ++ B)) (sym w.self-inside-is)
           (subst (λ o. Stands (groups_of c.self.inside.job.value (keys_in new.keys) (lists new.tallies.items) o (c.self.inside.counted + c.len.result)) (A ++ B)) (sym none)
           (subst (λ (x : JobShape). Stands (groups_of x (keys_in new.keys) (lists new.tallies.items) None (c.self.inside.counted + c.len.result)) (A ++ B)) (sym mine) after))

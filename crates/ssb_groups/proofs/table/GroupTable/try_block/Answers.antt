@@ -2,7 +2,7 @@ use Rattle.std.proofs.Common.{◌∙◌, ◌<◌, get_or, length, map, ap, subst
 use Rattle.ssb_groups.specs.GroupKeys.{keys_in}
 use Rattle.ssb_groups.specs.Gathering.{key_at}
 use Rattle.ssb_groups.specs.Places.{OpenAll}
-use Rattle.ssb_groups.specs.Tallies.{AreAdded, lists}
+use Rattle.ssb_groups.specs.Tallies.{AreAdded, block_cells}
 use Rattle.ssb_groups.proofs.PlacedRows.{all-within, placed-long}
 use Rattle.ssb_groups.proofs.table.GroupTable.try_block.Goals as goal
 
@@ -18,4 +18,4 @@ join-requires-clause-places c = λ k d lt.
 pub join-requires-clause-more : goal.join-requires-clause-more
 join-requires-clause-more c =
     let long = ap length c.deref.ensures.value ∙ placed-long c.args.columns.now (keys_in c.open_block.new.keys) (key_at c.args.columns.now) c.args.block.now c.open_block.new.room.places.items (opened c).placed in
-    subst (λ n. AreAdded c.args.columns.now n (lists c.args.more.now)) (sym long) c.requires.more
+    subst (λ n. AreAdded c.args.columns.now n (map block_cells c.args.more.now)) (sym long) c.requires.more

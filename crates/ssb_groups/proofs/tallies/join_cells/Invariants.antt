@@ -1,5 +1,5 @@
 use Rattle.ssb_groups.proofs.TallyFacts.{JoinedTo}
-use Rattle.ssb_groups.proofs.tallies.KeptJoins.join_column.Given as goal
+use Rattle.ssb_groups.proofs.tallies.join_cells.Given as goal
 
 abbrev pub invariant-loop-at : goal.invariant-loop-at
 invariant-loop-at l = JoinedTo l.tables l.joining l.places l.more l.initial.tally l.tally l.at

@@ -4,7 +4,7 @@ use Rattle.ssb_groups.specs.Keys.{kept_total, spelt_cell}
 use Rattle.ssb_groups.specs.Places.{IsJoined}
 use Rattle.ssb_groups.specs.Tallies.{total_at}
 use Rattle.ssb_groups.proofs.TallyFacts.{joined-all, joined-next, joined-none}
-use Rattle.ssb_groups.proofs.tallies.KeptJoins.join_column.Goals as goal
+use Rattle.ssb_groups.proofs.tallies.join_cells.Goals as goal
 
 pub returns-in-Adds : goal.returns-in-Adds
 returns-in-Adds c = subst (λ w. IsJoined c.args.tables.now w c.args.places.now c.args.more.now c.args.tally.now c.add_all.new.tally) (sym c.in-Adds.is) (c.add_all.ensures c.args.tables.now)

@@ -1,0 +1,33 @@
+// An aggregate over each combination of a block alone.
+
+use ssb_keys::Kept;
+use std::alloc::Global;
+
+/// How values are listed.
+#[derive(Clone, Copy, PartialEq, Eq)]
+pub(crate) enum Form {
+    /// By what stands for each.
+    Cells,
+    /// As numbers: each value is one.
+    Numbers,
+}
+
+/// An aggregate over each combination of a block alone. The memory of both lists is used again for the next block.
+#[derive(Drop)]
+pub(crate) struct BlockTotals {
+    /// Which list has them.
+    pub(crate) form: Form,
+    pub(crate) cells: Vec<Kept>,
+    pub(crate) numbers: Vec<i64>,
+}
+
+impl BlockTotals {
+    // Over no combination. It takes no memory yet.
+    pub(crate) fn new(alloc: Global) -> BlockTotals {
+        BlockTotals {
+            form: Form::Cells,
+            cells: Vec::new(alloc),
+            numbers: Vec::new(alloc),
+        }
+    }
+}

@@ -1,4 +1,4 @@
--- Sums of numbers, which are kept outside the tally while places repeat.
+-- Numbers as cells, and their sums, which are kept outside the tally while places repeat.
 use Rattle.std.proofs.Common.{◌≡◌, ◌∙◌, ℕ, ◌<◌, ◌≤◌, ◌+◌, ◌*◌, zero, suc, Bool, true, false, true≢false, ◌∷◌, ap₂, ℤ, FitsSigned, w64, pos, negsuc, ◌+ℤ◌, List, [], length, get_or, refl, sym, ap, subst, arith}
 use Rattle.std.specs.List.{All}
 use Rattle.std.specs.Prelude.{⊤, ◌==◌, if◌then◌else◌}
@@ -7,9 +7,9 @@ use Rattle.std.proofs.lemmas.Int.{ints}
 use Rattle.std.proofs.lemmas.List.{get_or-map, get_or-set_same, length-map, set-set}
 use Rattle.ssb_cells.specs.Cell.{Cell, number}
 use Rattle.ssb_cells.specs.Tables.{Columns}
-use Rattle.ssb_groups.specs.Joining.{FitsAdded, JoinsTotal, added}
+use Rattle.ssb_groups.specs.Joining.{AddsAs, FitsAdded, JoinsTotal, added}
 use Rattle.ssb_groups.specs.Keys.{AreOfKind, FitsSum, IsKept, IsOfKind, kept_total, spelt_cell}
-use Rattle.ssb_groups.specs.Tallies.{GoesOn, kept_numbers}
+use Rattle.ssb_groups.specs.Tallies.{kept_numbers}
 use Rattle.ssb_groups.specs.Alone.{AreAlone, AreApplied, IsApplied, IsItself}
 use Rattle.ssb_groups.specs.Outcomes.{exact}
 use Rattle.ssb_groups.specs.Stands.{IsRanged}
@@ -57,7 +57,7 @@ ranged-checked z = by (in_range z) refl
 checked-in : (z : ℤ) → in_range z ≡ true → checked z ≡ known (number z)
 checked-in z e = ap (λ b. if b then known (number z) else over) e
 
-applied-number : (o : Operation) (f : SetFunction) (a b x : ℤ) → IsItself f → in_range a ≡ true → in_range b ≡ true → known (number x) ≡ checked (exact o a b) → IsApplied o f (kept.Number a) (kept.Number b) (kept.Number x)
+applied-number : (o : Operation) (f : SetFunction) (a b x : ℤ) → IsItself f kinds.Int → in_range a ≡ true → in_range b ≡ true → known (number x) ≡ checked (exact o a b) → IsApplied o f (kept.Number a) (kept.Number b) (kept.Number x)
 applied-number o f a b x itself left right is = record {
   cell = kept.Number x;
   number = λ vs ws us. is ∙ ap₂ (apply (exact o)) (sym (checked-in a left)) (sym (checked-in b right));
@@ -65,7 +65,7 @@ applied-number o f a b x itself left right is = record {
   alone = itself (kept.Number x) (subst IsRanged (sym is) (ranged-checked (exact o a b)));
 }
 
-pub numbers-applied : (o : Operation) (f : SetFunction) (left right xs : List ℤ) → IsItself f → length left ≡ length right → length xs ≡ length left → AreOfKind kinds.Int (kept_numbers left) → AreOfKind kinds.Int (kept_numbers right)
+pub numbers-applied : (o : Operation) (f : SetFunction) (left right xs : List ℤ) → IsItself f kinds.Int → length left ≡ length right → length xs ≡ length left → AreOfKind kinds.Int (kept_numbers left) → AreOfKind kinds.Int (kept_numbers right)
     → ((n : ℕ) → n < length left → known (number (get_or xs n (pos 0))) ≡ checked (exact o (get_or left n (pos 0)) (get_or right n (pos 0)))) → AreApplied o f (kept_numbers left) (kept_numbers right) (kept_numbers xs)
 numbers-applied o f left right xs itself beside many lefts rights each = record {
   many = length-map xs kept.Number ∙ many ∙ sym (length-map left kept.Number);
@@ -81,7 +81,7 @@ numbers-applied o f left right xs itself beside many lefts rights each = record 
 }
 
 -- values that are numbers, where a set function over one alone is that one
-pub numbers-alone : (f : SetFunction) (ns : List ℤ) → IsItself f → AreOfKind kinds.Int (kept_numbers ns) → AreAlone f (kept_numbers ns) (kept_numbers ns)
+pub numbers-alone : (f : SetFunction) (ns : List ℤ) → IsItself f kinds.Int → AreOfKind kinds.Int (kept_numbers ns) → AreAlone f (kept_numbers ns) (kept_numbers ns)
 numbers-alone f ns itself kinds = record { many = refl; each = λ n lt. itself (get_or (kept_numbers ns) n kept.Null) (kinds n lt) }
 
 -- ---- a sum as a number
@@ -106,7 +106,7 @@ fits-added (kept.Number m) n is small fits = fits
 fits-added (kept.Code c) n is small fits = absurd (omega (arith, is))
 
 -- a number is added to the sum from which a total goes on
-pub joins-number : (t : Kept) (s n after : ℤ) (x : KeptTotal) → GoesOn t s → IsKept [] t → FitsSum n → (FitsSum (s +ℤ n) → after ≡ s +ℤ n) → Shows x after → JoinsTotal joining.Adds (spelt_cell [] t) (number n) (spelt_cell [] (kept_total x))
+joins-number : (t : Kept) (s n after : ℤ) (x : KeptTotal) → AddsAs t s → IsKept [] t → FitsSum n → (FitsSum (s +ℤ n) → after ≡ s +ℤ n) → Shows x after → JoinsTotal joining.Adds (spelt_cell [] t) (number n) (spelt_cell [] (kept_total x))
 joins-number t s n after x goes is small sum shows = λ fits.
     let all : FitsSum (s +ℤ n) = subst FitsCell (goes n) (fits-added t n is small fits) in
     ap (spelt_cell []) (shows.number (subst FitsSum (sym (sum all)) all)) ∙ ap number (sum all) ∙ sym (goes n)
@@ -114,15 +114,15 @@ joins-number t s n after x goes is small sum shows = λ fits.
 -- what is joined so far, where a total is written at the present place from which a sum goes on
 pub record Adding (places : List ℕ) (more : List Kept) (before tally : List KeptTotal) (place at : ℕ) (s : ℤ) : Type 0 where
   pub sum : KeptTotal
-  pub goes : GoesOn (kept_total sum) s
+  pub goes : AddsAs (kept_total sum) s
   pub kept : IsKept [] (kept_total sum)
   pub joined : (tables : List Columns) → JoinedTo tables joining.Adds places more before (set tally place sum) at
 
-pub shows-some : (s : ℤ) → Shows (some-total s).0 s
+shows-some : (s : ℤ) → Shows (some-total s).0 s
 shows-some s = record { number = λ fits. (some-total s).1; kept = subst (IsKept []) (sym (some-total s).1) tt }
 
-pub goes-number : (s : ℤ) → GoesOn (kept.Number s) s
-goes-number s = λ n. refl
+adds-number : (s : ℤ) → AddsAs (kept.Number s) s
+adds-number s = λ n. refl
 
 module _ (places : List ℕ) (more : List Kept) (before tally : List KeptTotal) (place at : ℕ) (s n after : ℤ) (there : All (λ p. p < length before) places) (lt : at < length places) (inside : place < length tally) (is : place ≡ get_or places at 0) (here : get_or more at kept.Null ≡ kept.Number n) (small : FitsSum n)
     (sum : FitsSum (s +ℤ n) → after ≡ s +ℤ n) (now : Adding places more before tally place at s)
@@ -136,7 +136,7 @@ module _ (places : List ℕ) (more : List Kept) (before tally : List KeptTotal) 
     pub adds-next : Adding places more before tally place (at + 1) after
     adds-next = record {
       sum = (some-total after).0;
-      goes = subst (λ t. GoesOn t after) (sym (some-total after).1) (goes-number after);
+      goes = subst (λ t. AddsAs t after) (sym (some-total after).1) (adds-number after);
       kept = (shows-some after).kept;
       joined = λ tables. adds-shown tables (some-total after).0 (shows-some after);
     }

@@ -9,7 +9,7 @@ use Rattle.ssb_trees.specs.declared.aggregate.SetFunction.TheVariants as functio
 use Rattle.ssb_trees.specs.declared.expr.Expr.{Expr}
 use Rattle.ssb_groups.specs.Aggregates.{agg}
 use Rattle.ssb_groups.specs.Keys.{IsKept, IsOfKind, spelt_cell}
-use Rattle.ssb_terms.specs.declared.rule.ColType.TheVariants as kinds
+use Rattle.ssb_terms.specs.declared.rule.ColType.{ColType}
 use Rattle.ssb_groups.specs.Outcomes.{exact}
 use Rattle.ssb_groups.specs.Stands.{IsRanged}
 use Rattle.ssb_groups.specs.Value.{apply, column_number, column_outcome, known}
@@ -34,9 +34,9 @@ pub record IsTotalOf (values : List Cell) (f : SetFunction) (c t : Kept) : Type 
 abbrev pub IsAlone : SetFunction → Kept → Kept → Type 0
 IsAlone f c t = (values : List Cell) → IsTotalOf values f c t
 
--- a set function over a number alone is that number
-abbrev pub IsItself : SetFunction → Type 0
-IsItself f = (cell : Kept) → IsOfKind kinds.Int cell → IsAlone f cell cell
+-- a set function over a value of a column of this type alone is that value
+abbrev pub IsItself : SetFunction → ColType → Type 0
+IsItself f kind = (cell : Kept) → IsOfKind kind cell → IsAlone f cell cell
 
 -- the same of each of some values
 pub record AreAlone (f : SetFunction) (cells ts : List Kept) : Type 0 where

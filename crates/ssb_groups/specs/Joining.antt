@@ -1,6 +1,6 @@
 -- Totals over two lists of rows, from those over each.
 -- For the contracts inside this crate.
-use Rattle.std.specs.Prelude.{◌+ℤ◌, ◌≡◌, ⊤, true, List, [], ◌∷◌, map, Option, None, Some, option_map}
+use Rattle.std.specs.Prelude.{ℤ, ◌+ℤ◌, ◌≡◌, ⊤, true, List, [], ◌∷◌, map, Option, None, Some, option_map}
 use Rattle.std.specs.List.{list_all}
 use Rattle.std.specs.declared.alloc.Global.{Global}
 use Rattle.std.specs.declared.vec.Vec.{Vec}
@@ -18,7 +18,7 @@ use Rattle.ssb_trees.specs.declared.aggregate.SetFunction.{SetFunction}
 use Rattle.ssb_trees.specs.declared.aggregate.SetFunction.TheVariants as function
 use Rattle.ssb_trees.specs.declared.expr.Expr.{Expr}
 use Rattle.ssb_groups.specs.Aggregates.{greater, lesser}
-use Rattle.ssb_groups.specs.Keys.{AreDomains, FitsSum, IsKept, domains_of}
+use Rattle.ssb_groups.specs.Keys.{AreDomains, FitsSum, IsKept, domains_of, spelt_cell}
 use Rattle.ssb_groups.specs.Refs.{IsSomeColumn, values_at}
 use Rattle.ssb_groups.specs.declared.joining.Joining.{Joining}
 use Rattle.ssb_groups.specs.declared.joining.Joining.TheVariants as joining
@@ -87,6 +87,10 @@ abbrev pub joined : Joining → Cell → Cell → Cell
 joined joining.Adds = added
 joined (joining.Least p) = lesser
 joined (joining.Greatest p) = greater
+
+-- to add to a total is to add to this number
+abbrev pub AddsAs : Kept → ℤ → Type 0
+AddsAs t s = (n : ℤ) → added (spelt_cell [] t) (number n) ≡ number (s +ℤ n)
 
 -- two numbers may be added: their sum does not leave 96 bits
 abbrev pub FitsAdded : Cell → Cell → Type 0

@@ -1,20 +1,20 @@
 -- Totals as they are kept: for each aggregate a list, its tally, in which the total of each group stands at the group's place.
 -- For the contracts inside this crate.
-use Rattle.std.specs.Prelude.{◌≡◌, ◌⊎◌, ◌+ℤ◌, ℕ, ℤ, suc, ◌≤◌, List, [], ◌∷◌, map, length, get_or, Some, slice_get}
+use Rattle.std.specs.Prelude.{◌≡◌, ◌⊎◌, ℕ, ℤ, suc, ◌≤◌, List, [], ◌∷◌, map, length, get_or, Some, slice_get}
 use Rattle.std.specs.declared.alloc.Global.{Global}
 use Rattle.std.specs.declared.vec.Vec.{Vec}
-use Rattle.ssb_cells.specs.Cell.{Cell, null, number}
+use Rattle.ssb_cells.specs.Cell.{Cell, null}
 use Rattle.ssb_plan.specs.JobShape.{JobShape}
 use Rattle.ssb_query.specs.declared.column.BoundColumn.{BoundColumn}
 use Rattle.ssb_trees.specs.declared.aggregate.Aggregate.{Aggregate}
 use Rattle.ssb_groups.specs.Aggregates.{agg, arguments_at}
-use Rattle.ssb_groups.specs.Joining.{added, joining_of, joinings_of, values_by}
+use Rattle.ssb_groups.specs.Joining.{joining_of, joinings_of, values_by}
 use Rattle.ssb_groups.specs.Keys.{AreKept, IsKept, cells_in, kept_total, spelt, spelt_cell}
 use Rattle.ssb_groups.specs.Rows.{Key, SeenRow}
 use Rattle.ssb_groups.specs.GroupKeys.{GroupKey}
 use Rattle.ssb_groups.specs.declared.block_totals.BlockTotals.{BlockTotals}
-use Rattle.ssb_groups.specs.declared.block_totals.Form.{Form}
-use Rattle.ssb_groups.specs.declared.block_totals.Form.TheVariants as form
+use Rattle.ssb_groups.specs.declared.block_totals.Listing.{Listing}
+use Rattle.ssb_groups.specs.declared.block_totals.Listing.TheVariants as listing
 use Rattle.ssb_groups.specs.declared.kept.KeptTotal.{KeptTotal}
 use Rattle.ssb_groups.specs.declared.kept.KeptTotal.TheVariants as total
 use Rattle.ssb_keys.specs.declared.kept.Kept.{Kept}
@@ -34,7 +34,7 @@ totals_in j ts = spelt (total_columns j) ts
 abbrev pub AreTotals : JobShape → List Kept → Type 0
 AreTotals j ts = AreKept (total_columns j) ts
 
--- tallies, or totals over each combination of a block alone, as the lists that they are
+-- tallies as the lists that they are
 abbrev pub items : {X : Type 0} → Vec X Global → List X
 items tally = tally.items
 
@@ -53,16 +53,12 @@ abbrev pub kept_numbers : List ℤ → List Kept
 kept_numbers ns = map kept.Number ns
 
 -- what stands for an aggregate over each combination of a block alone, by the list that has it
-abbrev pub cells_by : Form → List Kept → List ℤ → List Kept
-cells_by form.Cells cells numbers = cells
-cells_by form.Numbers cells numbers = kept_numbers numbers
+abbrev pub cells_by : Listing → List Kept → List ℤ → List Kept
+cells_by listing.Cells cells numbers = cells
+cells_by listing.Numbers cells numbers = kept_numbers numbers
 
 abbrev pub block_cells : BlockTotals → List Kept
-block_cells a = cells_by a.form a.cells.items a.numbers.items
-
--- a sum that has come to a total goes on from a number: to add more to both gives the same
-abbrev pub GoesOn : Kept → ℤ → Type 0
-GoesOn t s = (n : ℤ) → added (spelt_cell [] t) (number n) ≡ number (s +ℤ n)
+block_cells totals = cells_by totals.listing totals.cells.items totals.numbers.items
 
 -- the totals at a place
 abbrev pub totals_at : List (List KeptTotal) → ℕ → List Kept

@@ -43,8 +43,8 @@ apply exact (known a) over = over
 apply exact (known (number a)) (known (number b)) = checked (exact a b)
 apply exact (known a) (known b) = known null
 
-abbrev pub plus : Outcome → Outcome → Outcome
-plus = apply (λ a b. a +ℤ b)
+abbrev pub wide_sum : Outcome → Outcome → Outcome
+wide_sum = apply (λ a b. a +ℤ b)
 
 abbrev pub minus : Outcome → Outcome → Outcome
 minus = apply (λ a b. a -ℤ b)
@@ -54,7 +54,7 @@ times = apply (λ a b. a *ℤ b)
 
 -- a further term is added or taken away
 abbrev pub add_step : Outcome → Adding × Outcome → Outcome
-add_step so_far (adding.Plus, term) = plus so_far term
+add_step so_far (adding.Plus, term) = wide_sum so_far term
 add_step so_far (adding.Minus, term) = minus so_far term
 
 -- the product of factors, from left to right

@@ -34,7 +34,7 @@ pub(crate) fn alone(function: SetFunction, cell: Kept) -> Kept
 
 // Whether a set function over a value of a column of this type alone is that value.
 pub(crate) fn is_itself(function: SetFunction, kind: ColType) -> bool
-    ensures { (cell : AnyKept) → result ≡ true → IsOfKind kind cell → IsAlone function cell cell }
+    ensures { result ≡ true → IsItself function kind }
 {
     match (function, kind) {
         (SetFunction::Count, _) | (SetFunction::Sum, ColType::Text) => false,
@@ -84,13 +84,13 @@ pub(crate) fn apply_numbers(operation: Operation, left: &mut [i64], right: &[i64
     requires many { length left.old ≡ length right.now }
     requires left { AreOfKind kinds.Int (kept_numbers left.old) }
     requires right { AreOfKind kinds.Int (kept_numbers right.now) }
-    ensures { (f : AnyFunction) → result ≡ true → IsItself f → AreApplied operation f (kept_numbers left.old) (kept_numbers right.now) (kept_numbers left.new) }
+    ensures { (f : AnyFunction) → result ≡ true → IsItself f kinds.Int → AreApplied operation f (kept_numbers left.old) (kept_numbers right.now) (kept_numbers left.new) }
 {
     for at in 0..left.len() {
-        let Some(number) = operation.on(left[at], right[at]) else {
-            return false;
-        };
-        left[at] = number;
+        match operation.on(left[at], right[at]) {
+            Some(number) => left[at] = number,
+            None => return false,
+        }
     }
     true
 }

@@ -1,11 +1,11 @@
-// An aggregate over each combination of a block alone.
+// What a block adds to one aggregate.
 
 use ssb_keys::Kept;
 use std::alloc::Global;
 
 /// How values are listed.
 #[derive(Clone, Copy, PartialEq, Eq)]
-pub(crate) enum Form {
+pub(crate) enum Listing {
     /// By what stands for each.
     Cells,
     /// As numbers: each value is one.
@@ -16,8 +16,10 @@ pub(crate) enum Form {
 #[derive(Drop)]
 pub(crate) struct BlockTotals {
     /// Which list has them.
-    pub(crate) form: Form,
+    pub(crate) listing: Listing,
+    /// What stands for each.
     pub(crate) cells: Vec<Kept>,
+    /// Each, where all are numbers.
     pub(crate) numbers: Vec<i64>,
 }
 
@@ -25,7 +27,7 @@ impl BlockTotals {
     // Over no combination. It takes no memory yet.
     pub(crate) fn new(alloc: Global) -> BlockTotals {
         BlockTotals {
-            form: Form::Cells,
+            listing: Listing::Cells,
             cells: Vec::new(alloc),
             numbers: Vec::new(alloc),
         }

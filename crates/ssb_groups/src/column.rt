@@ -1,6 +1,6 @@
 // What is read at a column of a job.
 
-ghost use Rattle.std.specs.Prelude.{◌≡◌, ◌<◌, ℕ, List, [], IfOk, OnOk, Some, true, get_or, length, map, option_map, slice_get};
+ghost use Rattle.std.specs.Prelude.{◌≡◌, ◌<◌, ℕ, List, OnOk, Some, true, get_or, length, map, option_map, slice_get};
 ghost use Rattle.std.specs.List.{All};
 ghost use Rattle.ssb_cells.specs.Cell.{Cell};
 ghost use Rattle.ssb_cells.specs.Codes.{texts_of};
@@ -11,12 +11,11 @@ ghost use Rattle.ssb_conditions.specs.Rows.{IsCombination};
 ghost use Rattle.ssb_plan.specs.Inputs.{has_column, values_of};
 ghost use Rattle.ssb_plan.specs.JobShape.{from_tables};
 ghost use Rattle.ssb_groups.specs.Keys.{AreOfKind, IsKept, IsOfKind, kept_cell, kind_of, spelt_cell};
-ghost use Rattle.ssb_groups.specs.Tallies.{kept_numbers};
 ghost use Rattle.ssb_groups.specs.Refs.{AreCellsOf, HasRow, IsColumn, IsSomeColumn, cell_in, ref_value, values_at};
 
 use ssb_cells::{CodeSlice, Column, NumberSlice, Table, Value, flag_at, numbers_have_no_text};
 use ssb_job::{Block, Job, JoinedRow};
-use ssb_keys::Kept;
+use ssb_keys::{Domain, Kept, add_digit};
 use ssb_plan::ColumnRef;
 use ssb_terms::ColType;
 use std::alloc::AllocError;
@@ -61,7 +60,7 @@ fn number_cell(column: &Column, row: u32) -> Kept
 
 // The row that stands at a place.
 #[inline(always)]
-fn row_at(rows: &[u32], at: usize) -> u32
+pub(crate) fn row_at(rows: &[u32], at: usize) -> u32
     ensures { result ≡ get_or rows.now at 0 }
 {
     rows.get(at).copied().unwrap_or(0)
@@ -69,7 +68,7 @@ fn row_at(rows: &[u32], at: usize) -> u32
 
 // What stands for a number or null.
 #[inline(always)]
-fn number_at(numbers: NumberSlice<'_>, nulls: &[u64], row: u32) -> Kept
+pub(crate) fn number_at(numbers: NumberSlice<'_>, nulls: &[u64], row: u32) -> Kept
     requires { row < length (numbers_in numbers) }
     ensures value { (values : List Cell) → AreNumbers values (numbers_in numbers.entry) → AreNulls values nulls.now → option_map (kept_cell values) (slice_get values row) ≡ Some result }
     ensures kind { IsOfKind kinds.Int result }
@@ -82,7 +81,7 @@ fn number_at(numbers: NumberSlice<'_>, nulls: &[u64], row: u32) -> Kept
 
 // What stands for a text or null.
 #[inline(always)]
-fn code_at(codes: CodeSlice<'_>, nulls: &[u64], row: u32) -> Kept
+pub(crate) fn code_at(codes: CodeSlice<'_>, nulls: &[u64], row: u32) -> Kept
     requires { row < length (codes_in codes) }
     ensures value { (values : List Cell) → AreCodes values (codes_in codes.entry) → AreNulls values nulls.now → option_map (kept_cell values) (slice_get values row) ≡ Some result }
     ensures kind { IsOfKind kinds.Text result }
@@ -117,45 +116,6 @@ fn take_codes(codes: CodeSlice<'_>, nulls: &[u64], rows: &[u32], cells: &mut [Ke
     }
 }
 
-// The numbers of some rows, of numbers that are kept in one width, whatever they are where a row is null.
-#[inline(always)]
-fn read_numbers(kept: NumberSlice<'_>, rows: &[u32], numbers: &mut [i64])
-    requires { (at : ℕ) → at < length numbers.old → get_or rows.now at 0 < length (numbers_in kept) }
-    ensures values { (values : List Cell) → AreNumbers values (numbers_in kept.entry) → AreNulls values [] → AreCellsOf values rows.now (length numbers.old) (kept_numbers numbers.new) }
-    ensures kinds { AreOfKind kinds.Int (kept_numbers numbers.new) }
-{
-    for at in 0..numbers.len() {
-        numbers[at] = kept.get(row_at(rows, at) as usize);
-    }
-}
-
-// The numbers of some rows of a column of numbers that has no null.
-fn read_column(column: &Column, rows: &[u32], numbers: &mut [i64])
-    requires kind { column.now.kind ≡ kinds.Int }
-    requires full { AreNulls column.now.values [] }
-    requires rows { (at : ℕ) → at < length numbers.old → get_or rows.now at 0 < length column.now.values }
-    ensures values { AreCellsOf column.now.values rows.now (length numbers.old) (kept_numbers numbers.new) }
-    ensures kinds { AreOfKind kinds.Int (kept_numbers numbers.new) }
-{
-    match column.numbers() {
-        NumberSlice::One(kept) => read_numbers(NumberSlice::One(kept), rows, numbers),
-        NumberSlice::Two(kept) => read_numbers(NumberSlice::Two(kept), rows, numbers),
-        NumberSlice::Four(kept) => read_numbers(NumberSlice::Four(kept), rows, numbers),
-        NumberSlice::Eight(kept) => read_numbers(NumberSlice::Eight(kept), rows, numbers),
-    }
-}
-
-// Whether a column is one of numbers and has no null.
-fn has_numbers_only(column: &Column) -> bool
-    ensures kind { result ≡ true → column.now.kind ≡ kinds.Int }
-    ensures full { result ≡ true → AreNulls column.now.values [] }
-{
-    match column.kind() {
-        ColType::Text => false,
-        ColType::Int => column.null_words().is_empty(),
-    }
-}
-
 // The match on the width, once for all rows: each width has a loop of its own.
 fn fill_numbers(column: &Column, rows: &[u32], cells: &mut [Kept])
     requires kind { column.now.kind ≡ kinds.Int }
@@ -174,7 +134,7 @@ fn fill_numbers(column: &Column, rows: &[u32], cells: &mut [Kept])
 
 // The codes whose numbers these are.
 #[inline(always)]
-fn codes_of(numbers: NumberSlice<'_>) -> CodeSlice<'_>
+pub(crate) fn codes_of(numbers: NumberSlice<'_>) -> CodeSlice<'_>
     ensures { codes_in result ≡ map kept_code (numbers_in numbers.entry) }
 {
     CodeSlice { numbers }
@@ -248,30 +208,6 @@ pub(crate) fn fill_cells(
     let table = &tables[column.table];
     let rows = block.rows(column.place);
     fill(table.column(column.column), rows, block.len(), cells)
-}
-
-// Fills a list with the numbers of a column in the combinations of a block, if it is one of numbers and has no null. Whether
-// it is: if not, the list is of no matter.
-pub(crate) fn list_numbers(
-    tables: &[Table],
-    block: &Block,
-    column: ColumnRef,
-    numbers: &mut Vec<i64>,
-) -> Result<bool, AllocError>
-    requires column { IsColumn tables.now column }
-    requires rows { All (λ rows. HasRow tables.now rows column) block.now }
-    ensures cells { IfOk result (λ listed. listed ≡ true → kept_numbers numbers.new.items ≡ map (λ rows. cell_in tables.now rows column) block.now) }
-    ensures kinds { IfOk result (λ listed. listed ≡ true → AreOfKind kinds.Int (kept_numbers numbers.new.items)) }
-{
-    let table = &tables[column.table];
-    let rows = block.rows(column.place);
-    let column = table.column(column.column);
-    if !has_numbers_only(column) {
-        return Ok(false);
-    }
-    numbers.resize(block.len(), 0)?;
-    read_column(column, rows, numbers.as_mut_slice());
-    Ok(true)
 }
 
 // What stands for the value of a column in a combination.

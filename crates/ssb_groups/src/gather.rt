@@ -20,11 +20,13 @@ ghost use Rattle.ssb_groups.specs.Stands.{IsRanged, least, least_of, overflows};
 ghost use Rattle.ssb_groups.specs.Alone.{IsItself};
 ghost use Rattle.ssb_groups.specs.Tallies.{block_cells, kept_numbers};
 ghost use Rattle.ssb_plan.specs.declared.input.Input.TheVariants as inputs;
+ghost use Rattle.ssb_terms.specs.declared.rule.ColType.TheVariants as kinds;
 
 use crate::alone::{alone, alone_all, apply_all, apply_numbers, is_itself};
-use crate::block_totals::{BlockTotals, Form};
-use crate::column::{cell, fill_cells, kind_at, list_numbers};
+use crate::block_totals::{BlockTotals, Listing};
+use crate::column::{cell, fill_cells, kind_at};
 use crate::evaluate::number;
+use crate::numbers::list_numbers;
 use crate::pair::{Pair, pair_of};
 use crate::room::Room;
 use ssb_job::{Block, Job, JoinedRow};
@@ -161,7 +163,7 @@ fn gather_pairs(
 
 // Fills a list with an aggregate over each combination of a block alone, by loops over columns. Whether there are such
 // loops for what it takes, and it is nowhere Over: if not, the list is of no matter.
-fn gather_plain(
+fn gather_cells(
     job: &Job,
     block: &Block,
     aggregate: &Aggregate<BoundColumn>,
@@ -188,7 +190,7 @@ fn gather_plain(
 }
 
 // Fills a list with COUNT(*) over each of so many combinations alone.
-fn number_rows(count: usize, numbers: &mut Vec<i64>) -> Result<(), AllocError>
+fn gather_count(count: usize, numbers: &mut Vec<i64>) -> Result<(), AllocError>
     ensures many { OnOk result (length numbers.new.items ≡ count) }
     ensures each { OnOk result ((n : ℕ) → n < count → get_or numbers.new.items n (pos 0) ≡ pos 1) }
 {
@@ -198,7 +200,7 @@ fn number_rows(count: usize, numbers: &mut Vec<i64>) -> Result<(), AllocError>
 
 // Fills a list with a column's values in the combinations of a block, if all are numbers, where a set function over one
 // alone is that one. Whether they are: if not, the list is of no matter.
-fn number_values(
+fn gather_value_numbers(
     job: &Job,
     block: &Block,
     column: ColumnRef,
@@ -206,13 +208,13 @@ fn number_values(
 ) -> Result<bool, AllocError>
     requires rows { All (IsCombination (from_tables job.now)) block.now }
     requires there { has_column job.now.query job.now.tables column ≡ true }
-    ensures { IfOk result (λ plain. (f : AnyFunction) (e : AnyExpr AnyColumn) → plain ≡ true → IsItself f → input_of job.now.query (aggregates.Of f e) ≡ inputs.Column column → AreTakenPlain job.now (aggregates.Of f e) block.now (kept_numbers numbers.new.items)) }
+    ensures { IfOk result (λ plain. (f : AnyFunction) (e : AnyExpr AnyColumn) → plain ≡ true → IsItself f kinds.Int → input_of job.now.query (aggregates.Of f e) ≡ inputs.Column column → AreTakenPlain job.now (aggregates.Of f e) block.now (kept_numbers numbers.new.items)) }
 {
     list_numbers(job.tables(), block, column, numbers)
 }
 
 // The same of an expression of two columns.
-fn number_pairs(
+fn gather_pair_numbers(
     job: &Job,
     block: &Block,
     pair: Pair,
@@ -222,7 +224,7 @@ fn number_pairs(
     requires rows { All (IsCombination (from_tables job.now)) block.now }
     requires left { has_column job.now.query job.now.tables pair.left ≡ true }
     requires right { has_column job.now.query job.now.tables pair.right ≡ true }
-    ensures { IfOk result (λ plain. (f : AnyFunction) (e : AnyExpr AnyColumn) (x : AnyExpr ColumnRef) → plain ≡ true → IsItself f → input_of job.now.query (aggregates.Of f e) ≡ inputs.Number x → IsPairOf x pair → AreTakenPlain job.now (aggregates.Of f e) block.now (kept_numbers numbers.new.items)) }
+    ensures { IfOk result (λ plain. (f : AnyFunction) (e : AnyExpr AnyColumn) (x : AnyExpr ColumnRef) → plain ≡ true → IsItself f kinds.Int → input_of job.now.query (aggregates.Of f e) ≡ inputs.Number x → IsPairOf x pair → AreTakenPlain job.now (aggregates.Of f e) block.now (kept_numbers numbers.new.items)) }
 {
     if !list_numbers(job.tables(), block, pair.left, numbers)? {
         return Ok(false);
@@ -234,7 +236,7 @@ fn number_pairs(
 }
 
 // The same of an input.
-fn number_input(
+fn gather_input_numbers(
     job: &Job,
     block: &Block,
     input: &Input,
@@ -243,20 +245,20 @@ fn number_input(
 ) -> Result<bool, AllocError>
     requires rows { All (IsCombination (from_tables job.now)) block.now }
     requires there { list_all (has_column job.now.query job.now.tables) (input_columns input.now) ≡ true }
-    ensures { IfOk result (λ plain. (f : AnyFunction) (e : AnyExpr AnyColumn) → plain ≡ true → IsItself f → input_of job.now.query (aggregates.Of f e) ≡ input.now → AreTakenPlain job.now (aggregates.Of f e) block.now (kept_numbers numbers.new.items)) }
+    ensures { IfOk result (λ plain. (f : AnyFunction) (e : AnyExpr AnyColumn) → plain ≡ true → IsItself f kinds.Int → input_of job.now.query (aggregates.Of f e) ≡ input.now → AreTakenPlain job.now (aggregates.Of f e) block.now (kept_numbers numbers.new.items)) }
 {
     match input {
-        Input::Column(column) => number_values(job, block, *column, numbers),
+        Input::Column(column) => gather_value_numbers(job, block, *column, numbers),
         Input::Number(expr) => match pair_of(expr) {
-            Some(pair) => number_pairs(job, block, pair, right, numbers),
+            Some(pair) => gather_pair_numbers(job, block, pair, right, numbers),
             None => Ok(false),
         },
         Input::Rows => Ok(false),
     }
 }
 
-// Fills a list with an aggregate over each combination of a block alone, if it is COUNT(*), or is over numbers of columns
-// without nulls that are nowhere Over. Whether it is: if not, the list is of no matter.
+// Fills a list with an aggregate over each combination of a block alone, if it is COUNT(*), or SUM, MIN or MAX over
+// numbers of columns without nulls that are nowhere Over. Whether it is: if not, the list is of no matter.
 fn gather_numbers(
     job: &Job,
     block: &Block,
@@ -272,14 +274,14 @@ fn gather_numbers(
 {
     match aggregate {
         Aggregate::Rows => {
-            number_rows(block.len(), numbers)?;
+            gather_count(block.len(), numbers)?;
             Ok(true)
         }
         Aggregate::Of(function, _) => {
             if !is_itself(*function, ColType::Int) {
                 return Ok(false);
             }
-            number_input(job, block, input, &mut room.right_numbers, numbers)
+            gather_input_numbers(job, block, input, &mut room.right_numbers, numbers)
         }
     }
 }
@@ -341,11 +343,11 @@ fn gather_column(
 {
     let (aggregate, input) = aggregate_at(job, place);
     if gather_numbers(job, block, aggregate, input, room, &mut totals.numbers)? {
-        totals.form = Form::Numbers;
+        totals.listing = Listing::Numbers;
         return Ok(so_far);
     }
-    totals.form = Form::Cells;
-    if gather_plain(job, block, aggregate, input, room, &mut totals.cells)? {
+    totals.listing = Listing::Cells;
+    if gather_cells(job, block, aggregate, input, room, &mut totals.cells)? {
         return Ok(so_far);
     }
     gather_rows(job, block, aggregate, input, so_far, &mut totals.cells)

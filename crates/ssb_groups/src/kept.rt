@@ -34,9 +34,9 @@ pub(crate) fn wide(high: i32, low: u64) -> i128
     i128::from(high) * BEYOND_LOW + i128::from(low)
 }
 
-// The sum of a number of up to 96 bits and another. A greater sum may become another, but no caller has one.
+// The sum of two numbers, where 96 bits hold it.
 #[inline(always)]
-pub(crate) fn plus(total: i128, more: i128) -> i128
+pub(crate) fn wide_sum(total: i128, more: i128) -> i128
     ensures { FitsSum (total +ℤ more) → result ≡ total +ℤ more }
 {
     total.wrapping_add(more)
@@ -62,7 +62,7 @@ impl KeptTotal {
         ensures number { FitsSum (wide high low +ℤ more) → kept_total result ≡ kept.Number (wide high low +ℤ more) }
         ensures kept { (values : List Cell) → IsKept values (kept_total result) }
     {
-        KeptTotal::of_number(plus(wide(high, low), more))
+        KeptTotal::of_number(wide_sum(wide(high, low), more))
     }
 
     // What stands for a value, as that of an aggregate.

@@ -4,11 +4,11 @@
 //!   `add_block`, `merge`; [`Group`] and [`Total`], which they lend.
 //! - Callers: `ssb_pipeline`, whose parts hold groups; `ssb_rows`, which makes rows of them.
 //! - Files: `groups`, `store`, `table`; `places`, `guesses`, `room`: where keys stand; `key`, `keys`, `column`,
-//!   `columns`, `domains`: keys; `gather`, `block_totals`, `alone`, `pair`, `evaluate`, `outcome`: what a block
-//!   adds; `kept`, `totals`, `tallies`, `joining`: aggregates.
+//!   `columns`, `domains`: keys; `gather`, `numbers`, `block_totals`, `alone`, `pair`, `evaluate`,
+//!   `outcome`: what a block adds; `kept`, `totals`, `tallies`, `joining`: aggregates.
 //! - Definitions: `Value`, `Aggregates`, `Rows`, `Seen`, `Stands`, `Added`: what groups stand for; `Keys`,
-//!   `GroupKeys`, `Refs`, `Places`, `Tallies`, `Joining`, `Gathering`, `Alone`, `Pairs`, `Outcomes`, `Totals`: how they
-//!   are kept.
+//!   `GroupKeys`, `Refs`, `Places`, `Tallies`, `Joining`, `Gathering`, `Alone`, `Pairs`, `Outcomes`,
+//!   `Totals`: how they are kept.
 #![tactic(auto)]
 
 mod alone;
@@ -24,6 +24,7 @@ mod joining;
 mod kept;
 mod key;
 mod keys;
+mod numbers;
 mod outcome;
 mod pair;
 mod places;

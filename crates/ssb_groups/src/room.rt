@@ -12,7 +12,7 @@ pub(crate) struct Room {
     pub(crate) cells: Vec<Kept>,
     /// What stands for the values of a second column.
     pub(crate) right_cells: Vec<Kept>,
-    /// These values, where all are numbers.
+    /// The numbers of a second column that has no null.
     pub(crate) right_numbers: Vec<i64>,
     /// The number of each combination's key.
     pub(crate) numbers: Vec<u64>,

@@ -31,7 +31,7 @@ fn no_tallies(alloc: Global, count: usize) -> Result<Vec<Tally>, AllocError>
     ensures many { IfOk result (λ tallies. length tallies.items ≡ count) }
     ensures none { IfOk result (λ tallies. (i : ℕ) → get_or (lists tallies.items) i [] ≡ []) }
 {
-    let mut tallies = Vec::new(alloc);
+    let mut tallies = Vec::with_capacity(alloc, count)?;
     for _ in 0..count {
         tallies.push(Vec::new(alloc))?;
     }

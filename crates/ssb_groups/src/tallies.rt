@@ -3,19 +3,19 @@
 ghost use Rattle.std.specs.Prelude.{◌≡◌, ℕ, ◌<◌, ◌≤◌, List, [], get_or, length, map, OnOk};
 ghost use Rattle.std.specs.List.{All};
 ghost use Rattle.ssb_cells.specs.Tables.{Columns as AnyColumns};
-ghost use Rattle.ssb_groups.specs.Joining.{IsJoining, values_by};
+ghost use Rattle.ssb_groups.specs.Joining.{AddsAs, IsJoining, values_by};
 ghost use Rattle.ssb_groups.specs.Keys.{IsKept, kept_total};
 ghost use Rattle.ssb_groups.specs.Places.{AreGrown, AreJoined, ArePlacesOf, IsJoined};
-ghost use Rattle.ssb_groups.specs.Tallies.{AreAdded, GoesOn, IsAdded, block_cells, kept_numbers, kept_totals, lists, tally_cells};
+ghost use Rattle.ssb_groups.specs.Tallies.{AreAdded, IsAdded, block_cells, kept_numbers, kept_totals, lists, tally_cells};
 ghost use Rattle.ssb_groups.specs.declared.joining.Joining.TheVariants as joining;
 ghost use Rattle.ssb_groups.specs.declared.kept.KeptTotal.TheVariants as totals;
 ghost use Rattle.ssb_keys.specs.declared.kept.Kept.{Kept as AnyKept};
 ghost use Rattle.ssb_keys.specs.declared.kept.Kept.TheVariants as kept;
 
-use crate::block_totals::{BlockTotals, Form};
+use crate::block_totals::{BlockTotals, Listing};
 use crate::columns::Columns;
 use crate::joining::{Joining, add_alone};
-use crate::kept::{KeptTotal, plus, wide};
+use crate::kept::{KeptTotal, wide, wide_sum};
 use ssb_cells::Table;
 use ssb_keys::Kept;
 use std::alloc::AllocError;
@@ -48,18 +48,18 @@ fn add_all(tally: &mut [KeptTotal], places: &[usize], more: &[Kept])
     tally[place] = total;
 }
 
-// The number from which a sum goes on: none yet is 0.
-fn number_of(total: KeptTotal) -> i128
+// The number to which a sum has come: where there is none yet, 0.
+fn number_so_far(total: KeptTotal) -> i128
     requires { IsKept [] (kept_total total) }
-    ensures { GoesOn (kept_total total) result }
+    ensures { AddsAs (kept_total total) result }
 {
     match total {
         KeptTotal::Number { high, low } => wide(high, low),
-        _ => 0,
+        KeptTotal::Null | KeptTotal::Code(_) => 0,
     }
 }
 
-// The same of numbers. The total at one place is kept as a number of 128 bits until another place comes.
+// As `add_all`, of numbers: the total at one place is a number of 128 bits until another place comes.
 fn add_numbers(tally: &mut [KeptTotal], places: &[usize], more: &[i64])
     requires places { All (λ p. p < length tally.old) places.now }
     requires beside { length places.now ≤ length more.now }
@@ -70,14 +70,14 @@ fn add_numbers(tally: &mut [KeptTotal], places: &[usize], more: &[i64])
         return;
     }
     let mut place = places[0];
-    let mut total = number_of(tally[place]);
+    let mut total = number_so_far(tally[place]);
     for at in 0..places.len() {
         if places[at] != place {
             tally[place] = KeptTotal::of_number(total);
             place = places[at];
-            total = number_of(tally[place]);
+            total = number_so_far(tally[place]);
         }
-        total = plus(total, i128::from(more[at]));
+        total = wide_sum(total, i128::from(more[at]));
     }
     tally[place] = KeptTotal::of_number(total);
 }
@@ -176,9 +176,9 @@ impl Joins for BlockTotals {
         places: &[usize],
         more: &BlockTotals,
     ) {
-        match more.form {
-            Form::Cells => join_cells(tables, joining, tally, places, &more.cells),
-            Form::Numbers => join_numbers(tables, joining, tally, places, &more.numbers),
+        match more.listing {
+            Listing::Cells => join_cells(tables, joining, tally, places, &more.cells),
+            Listing::Numbers => join_numbers(tables, joining, tally, places, &more.numbers),
         }
     }
 }

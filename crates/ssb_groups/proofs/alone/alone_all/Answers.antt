@@ -6,7 +6,7 @@ use Rattle.ssb_groups.proofs.TallyFacts.{done-more}
 use Rattle.ssb_groups.proofs.alone.alone_all.Goals as goal
 
 pub returns-then-is_itself : goal.returns-then-is_itself
-returns-then-is_itself c = record { many = refl; each = λ n lt. c.is_itself.ensures (get_or c.args.cells.now n kept.Null) c.if-is_itself.true (c.requires n lt) }
+returns-then-is_itself c = record { many = refl; each = λ n lt. c.is_itself.ensures c.if-is_itself.true (get_or c.args.cells.now n kept.Null) (c.requires n lt) }
 
 pub loop-at-preserved : goal.loop-at-preserved
 loop-at-preserved c =

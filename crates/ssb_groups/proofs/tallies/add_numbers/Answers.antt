@@ -6,7 +6,8 @@ use Rattle.ssb_cells.specs.Tables.{Columns}
 use Rattle.ssb_groups.specs.Keys.{FitsSum, kept_total}
 use Rattle.ssb_keys.specs.declared.kept.Kept.{Kept}
 use Rattle.ssb_groups.specs.declared.kept.KeptTotal.{KeptTotal}
-use Rattle.ssb_groups.specs.Tallies.{GoesOn, kept_numbers}
+use Rattle.ssb_groups.specs.Joining.{AddsAs}
+use Rattle.ssb_groups.specs.Tallies.{kept_numbers}
 use Rattle.ssb_groups.specs.declared.joining.Joining.TheVariants as joining
 use Rattle.ssb_groups.specs.declared.kept.KeptTotal.TheVariants as total
 use Rattle.ssb_groups.proofs.NumberFacts.{Adding, Shows, adds-next, adds-shown, filled, fits-64, number-at, started}
@@ -28,12 +29,12 @@ pub loop-at-init : goal.loop-at-init
 loop-at-init c =
     let tally = c.args.tally.now in
     let place = get_or c.args.places.now 0 0 in
-    let same : to_z w128 (of_z w128 c.number_of-total.result) ≡ c.number_of-total.result = search rules in
+    let same : to_z w128 (of_z w128 c.number_so_far-total.result) ≡ c.number_so_far-total.result = search rules in
     let some = filled c.args.places.now (sym c.is_empty.ensures ∙ c.if-is_empty.false) in
     record {
       now = record {
         sum = get_or tally place total.Null;
-        goes = subst (GoesOn (kept_total (get_or tally place total.Null))) (sym same) c.number_of-total.ensures;
+        goes = subst (AddsAs (kept_total (get_or tally place total.Null))) (sym same) c.number_so_far-total.ensures;
         kept = c.requires.kept place;
         joined = λ tables.
             subst (λ xs. JoinedTo tables joining.Adds c.args.places.now (kept_numbers c.args.more.now) tally xs 0) (sym (set-get_or tally place total.Null)) (joined-none tables joining.Adds c.args.places.now (kept_numbers c.args.more.now) tally c.requires.kept);
@@ -43,8 +44,8 @@ loop-at-init c =
       within = c.requires.places 0 0 some;
     }
 
-pub number_of-total-requires-then-places-at : goal.number_of-total-requires-then-places-at
-number_of-total-requires-then-places-at c =
+pub number_so_far-total-requires-then-places-at : goal.number_so_far-total-requires-then-places-at
+number_so_far-total-requires-then-places-at c =
     let l = c.loop-at in
     let shows : Shows c.of_number.result (to_z w128 l.total-bits) = record { number = c.of_number.ensures.number; kept = c.of_number.ensures.kept [] } in
     (l.invariant.written [] c.of_number.result (started c.args.places.now l.place l.at l.invariant.first c.if-places-at.true) shows).kept (get_or c.args.places.now l.at 0)
@@ -65,18 +66,18 @@ loop-at-preserved c =
     let s = to_z w128 i.total-bits in
     let read : to_z w64 (of_z w64 n) ≡ n = search rules in
     let from : to_z w128 (of_z w128 c.from.result) ≡ c.from.result = search rules in
-    let after : to_z w128 (of_z w128 c.plus-total.result) ≡ c.plus-total.result = search rules in
+    let after : to_z w128 (of_z w128 c.wide_sum-total.result) ≡ c.wide_sum-total.result = search rules in
     let fits : FitsSigned w64 n = search rules in
     let is : to_z w128 (of_z w128 c.from.result) ≡ n = from ∙ c.from.ensures ∙ read in
-    let sum : FitsSum (s +ℤ n) → to_z w128 (of_z w128 c.plus-total.result) ≡ s +ℤ n =
-    λ h. after ∙ subst (λ m. FitsSum (s +ℤ m) → c.plus-total.result ≡ s +ℤ m) is c.plus-total.ensures h in
+    let sum : FitsSum (s +ℤ n) → to_z w128 (of_z w128 c.wide_sum-total.result) ≡ s +ℤ n =
+    λ h. after ∙ subst (λ m. FitsSum (s +ℤ m) → c.wide_sum-total.result ≡ s +ℤ m) is c.wide_sum-total.ensures h in
     let here : Reached places more before i.tally i.place l.at s =
     elim c.if-places-at.branch [
       | then-places-at w ↦
           let z = w.of_number.result in
           let now = set l.tally l.place z in
           let q = get_or places l.at 0 in
-          let number = w.number_of-total-then-places-at.result in
+          let number = w.number_so_far-total-then-places-at.result in
           let read : to_z w128 (of_z w128 number) ≡ number = search rules in
           let shows : Shows z (to_z w128 l.total-bits) = record { number = w.of_number.ensures.number; kept = w.of_number.ensures.kept [] } in
           let some = started places l.place l.at l.invariant.first w.if-places-at.true in
@@ -84,7 +85,7 @@ loop-at-preserved c =
           let adding : Adding places more before now q l.at (to_z w128 (of_z w128 number)) =
           record {
             sum = get_or now q total.Null;
-            goes = subst (GoesOn (kept_total (get_or now q total.Null))) (sym read) w.number_of-total-then-places-at.ensures;
+            goes = subst (AddsAs (kept_total (get_or now q total.Null))) (sym read) w.number_so_far-total-then-places-at.ensures;
             kept = (to []).kept q;
             joined = λ tables. subst (λ xs. JoinedTo tables joining.Adds places more before xs l.at) (sym (set-get_or now q total.Null)) (to tables);
           } in
@@ -94,8 +95,8 @@ loop-at-preserved c =
     ] in
     let inside : i.place < length i.tally = omega (arith, here.within, same, long) in
     record {
-      now = adds-next places more before i.tally i.place l.at s n (to_z w128 (of_z w128 c.plus-total.result)) c.requires.places lt inside here.place-is (number-at c.args.more.now l.at (omega (arith, lt, beside))) (fits-64 n fits) sum here.now;
-      written = λ tables x some shows. adds-shown places more before i.tally i.place l.at s n (to_z w128 (of_z w128 c.plus-total.result)) c.requires.places lt inside here.place-is (number-at c.args.more.now l.at (omega (arith, lt, beside))) (fits-64 n fits) sum here.now tables x shows;
+      now = adds-next places more before i.tally i.place l.at s n (to_z w128 (of_z w128 c.wide_sum-total.result)) c.requires.places lt inside here.place-is (number-at c.args.more.now l.at (omega (arith, lt, beside))) (fits-64 n fits) sum here.now;
+      written = λ tables x some shows. adds-shown places more before i.tally i.place l.at s n (to_z w128 (of_z w128 c.wide_sum-total.result)) c.requires.places lt inside here.place-is (number-at c.args.more.now l.at (omega (arith, lt, beside))) (fits-64 n fits) sum here.now tables x shows;
       first = λ e. absurd (omega (arith, e));
       within = here.within;
     }

@@ -1,6 +1,6 @@
 use Rattle.std.proofs.Common.{arith}
 use Rattle.ssb_groups.proofs.NumberFacts.{numbers-of-kind}
-use Rattle.ssb_groups.proofs.column.read_numbers.Goals as goal
+use Rattle.ssb_groups.proofs.numbers.copy_numbers.Goals as goal
 
 pub returns-clause-kinds : goal.returns-clause-kinds
 returns-clause-kinds c =

@@ -3,7 +3,7 @@ use Rattle.ssb_cells.specs.Cell.{Cell, number}
 use Rattle.ssb_cells.specs.Lent.{AreNulls, AreNumbers}
 use Rattle.ssb_cells.specs.PackedLent.{numbers_in}
 use Rattle.ssb_groups.specs.Value.{in_range}
-use Rattle.ssb_groups.proofs.column.read_numbers.Given as goal
+use Rattle.ssb_groups.proofs.numbers.copy_numbers.Given as goal
 
 abbrev pub invariant-loop-at : goal.invariant-loop-at
 invariant-loop-at l =

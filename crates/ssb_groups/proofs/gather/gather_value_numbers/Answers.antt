@@ -4,7 +4,7 @@ use Rattle.ssb_groups.specs.Tallies.{kept_numbers}
 use Rattle.ssb_groups.proofs.ColumnFacts.{if-ok, place-row}
 use Rattle.ssb_groups.proofs.NumberFacts.{numbers-alone}
 use Rattle.ssb_groups.proofs.PlainFacts.{values-plain}
-use Rattle.ssb_groups.proofs.gather.number_values.Goals as goal
+use Rattle.ssb_groups.proofs.gather.gather_value_numbers.Goals as goal
 
 pub list_numbers-requires-clause-rows : goal.list_numbers-requires-clause-rows
 list_numbers-requires-clause-rows c = λ k d lt.

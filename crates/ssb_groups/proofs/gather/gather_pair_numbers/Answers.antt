@@ -8,7 +8,7 @@ use Rattle.ssb_groups.specs.Tallies.{kept_numbers}
 use Rattle.ssb_keys.specs.declared.kept.Kept.TheVariants as kept
 use Rattle.ssb_groups.proofs.ColumnFacts.{place-row, place-there}
 use Rattle.ssb_groups.proofs.PlainFacts.{pairs-plain}
-use Rattle.ssb_groups.proofs.gather.number_pairs.Goals as goal
+use Rattle.ssb_groups.proofs.gather.gather_pair_numbers.Goals as goal
 
 pub list_numbers-requires-clause-rows : goal.list_numbers-requires-clause-rows
 list_numbers-requires-clause-rows c = λ k d lt.

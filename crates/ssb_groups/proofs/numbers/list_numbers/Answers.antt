@@ -6,7 +6,7 @@ use Rattle.ssb_groups.specs.Refs.{AreCellsOf}
 use Rattle.ssb_groups.specs.Tallies.{kept_numbers}
 use Rattle.ssb_keys.specs.declared.kept.Kept.TheVariants as kept
 use Rattle.ssb_groups.proofs.ColumnFacts.{cells-of-block, table-here, values-here}
-use Rattle.ssb_groups.proofs.column.list_numbers.Goals as goal
+use Rattle.ssb_groups.proofs.numbers.list_numbers.Goals as goal
 
 pub returns-clause-cells : goal.returns-clause-cells
 returns-clause-cells c = λ yes.
@@ -14,8 +14,8 @@ returns-clause-cells c = λ yes.
     let r = c.args.column in
     let block = c.args.block.now in
     let v = c.resize.new.self in
-    let ns = c.read_column.new.numbers in
-    let are = c.read_column.ensures.values in
+    let ns = c.copy_column_numbers.new.numbers in
+    let are = c.copy_column_numbers.ensures.values in
     let many = are.many in
     let size = c.as_mut_slice.ensures.len in
     let written : (with_items v ns).items ≡ ns = with_items_is v ns (omega (arith, many, size, length-map ns kept.Number)) in

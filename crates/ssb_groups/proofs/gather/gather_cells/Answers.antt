@@ -2,7 +2,7 @@ use Rattle.std.proofs.Common.{◌≡◌, ◌∙◌, ◌&&◌, true, ap, subst, s
 use Rattle.std.specs.List.{list_all}
 use Rattle.ssb_plan.specs.Inputs.{has_column, input_columns}
 use Rattle.ssb_trees.proofs.Taken.{both}
-use Rattle.ssb_groups.proofs.gather.gather_plain.Goals as goal
+use Rattle.ssb_groups.proofs.gather.gather_cells.Goals as goal
 
 pub gather_pairs-requires-clause-right : goal.gather_pairs-requires-clause-right
 gather_pairs-requires-clause-right c =

@@ -1,6 +1,7 @@
 pub mod Added
 pub mod Aggregates
 pub mod Alone
+pub mod Digits
 pub mod Gathering
 pub mod GroupKeys
 pub mod Joining

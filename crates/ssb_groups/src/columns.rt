@@ -16,7 +16,8 @@ ghost use Rattle.ssb_groups.specs.Refs.{IsColumn, IsSomeColumn, values_at};
 ghost use Rattle.ssb_groups.specs.Totals.{total_cell};
 ghost use Rattle.ssb_groups.specs.declared.kept.KeptTotal.TheVariants as totals;
 
-use crate::column::{cell_in, fill_cells, text_in};
+use crate::column::{cell_in, text_in};
+use crate::digits::add_column;
 use crate::domains::domains_of;
 use crate::joining::Joining;
 use crate::kept::{KeptTotal, wide};
@@ -25,7 +26,7 @@ use crate::tallies::Tally;
 use crate::totals::Total;
 use ssb_cells::{Table, Value};
 use ssb_job::{Block, Job, JoinedRow};
-use ssb_keys::{Domain, Kept, add_digits};
+use ssb_keys::{Domain, Kept};
 use ssb_plan::ColumnRef;
 use std::alloc::{AllocError, Global};
 use std::marker::Model;
@@ -209,7 +210,6 @@ impl Columns {
         &self,
         domains: &[Domain],
         block: &Block,
-        cells: &mut Vec<Kept>,
         numbers: &mut Vec<u64>,
     ) -> Result<(), AllocError>
         requires domains { HasDomains self.now domains.now }
@@ -223,8 +223,7 @@ impl Columns {
         numbers.resize(block.len(), 0)?;
         for done in 0..count {
             let at = count - 1 - done;
-            fill_cells(tables, block, keys[at], cells)?;
-            add_digits(domains[at], cells.as_slice(), numbers.as_mut_slice());
+            add_column(tables, block, keys[at], domains[at], numbers.as_mut_slice());
         }
         Ok(())
     }

@@ -4,10 +4,10 @@
 //!   `add_block`, `merge`; [`Group`] and [`Total`], which they lend.
 //! - Callers: `ssb_pipeline`, whose parts hold groups; `ssb_rows`, which makes rows of them.
 //! - Files: `groups`, `store`, `table`; `places`, `guesses`, `room`: where keys stand; `key`, `keys`, `column`,
-//!   `columns`, `domains`: keys; `gather`, `numbers`, `block_totals`, `alone`, `pair`, `evaluate`,
+//!   `columns`, `digits`, `domains`: keys; `gather`, `numbers`, `block_totals`, `alone`, `pair`, `evaluate`,
 //!   `outcome`: what a block adds; `kept`, `totals`, `tallies`, `joining`: aggregates.
 //! - Definitions: `Value`, `Aggregates`, `Rows`, `Seen`, `Stands`, `Added`: what groups stand for; `Keys`,
-//!   `GroupKeys`, `Refs`, `Places`, `Tallies`, `Joining`, `Gathering`, `Alone`, `Pairs`, `Outcomes`,
+//!   `GroupKeys`, `Refs`, `Digits`, `Places`, `Tallies`, `Joining`, `Gathering`, `Alone`, `Pairs`, `Outcomes`,
 //!   `Totals`: how they are kept.
 #![tactic(auto)]
 
@@ -15,6 +15,7 @@ mod alone;
 mod block_totals;
 mod column;
 mod columns;
+mod digits;
 mod domains;
 mod evaluate;
 mod gather;

@@ -55,7 +55,7 @@ fn open_block(
     ensures opened { OnOk result (OpenAll columns.now (keys_in keys.old) (keys_in keys.new) (map (key_at columns.now) block.now) room.new.places.items) }
 {
     if let Some(domains) = columns.domains() {
-        columns.number_keys(domains, block, &mut room.cells, &mut room.numbers)?;
+        columns.number_keys(domains, block, &mut room.numbers)?;
         return open_numbers(
             columns,
             keys,

@@ -34,14 +34,14 @@ impl Domain {
         }
     }
 
-    /// The number of a value of this domain.
-    pub fn digit(self, cell: Kept) -> u64
-        requires there { IsIn self cell }
-        ensures { result ≡ spec.digit self cell }
+    /// The number of a value, if it is one of this domain.
+    #[inline(always)]
+    pub(crate) fn digit(self, cell: Kept) -> u64
+        ensures { IsIn self cell → result ≡ spec.digit self cell }
     {
         match (self, cell) {
             (Domain::Numbers { least, radix: _ }, Kept::Number(number)) => {
-                number.abs_diff(least) + 1
+                number.abs_diff(least).wrapping_add(1)
             }
             (Domain::Codes { radix: _ }, Kept::Code(code)) => u64::from(code) + 1,
             _ => 0,

@@ -1,7 +1,7 @@
 //! Keys as numbers: what stands for the values of several columns, as one number.
 //!
 //! - Offers: [`Kept`], what stands for a value; [`Domain`], the values that a column may have, as the numbers below a
-//!   radix; [`add_digits`], by which many numbers take a digit more.
+//!   radix; [`add_digit`], by which a number takes a digit more.
 //! - Callers: `ssb_groups`, whose groups have such keys.
 //! - Apart: it knows no table and no query, so arithmetic is proved here alone.
 //! - Files: `kept`; `domain`; `numbers`.
@@ -14,4 +14,4 @@ pub mod numbers;
 
 pub use domain::Domain;
 pub use kept::Kept;
-pub use numbers::add_digits;
+pub use numbers::add_digit;

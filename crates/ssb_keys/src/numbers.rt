@@ -1,20 +1,18 @@
 // The values of several columns, as one number.
 
-ghost use Rattle.std.specs.Prelude.{◌≡◌, ◌<◌, ◌+◌, ◌*◌, ℕ, get_or, length};
+ghost use Rattle.std.specs.Prelude.{◌≡◌, ◌+◌, ◌*◌};
 ghost use Rattle.ssb_keys.specs.Domains.{HasDigit, digit, radix};
-ghost use Rattle.ssb_keys.specs.declared.kept.Kept.TheVariants as kept;
 
 use crate::domain::Domain;
 use crate::kept::Kept;
 
-/// Puts the digit of a value of this domain below the digits of each number. There may be 2^62 numbers.
-pub fn add_digits(domain: Domain, cells: &[Kept], numbers: &mut [u64])
-    requires many { length numbers.old ≡ length cells.now }
-    requires room { (n : ℕ) → n < length cells.now → HasDigit domain (get_or numbers.old n 0) (get_or cells.now n kept.Null) }
-    ensures many { length numbers.new ≡ length numbers.old }
-    ensures each { (n : ℕ) → n < length cells.now → get_or numbers.new n 0 ≡ get_or numbers.old n 0 * radix domain + digit domain (get_or cells.now n kept.Null) }
+/// The number that has the digit of a value below the digits of another, where a domain has the value and there are at
+/// most 2^62 numbers.
+#[inline(always)]
+pub fn add_digit(domain: Domain, number: u64, cell: Kept) -> u64
+    ensures { HasDigit domain number cell → result ≡ number * radix domain + digit domain cell }
 {
-    for at in 0..numbers.len() {
-        numbers[at] = numbers[at] * domain.radix() + domain.digit(cells[at]);
-    }
+    number
+        .wrapping_mul(domain.radix())
+        .wrapping_add(domain.digit(cell))
 }

@@ -1,5 +1,5 @@
-use Rattle.std.proofs.Common.{◌≡◌, ◌∙◌, ◌<◌, ◌^◌, ◌+◌, ◌*◌, ◌-◌, ℕ, pos, suc, true, List, [], length, get_or, map, slice_get, Some, ap, subst, sym, arith}
-use Rattle.std.specs.List.{All, list_all}
+use Rattle.std.proofs.Common.{◌≡◌, ◌∙◌, ◌<◌, ◌^◌, ◌+◌, ◌*◌, ◌-◌, ℕ, pos, suc, true, List, [], length, get_or, map, refl, ap, subst, sym, arith}
+use Rattle.std.specs.List.{list_all}
 use Rattle.std.specs.Vec.{with_items}
 use Rattle.std.proofs.lemmas.List.{get_or-map, length-map, with_items_is}
 use Rattle.std.proofs.lemmas.Option.{get_or_from_slice_get, slice_get-get_or, slice_get_within}
@@ -13,7 +13,8 @@ use Rattle.ssb_keys.specs.declared.kept.Kept.TheVariants as kept
 use Rattle.ssb_plan.specs.Inputs.{column_ref, has_column}
 use Rattle.ssb_plan.specs.JobShape.{JobShape, from_tables}
 use Rattle.ssb_plan.specs.declared.input.ColumnRef.{ColumnRef}
-use Rattle.ssb_groups.specs.Keys.{AreOfKind, HasDomains, HasNumbers, IsOfKind, domain_of, domains_of, key_cell, key_of, kind_of}
+use Rattle.ssb_groups.specs.Digits.{AddsCell}
+use Rattle.ssb_groups.specs.Keys.{HasDomains, HasNumbers, IsOfKind, domain_of, domains_of, key_cell, key_of, kind_of}
 use Rattle.ssb_groups.specs.Refs.{HasRow, IsColumn, cell_in}
 use Rattle.ssb_groups.proofs.ColumnFacts.{each-there, nowhere, place-cells, place-row, place-there}
 use Rattle.ssb_groups.proofs.NumberedKeys.{IsNumberFrom, has-room, one-more}
@@ -63,15 +64,15 @@ module _ (j : JobShape) (tables : List Columns) (rs : List ColumnRef) (are : Are
         let keys = length-map j.query.groups (key_cell (from_tables j) rows) in
         (omega (arith, lt, refs, domains), omega (arith, lt, refs, groups, keys))
 
-    after : IsNumberFrom (domains_of j) at (key_of j rows) (n * radix (get_or (domains_of j) at x) + digit (get_or (domains_of j) at x) c)
-    after =
+    after-digit : IsNumberFrom (domains_of j) at (key_of j rows) (n * radix (get_or (domains_of j) at x) + digit (get_or (domains_of j) at x) c)
+    after-digit =
         subst (λ y. IsNumberFrom (domains_of j) at (key_of j rows) (n * radix (get_or (domains_of j) at x) + digit (get_or (domains_of j) at x) y)) same-cell
         (one-more (domains_of j) (key_of j rows) at n x kept.Null below.0 below.1 before (subst (IsIn (get_or (domains_of j) at x)) (sym same-cell) among))
 
     room : HasNumbers j → HasDigit (get_or (domains_of j) at x) n c
     room few = record {
       there = among;
-      room = has-room j.tables (map (column_ref j.query) j.query.groups) (key_of j rows) at _ (2 ^ 62) after few;
+      room = has-room j.tables (map (column_ref j.query) j.query.groups) (key_of j rows) at _ (2 ^ 62) after-digit few;
     }
 
 -- the same of the job that the columns are seen as
@@ -89,58 +90,27 @@ within j tables rs ds done are domains lt =
     let all = ap length domains.domains in
     omega (arith, same, all, lt, length-map (map (column_ref j.query) j.query.groups) (domain_of j.tables))
 
-pub fill_cells-requires-clause-column : goal.fill_cells-requires-clause-column
-fill_cells-requires-clause-column c =
+pub add_column-requires-clause-column : goal.add_column-requires-clause-column
+add_column-requires-clause-column c =
     let are = (refs c.self.inside.job.value c.args.self.now c.as_slice-tables.result.now c.self.inside.keys.items c.as_slice-keys.result.now c.self.view_is (c.as_slice-tables.ensures.value ∙ ap (λ v. v.items) c.deref.ensures ∙ c.self.invariant.tables) c.as_slice-keys.ensures.value c.self.invariant.keys c.self.invariant.there) in
     column-there c.args.self.now c.as_slice-tables.result.now c.as_slice-keys.result.now are (length c.args.domains.now - 1 - c.loop-done.done) nowhere (within c.args.self.now c.as_slice-tables.result.now c.as_slice-keys.result.now c.args.domains.now c.loop-done.done are c.requires.domains c.loop-done-test.true)
 
-pub fill_cells-requires-clause-rows : goal.fill_cells-requires-clause-rows
-fill_cells-requires-clause-rows c = λ k d lt.
+pub add_column-requires-clause-rows : goal.add_column-requires-clause-rows
+add_column-requires-clause-rows c = λ k d lt.
     let are = (refs c.self.inside.job.value c.args.self.now c.as_slice-tables.result.now c.self.inside.keys.items c.as_slice-keys.result.now c.self.view_is (c.as_slice-tables.ensures.value ∙ ap (λ v. v.items) c.deref.ensures ∙ c.self.invariant.tables) c.as_slice-keys.ensures.value c.self.invariant.keys c.self.invariant.there) in
     row-there c.args.self.now c.as_slice-tables.result.now c.as_slice-keys.result.now are (length c.args.domains.now - 1 - c.loop-done.done) nowhere (within c.args.self.now c.as_slice-tables.result.now c.as_slice-keys.result.now c.args.domains.now c.loop-done.done are c.requires.domains c.loop-done-test.true) (get_or c.args.block.now k d) (c.requires.rows k d lt)
 
 -- a number before and after its next digit
-record IsNext (j : JobShape) (ds : List Domain) (at : ℕ) (rows : List ℕ) (n : ℕ) (c : Kept) : Type 0 where
-  room : HasDigit (get_or ds at (domain.Numbers (pos 0) 0)) n c
-  after : IsNumberFrom (domains_of j) at (key_of j rows) (n * radix (get_or ds at (domain.Numbers (pos 0) 0)) + digit (get_or ds at (domain.Numbers (pos 0) 0)) c)
-
-next : (j : JobShape) (tables : List Columns) (rs : List ColumnRef) (ds : List Domain) (are : AreRefs j tables rs) (at from : ℕ) (lt : at < length rs) (step : from ≡ suc at) (domains : HasDomains j ds) (block : List (List ℕ)) (cells : List Kept) (ns : List ℕ)
-    → All (IsCombination (from_tables j)) block → cells ≡ map (λ rows. cell_in tables rows (get_or rs at nowhere)) block → AreOfKind (kind_of tables (get_or rs at nowhere)) cells
-    → ((n : ℕ) (rows : List ℕ) → slice_get block n ≡ Some rows → IsNumberFrom (domains_of j) from (key_of j rows) (get_or ns n 0))
-    → (n : ℕ) (rows : List ℕ) → slice_get block n ≡ Some rows → IsNext j ds at rows (get_or ns n 0) (get_or cells n kept.Null)
-next j tables rs ds are at from lt step domains block cells ns combs cells-are kinds before n rows there =
-    let inside : n < length block = slice_get_within block n rows there in
-    let row : get_or block n [] ≡ rows = get_or_from_slice_get block n rows [] there in
-    let long = ap length cells-are ∙ length-map block (λ rows. cell_in tables rows (get_or rs at nowhere)) in
-    let comb : IsCombination (from_tables j) rows = subst (IsCombination (from_tables j)) row (combs n [] inside) in
-    let cell : get_or cells n kept.Null ≡ cell_in tables rows (get_or rs at nowhere) =
-    ap (λ cs. get_or cs n kept.Null) cells-are ∙ get_or-map (λ rows. cell_in tables rows (get_or rs at nowhere)) block n [] kept.Null inside ∙ ap (λ rows. cell_in tables rows (get_or rs at nowhere)) row in
-    let kind = kinds n (omega (arith, inside, long)) in
-    let was = subst (λ k. IsNumberFrom (domains_of j) k (key_of j rows) (get_or ns n 0)) step (before n rows there) in
+next : (j : JobShape) (tables : List Columns) (rs : List ColumnRef) (ds : List Domain) (are : AreRefs j tables rs) (at from : ℕ) (lt : at < length rs) (step : from ≡ suc at) (domains : HasDomains j ds) (rows : List ℕ) (before after : ℕ)
+    → IsCombination (from_tables j) rows → IsNumberFrom (domains_of j) from (key_of j rows) before → AddsCell tables (get_or rs at nowhere) (get_or ds at (domain.Numbers (pos 0) 0)) rows before after
+    → IsNumberFrom (domains_of j) at (key_of j rows) after
+next j tables rs ds are at from lt step domains rows before after comb from-before adds =
     let x : Domain = domain.Numbers (pos 0) 0 in
-    record {
-      room = subst (λ es. HasDigit (get_or es at x) (get_or ns n 0) (get_or cells n kept.Null)) (sym domains.domains) (room j tables rs are at nowhere lt rows (get_or ns n 0) (get_or cells n kept.Null) comb cell kind was x domains.few);
-      after =
-          subst (λ es. IsNumberFrom (domains_of j) at (key_of j rows) (get_or ns n 0 * radix (get_or es at x) + digit (get_or es at x) (get_or cells n kept.Null))) (sym domains.domains)
-          (after j tables rs are at nowhere lt rows (get_or ns n 0) (get_or cells n kept.Null) comb cell kind was x);
-    }
-
-pub add_digits-requires-clause-room : goal.add_digits-requires-clause-room
-add_digits-requires-clause-room c = λ n lt.
-    let j = c.args.self.now in
-    let block = c.args.block.now in
-    let at = length c.args.domains.now - 1 - c.loop-done.done in
-    let tables = c.as_slice-tables.result.now in
-    let rs = c.as_slice-keys.result.now in
-    let cells = c.as_slice.result.now in
-    let are = (refs c.self.inside.job.value c.args.self.now c.as_slice-tables.result.now c.self.inside.keys.items c.as_slice-keys.result.now c.self.view_is (c.as_slice-tables.ensures.value ∙ ap (λ v. v.items) c.deref.ensures ∙ c.self.invariant.tables) c.as_slice-keys.ensures.value c.self.invariant.keys c.self.invariant.there) in
-    let lt-at = within j tables rs c.args.domains.now c.loop-done.done are c.requires.domains c.loop-done-test.true in
-    let many = ap length (c.as_slice.ensures.value ∙ c.in_ok-fill_cells.ensures.cells) ∙ length-map block (λ rows. cell_in tables rows (get_or rs at nowhere)) in
-    let from : length c.args.domains.now - c.loop-done.done ≡ suc at = omega (arith, c.loop-done-test.true) in
-    (next j tables rs c.args.domains.now are at (length c.args.domains.now - c.loop-done.done) lt-at from c.requires.domains block cells c.as_mut_slice.result.now c.requires.rows
-    (c.as_slice.ensures.value ∙ c.in_ok-fill_cells.ensures.cells) (subst (AreOfKind (kind_of tables (get_or rs at nowhere))) (sym c.as_slice.ensures.value) c.in_ok-fill_cells.ensures.kinds)
-    (λ m rows there. subst (λ ns. IsNumberFrom (domains_of j) (length c.args.domains.now - c.loop-done.done) (key_of j rows) (get_or ns m 0)) (sym c.as_mut_slice.ensures.value) (c.loop-done.invariant.each m rows there))
-    n (get_or block n []) (slice_get-get_or block n [] (omega (arith, many, lt)))).room
+    let c = cell_in tables rows (get_or rs at nowhere) in
+    let was = subst (λ k. IsNumberFrom (domains_of j) k (key_of j rows) before) step from-before in
+    let has : HasDigit (get_or ds at x) before c = subst (λ es. HasDigit (get_or es at x) before c) (sym domains.domains) (room j tables rs are at nowhere lt rows before c comb refl adds.kind_is was x domains.few) in
+    subst (IsNumberFrom (domains_of j) at (key_of j rows)) (sym (adds.digit_is has))
+    (subst (λ es. IsNumberFrom (domains_of j) at (key_of j rows) (before * radix (get_or es at x) + digit (get_or es at x) c)) (sym domains.domains) (after-digit j tables rs are at nowhere lt rows before c comb refl adds.kind_is was x))
 
 pub loop-done-preserved : goal.loop-done-preserved
 loop-done-preserved c =
@@ -149,15 +119,13 @@ loop-done-preserved c =
     let at = length c.args.domains.now - 1 - c.loop-done.done in
     let tables = c.as_slice-tables.result.now in
     let rs = c.as_slice-keys.result.now in
-    let cells = c.as_slice.result.now in
     let are = (refs c.self.inside.job.value c.args.self.now c.as_slice-tables.result.now c.self.inside.keys.items c.as_slice-keys.result.now c.self.view_is (c.as_slice-tables.ensures.value ∙ ap (λ v. v.items) c.deref.ensures ∙ c.self.invariant.tables) c.as_slice-keys.ensures.value c.self.invariant.keys c.self.invariant.there) in
     let lt-at = within j tables rs c.args.domains.now c.loop-done.done are c.requires.domains c.loop-done-test.true in
     let v = c.loop-done.numbers in
-    let x = c.add_digits.new.numbers in
-    let many = ap length (c.as_slice.ensures.value ∙ c.in_ok-fill_cells.ensures.cells) ∙ length-map block (λ rows. cell_in tables rows (get_or rs at nowhere)) in
+    let x = c.add_column.new.keys in
     let from : length c.args.domains.now - c.loop-done.done ≡ suc at = omega (arith, c.loop-done-test.true) in
     let to : at ≡ length c.args.domains.now - (c.loop-done.done + 1) = omega (arith, c.loop-done-test.true) in
-    let kept = c.add_digits.ensures.many in
+    let kept = c.add_column.ensures.many in
     let was = ap length c.as_mut_slice.ensures.value in
     let long = v.ok.0 in
     let written : (with_items v x).items ≡ x = with_items_is v x (omega (arith, kept, was, long)) in
@@ -165,10 +133,10 @@ loop-done-preserved c =
       many = ap length written ∙ kept ∙ was ∙ c.loop-done.invariant.many;
       each = λ n rows there.
           let inside = slice_get_within block n rows there in
+          let row : get_or block n [] ≡ rows = get_or_from_slice_get block n rows [] there in
+          let comb : IsCombination (from_tables j) rows = subst (IsCombination (from_tables j)) row (c.requires.rows n [] inside) in
+          let before = subst (λ ns. IsNumberFrom (domains_of j) (length c.args.domains.now - c.loop-done.done) (key_of j rows) (get_or ns n 0)) (sym c.as_mut_slice.ensures.value) (c.loop-done.invariant.each n rows there) in
           subst (λ ns. IsNumberFrom (domains_of j) (length c.args.domains.now - (c.loop-done.done + 1)) (key_of j rows) (get_or ns n 0)) (sym written)
           (subst (λ k. IsNumberFrom (domains_of j) k (key_of j rows) (get_or x n 0)) to
-          (subst (λ m. IsNumberFrom (domains_of j) at (key_of j rows) m) (sym (c.add_digits.ensures.each n (omega (arith, inside, many))))
-          (next j tables rs c.args.domains.now are at (length c.args.domains.now - c.loop-done.done) lt-at from c.requires.domains block cells c.as_mut_slice.result.now c.requires.rows
-          (c.as_slice.ensures.value ∙ c.in_ok-fill_cells.ensures.cells) (subst (AreOfKind (kind_of tables (get_or rs at nowhere))) (sym c.as_slice.ensures.value) c.in_ok-fill_cells.ensures.kinds)
-          (λ m rows there. subst (λ ns. IsNumberFrom (domains_of j) (length c.args.domains.now - c.loop-done.done) (key_of j rows) (get_or ns m 0)) (sym c.as_mut_slice.ensures.value) (c.loop-done.invariant.each m rows there)) n rows there).after));
+          (next j tables rs c.args.domains.now are at (length c.args.domains.now - c.loop-done.done) lt-at from c.requires.domains rows (get_or c.as_mut_slice.result.now n 0) (get_or x n 0) comb before (c.add_column.ensures.digits n rows there)));
     }

@@ -2,7 +2,7 @@
 
 ghost use Rattle.std.specs.Prelude.{◌≡◌, ◌<◌, ◌≤◌, ◌^◌};
 ghost use Rattle.ssb_keys.specs.Domains as spec;
-ghost use Rattle.ssb_keys.specs.Domains.{IsIn, IsLawful};
+ghost use Rattle.ssb_keys.specs.Domains.{IsLawful};
 
 use crate::kept::Kept;
 
@@ -31,20 +31,6 @@ impl Domain {
         match self {
             Domain::Numbers { least: _, radix } => radix,
             Domain::Codes { radix } => radix,
-        }
-    }
-
-    /// The number of a value, if it is one of this domain.
-    #[inline(always)]
-    pub(crate) fn digit(self, cell: Kept) -> u64
-        ensures { IsIn self cell → result ≡ spec.digit self cell }
-    {
-        match (self, cell) {
-            (Domain::Numbers { least, radix: _ }, Kept::Number(number)) => {
-                number.abs_diff(least).wrapping_add(1)
-            }
-            (Domain::Codes { radix: _ }, Kept::Code(code)) => u64::from(code) + 1,
-            _ => 0,
         }
     }
 

@@ -12,7 +12,18 @@ use crate::kept::Kept;
 pub fn add_digit(domain: Domain, number: u64, cell: Kept) -> u64
     ensures { HasDigit domain number cell → result ≡ number * radix domain + digit domain cell }
 {
-    number
-        .wrapping_mul(domain.radix())
-        .wrapping_add(domain.digit(cell))
+    match (domain, cell) {
+        (Domain::Numbers { least, radix }, Kept::Number(value)) => {
+            let beyond = value.wrapping_sub(least).cast_unsigned();
+            number
+                .wrapping_mul(radix)
+                .wrapping_add(beyond.wrapping_add(1))
+        }
+        (Domain::Codes { radix }, Kept::Code(code)) => {
+            number.wrapping_mul(radix).wrapping_add(u64::from(code) + 1)
+        }
+        (Domain::Numbers { least: _, radix } | Domain::Codes { radix }, _) => {
+            number.wrapping_mul(radix)
+        }
+    }
 }

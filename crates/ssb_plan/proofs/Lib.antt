@@ -4,6 +4,7 @@ pub mod ColumnRows
 pub mod Conjoined
 pub mod Dimensions
 pub mod Encodings
+pub mod InOrder
 pub mod Indexing
 pub mod Inputs
 pub mod Joins

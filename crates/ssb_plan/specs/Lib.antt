@@ -8,6 +8,7 @@ pub mod JobShape
 pub mod KeyNumbers
 pub mod Loaded
 pub mod Only
+pub mod Ranks
 pub mod Serves
 pub mod Sets
 pub mod Spans

@@ -6,10 +6,10 @@
 //!   groups and aggregates take ([`ColumnRef`], [`Input`]).
 //! - Callers: `ssb_job`, which joins rows by a plan; `ssb_groups`, by its inputs; `ssb_explain`, which tells it.
 //! - Apart: a plan is made once, and told and worked off by others.
-//! - Files: `plan`, `conjuncts`, `join`; `input`, `spans`; `dimension`, `index`: rows by their keys; `table_filter`,
-//!   `column_filter`, `sets`, `leaves`: conditions over one column as sets; `only`, `sole`: of which tables and columns.
-//! - Definitions: `JobShape`, `Build`, `Inputs`, `Spans`, `Loaded`, `Index`; `Accesses`, `DimensionIndex`, `Filters`,
-//!   `KeyNumbers`, `Only`, `Serves`, `Sets`, `Split`: for the contracts here and in the next crates.
+//! - Files: `plan`, `conjuncts`, `join`; `input`, `spans`, `ranks`; `dimension`, `index`: rows by their keys;
+//!   `table_filter`, `column_filter`, `sets`, `leaves`: conditions over one column as sets; `only`, `sole`.
+//! - Definitions: `JobShape`, `Build`, `Inputs`, `Spans`, `Ranks`, `Loaded`, `Index`; `Accesses`, `DimensionIndex`,
+//!   `Filters`, `KeyNumbers`, `Only`, `Serves`, `Sets`, `Split`: for the contracts here and in the next crates.
 #![tactic(auto)]
 
 pub mod column_filter;
@@ -21,6 +21,7 @@ pub mod join;
 mod leaves;
 mod only;
 pub mod plan;
+mod ranks;
 pub mod sets;
 mod sole;
 mod spans;

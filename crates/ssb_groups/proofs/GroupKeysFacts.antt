@@ -1,12 +1,14 @@
 -- The keys of groups, by the two sets that keep them.
-use Rattle.std.proofs.Common.{◌≡◌, ◌∙◌, ◌||◌, ◌+◌, ◌-◌, ℕ, zero, suc, Bool, true, false, not, cond, if◌then◌else◌, nat_eq, List, [], ◌∷◌, ◌++◌, length, map, get_or, slice_get, take, position, Some, Vec, refl, sym, ap, ap₂, subst, arith}
+use Rattle.std.proofs.Common.{◌≡◌, ◌⊎◌, ◌∙◌, inl, inr, ◌||◌, ◌+◌, ◌-◌, ℕ, zero, suc, Bool, true, false, not, cond, if◌then◌else◌, nat_eq, List, [], ◌∷◌, ◌++◌, length, map, get_or, slice_get, take, position, Some, Vec, refl, sym, ap, ap₂, subst, arith}
 use Rattle.std.specs.Cmp.Lexicographic.{pointwise}
 use Rattle.std.specs.List.{AllByRecursion, IsDistinct, list_any, position_or_len}
 use Rattle.std.specs.declared.alloc.Global.{Global}
-use Rattle.std.proofs.lemmas.List.{map-append}
+use Rattle.std.proofs.lemmas.List.{length-map, map-append}
 use Rattle.std.proofs.lemmas.List.Quantifiers.{position-Some}
 use Rattle.std.proofs.lemmas.Option.{same_Some, slice_get-get_or}
 use Rattle.indexmap.specs.IndexSet.{insert_key}
+use Rattle.ssb_keys.specs.KeySets.{numbers_in}
+use Rattle.ssb_keys.specs.Sets.{Opens as NumberOpens}
 use Rattle.ssb_keys.specs.declared.kept.Kept.{Kept}
 use Rattle.ssb_plan.specs.JobShape.{JobShape}
 use Rattle.ssb_groups.specs.GroupKeys as form
@@ -14,8 +16,8 @@ use Rattle.ssb_groups.specs.GroupKeys.{AreUnique, GroupKey, cells_equal, keys_in
 use Rattle.ssb_groups.specs.Keys.{HasCells, HasNumbers, IsKey, cells_in}
 use Rattle.ssb_groups.specs.Places.{AreKeys, IsPlaced, Opens}
 use Rattle.ssb_groups.specs.declared.keys.Keys.{Keys}
-use Rattle.ssb_groups.proofs.KeyFacts.{keys_equal}
-use Rattle.ssb_groups.proofs.PlaceFacts.{opens-inserted, placed-by}
+use Rattle.ssb_groups.proofs.KeyFacts.{key_eq_laws, keys_equal}
+use Rattle.ssb_groups.proofs.PlaceFacts.{keys-more, opens-inserted, placed-by}
 
 append-none : {X : Type 0} (xs : List X) → xs ++ [] ≡ xs
 append-none [] = refl
@@ -49,6 +51,13 @@ module _ {X : Type 0} (f : X → GroupKey) (e : X → X → Bool) (same : (x y :
   opens-mapped j xs new x p are is made at found =
       opens-inserted j (map f xs) (map f new) (f x) p are is (ap (map f) made ∙ insert-mapped xs x) (at ∙ sym (place-mapped x xs)) (f found.0, get-mapped new p found.0 found.1, same x found.0 ∙ found.2)
 
+-- ---- the keys at places
+
+pub number-at : (ns : List ℕ) (ks : List GroupKey) (p n : ℕ) → slice_get ns p ≡ Some n → slice_get (map form.Number ns ++ ks) p ≡ Some (form.Number n)
+number-at [] ks p n h = cc
+number-at (m ∷ ns) ks zero n h = ap (λ x. Some (form.Number x)) (same_Some m n h)
+number-at (m ∷ ns) ks (suc p) n h = number-at ns ks p n h
+
 -- ---- a job has keys of one form alone
 
 no-cells : (j : JobShape) (ns : List ℕ) (vs : List (Vec Kept Global)) → HasNumbers j → AreKeys j (map form.Number ns ++ map of_cells vs) → vs ≡ []
@@ -60,14 +69,24 @@ no-numbers : (j : JobShape) (ns : List ℕ) (vs : List (Vec Kept Global)) → Ha
 no-numbers j [] vs has are = refl
 no-numbers j (n ∷ ns) vs has are = absurd (omega (arith, has, are.0.form.0))
 
-pub number-opens : (j : JobShape) (ns new : List ℕ) (vs : List (Vec Kept Global)) (n p : ℕ) → AreKeys j (map form.Number ns ++ map of_cells vs) → IsKey j (form.Number n) → new ≡ insert_key nat_eq ns n → p ≡ position_or_len (nat_eq n) ns → (there : ℕ) × (slice_get new p ≡ Some there) × (nat_eq n there ≡ true)
+pub number-opens : (j : JobShape) (ns new : List ℕ) (vs : List (Vec Kept Global)) (n p : ℕ) → AreKeys j (map form.Number ns ++ map of_cells vs) → IsKey j (form.Number n) → NumberOpens ns new n p
     → Opens j (map form.Number ns ++ map of_cells vs) (map form.Number new ++ map of_cells vs) (cells_in j (form.Number n)) p × AreKeys j (map form.Number new ++ map of_cells vs)
-number-opens j ns new [] n p are is made at found =
-    let old = append-none (map form.Number ns) in
-    let now = append-none (map form.Number new) in
-    let both = opens-mapped form.Number nat_eq (λ x y. refl) j ns new n p (subst (AreKeys j) old are) is made at found in
-    (subst (λ ks. Opens j ks (map form.Number new ++ []) (cells_in j (form.Number n)) p) (sym old) (subst (λ ks. Opens j (map form.Number ns) ks (cells_in j (form.Number n)) p) (sym now) both.0), subst (AreKeys j) (sym now) both.1)
-number-opens j ns new (v ∷ vs) n p are is made at found = let none = no-cells j ns (v ∷ vs) is.form.0 are in cc
+number-opens j ns new [] n p are is opens = (record { placed = placed; grown = grown opens.grown }, keys opens.grown)
+  where
+    placed : IsPlaced j (map form.Number new ++ []) (cells_in j (form.Number n)) p
+    placed = record { key = form.Number n; there = number-at new [] p n opens.placed; same = key_eq_laws.refl (cells_in j (form.Number n)) }
+
+    more : new ≡ ns ++ n ∷ [] → map form.Number new ++ [] ≡ (map form.Number ns ++ []) ++ form.Number n ∷ []
+    more same = append-none (map form.Number new) ∙ ap (map form.Number) same ∙ map-append form.Number ns (n ∷ []) ∙ ap (λ l. l ++ form.Number n ∷ []) (sym (append-none (map form.Number ns)))
+
+    grown : (new ≡ ns) ⊎ ((new ≡ ns ++ n ∷ []) × (p ≡ length ns)) → (map form.Number new ++ [] ≡ map form.Number ns ++ []) ⊎ ((k : GroupKey) × (map form.Number new ++ [] ≡ (map form.Number ns ++ []) ++ k ∷ []) × (p ≡ length (map form.Number ns ++ [])))
+    grown (inl same) = inl (ap (λ l. map form.Number l ++ []) same)
+    grown (inr both) = inr (form.Number n, more both.0, both.1 ∙ sym (ap length (append-none (map form.Number ns)) ∙ length-map ns form.Number))
+
+    keys : (new ≡ ns) ⊎ ((new ≡ ns ++ n ∷ []) × (p ≡ length ns)) → AreKeys j (map form.Number new ++ [])
+    keys (inl same) = subst (λ l. AreKeys j (map form.Number l ++ [])) (sym same) are
+    keys (inr both) = subst (AreKeys j) (sym (more both.0)) (keys-more j (map form.Number ns ++ []) (form.Number n) are is)
+number-opens j ns new (v ∷ vs) n p are is opens = let none = no-cells j ns (v ∷ vs) is.form.0 are in cc
 
 pub cells-open : (j : JobShape) (ns : List ℕ) (vs new : List (Vec Kept Global)) (v : Vec Kept Global) (p : ℕ) → AreKeys j (map form.Number ns ++ map of_cells vs) → IsKey j (of_cells v) → new ≡ insert_key same_cells vs v → p ≡ position_or_len (same_cells v) vs → (there : Vec Kept Global) × (slice_get new p ≡ Some there) × (same_cells v there ≡ true)
     → Opens j (map form.Number ns ++ map of_cells vs) (map form.Number ns ++ map of_cells new) (cells_in j (of_cells v)) p × AreKeys j (map form.Number ns ++ map of_cells new)
@@ -83,13 +102,6 @@ cells-found j [] (v ∷ vs) cells p are is found =
     let there = get_or (v ∷ vs) p v in
     placed-by j (map of_cells (v ∷ vs)) (form.Cells cells) (of_cells there) p are is (get-mapped of_cells same_cells (λ x y. refl) (v ∷ vs) p there (slice_get-get_or (v ∷ vs) p v at.0)) at.1
 cells-found j (n ∷ ns) vs cells p are is found = let none = no-numbers j (n ∷ ns) vs is.form are in cc
-
--- ---- the keys at places
-
-pub number-at : (ns : List ℕ) (ks : List GroupKey) (p n : ℕ) → slice_get ns p ≡ Some n → slice_get (map form.Number ns ++ ks) p ≡ Some (form.Number n)
-number-at [] ks p n h = cc
-number-at (m ∷ ns) ks zero n h = ap (λ x. Some (form.Number x)) (same_Some m n h)
-number-at (m ∷ ns) ks (suc p) n h = number-at ns ks p n h
 
 -- ---- the first keys
 
@@ -124,4 +136,4 @@ both-distinct [] (v ∷ vs) h g = (others v vs g.0, both-distinct [] vs h g.1)
 both-distinct (n ∷ ns) vs h g = (all-numbers n ns vs h.0, both-distinct ns vs h.1 g)
 
 pub keys-distinct : (k : Keys) → AreUnique k → IsDistinct keys_equal (keys_in k)
-keys-distinct k unique = both-distinct k.numbers.keys k.cells.keys unique.numbers unique.cells
+keys-distinct k unique = both-distinct (numbers_in k.numbers) k.cells.keys unique.numbers unique.cells

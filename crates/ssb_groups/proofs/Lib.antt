@@ -15,7 +15,8 @@ pub mod Permuted
 pub mod PlaceFacts
 pub mod PlacedRows
 pub mod PlainFacts
-pub mod RowFacts
+pub mod RankFacts
+mod RowFacts
 pub mod StandsFacts
 pub mod StoreFacts
 pub mod TakenFacts

@@ -2,9 +2,11 @@
 -- Source: own; for the contracts inside this crate.
 use Rattle.std.specs.Prelude.{ℕ, Bool, nat_eq, List, ◌++◌, map}
 use Rattle.std.specs.Cmp.Lexicographic.{pointwise}
+use Rattle.std.specs.List.{IsDistinct}
 use Rattle.std.specs.declared.alloc.Global.{Global}
 use Rattle.std.specs.declared.vec.Vec.{Vec}
 use Rattle.indexmap.specs.IndexSet.{IsUnique}
+use Rattle.ssb_keys.specs.KeySets.{numbers_in}
 use Rattle.ssb_keys.specs.declared.kept.Kept.{Kept}
 use Rattle.ssb_keys.specs.contracts.kept.KeptPartialEq.TheImpl as key_cells
 use Rattle.ssb_groups.specs.declared.key.KeyRef.{KeyRef}
@@ -27,7 +29,7 @@ of_cells v = Cells v.items
 
 -- the keys in their order; those of one job are all numbers, or all cells
 abbrev pub keys_in : Keys → List GroupKey
-keys_in k = map Number k.numbers.keys ++ map of_cells k.cells.keys
+keys_in k = map Number (numbers_in k.numbers) ++ map of_cells k.cells.keys
 
 abbrev pub cells_equal : Kept → Kept → Bool
 cells_equal = key_cells.eq-value.it
@@ -38,5 +40,5 @@ same_cells v w = pointwise cells_equal v.items w.items
 
 -- none is there twice
 pub record AreUnique (k : Keys) : Type 0 where
-  pub numbers : IsUnique nat_eq k.numbers
+  pub numbers : IsDistinct nat_eq (numbers_in k.numbers)
   pub cells : IsUnique same_cells k.cells

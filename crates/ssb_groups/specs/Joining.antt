@@ -1,14 +1,16 @@
 -- Totals over two lists of rows, from those over each.
 -- For the contracts inside this crate.
-use Rattle.std.specs.Prelude.{ℤ, ◌+ℤ◌, ◌≡◌, ⊤, true, List, [], ◌∷◌, map, Option, None, Some, option_map}
+use Rattle.std.specs.Prelude.{ℕ, get_or, ℤ, ◌+ℤ◌, ◌≡◌, ⊤, true, List, [], ◌∷◌, map, Option, None, Some, option_map}
 use Rattle.std.specs.List.{list_all}
 use Rattle.std.specs.declared.alloc.Global.{Global}
 use Rattle.std.specs.declared.vec.Vec.{Vec}
 use Rattle.ssb_cells.specs.Cell.{Cell, null, number}
+use Rattle.ssb_cells.specs.Codes.{texts_of}
 use Rattle.ssb_cells.specs.Tables.{Columns}
 use Rattle.ssb_keys.specs.declared.domain.Domain.{Domain}
 use Rattle.ssb_plan.specs.Inputs.{column_ref, has_column}
 use Rattle.ssb_plan.specs.JobShape.{JobShape}
+use Rattle.ssb_plan.specs.Ranks.{AreRanks}
 use Rattle.ssb_plan.specs.declared.input.ColumnRef.{ColumnRef}
 use Rattle.ssb_query.specs.declared.column.BoundColumn.{BoundColumn}
 use Rattle.ssb_trees.specs.Expressions.{own_column}
@@ -57,18 +59,34 @@ IsJoining tables joining.Adds = ⊤
 IsJoining tables (joining.Least p) = IsSomeColumn tables p
 IsJoining tables (joining.Greatest p) = IsSomeColumn tables p
 
+-- ranks of the texts among which a total's texts are; of no matter where totals are added
+abbrev pub HasRanksBy : List Columns → Joining → List ℕ → Type 0
+HasRanksBy tables joining.Adds ranks = ⊤
+HasRanksBy tables (joining.Least p) ranks = AreRanks (texts_of (values_at tables p)) ranks
+HasRanksBy tables (joining.Greatest p) ranks = AreRanks (texts_of (values_at tables p)) ranks
+
+-- those, or none
+abbrev pub MayHaveRanks : List Columns → Joining → Option (Vec ℕ Global) → Type 0
+MayHaveRanks tables w None = ⊤
+MayHaveRanks tables w (Some ranks) = HasRanksBy tables w ranks.items
+
+-- for each of some joinings
+abbrev pub AreRanksBy : List Columns → List Joining → List (Option (Vec ℕ Global)) → Type 0
+AreRanksBy tables ws all = (i : ℕ) → MayHaveRanks tables (get_or ws i joining.Adds) (get_or all i None)
+
 abbrev pub AreJoinings : List Columns → List Joining → Type 0
 AreJoinings tables [] = ⊤
 AreJoinings tables (w ∷ ws) = IsJoining tables w × AreJoinings tables ws
 
--- The columns of a job's groups with their domains, and how its aggregates' totals are joined: all of their columns are the tables'.
-pub record AreColumnsOf (j : JobShape) (ts : List Columns) (rs : List ColumnRef) (ds : Option (Vec Domain Global)) (ws : List Joining) : Type 0 where
+-- The columns of a job's groups with their domains, and how its aggregates' totals are joined, by which ranks: all of their columns are the tables'.
+pub record AreColumnsOf (j : JobShape) (ts : List Columns) (rs : List ColumnRef) (ds : Option (Vec Domain Global)) (ws : List Joining) (ranks : List (Option (Vec ℕ Global))) : Type 0 where
   pub tables : ts ≡ j.tables
   pub keys : rs ≡ map (column_ref j.query) j.query.groups
   pub domains : AreDomains (domains_of j) ds
   pub joinings : ws ≡ joinings_of j
   pub there : list_all (has_column j.query j.tables) rs ≡ true
   pub known : AreJoinings j.tables ws
+  pub ranked : AreRanksBy j.tables ws ranks
 
 -- two totals of a column of the tables
 pub record AreOfColumn (tables : List Columns) (p : Option ColumnRef) (a b : Kept) : Type 0 where

@@ -8,12 +8,13 @@ ghost use Rattle.ssb_conditions.specs.Rows.{IsCombination};
 ghost use Rattle.ssb_plan.specs.Inputs.{column_ref, has_column, values_of};
 ghost use Rattle.ssb_plan.specs.JobShape.{from_tables};
 ghost use Rattle.ssb_groups.specs.Tallies.{AreTotals, lists, totals_at, totals_in};
-ghost use Rattle.ssb_groups.specs.Joining.{AreJoinings, IsJoining, joinings_of, values_by};
+ghost use Rattle.ssb_groups.specs.Joining.{AreJoinings, HasRanksBy, IsJoining, joinings_of, values_by};
 ghost use Rattle.ssb_groups.specs.GroupKeys.{lent};
 ghost use Rattle.ssb_groups.specs.Keys.{AreKept, AreLawful, AreNumbersOf, HasCells, HasDomains, IsKept, IsKey, cells_in, domains_of, kept_total, key_columns, key_of, spelt, spelt_cell};
 ghost use Rattle.ssb_keys.specs.Domains.{cells, size};
 ghost use Rattle.ssb_groups.specs.Refs.{IsColumn, IsSomeColumn, values_at};
 ghost use Rattle.ssb_groups.specs.Totals.{total_cell};
+ghost use Rattle.ssb_groups.specs.declared.joining.Joining.TheVariants as joinings;
 ghost use Rattle.ssb_groups.specs.declared.kept.KeptTotal.TheVariants as totals;
 
 use crate::column::{cell_in, text_in};
@@ -33,6 +34,21 @@ use std::marker::Model;
 use std::snapshot::Snapshot;
 use std::sync::Arc;
 
+// How many keys there may be for a table of their places in any case: 256 KB.
+const FEW_KEYS: u64 = 65_536;
+
+// For how many rows of the fact table there may be a key: the table then takes 2 bytes a row.
+const ROWS_OF_A_KEY: u32 = 2;
+
+// How many keys there may be.
+fn size_of(domains: &[Domain]) -> u64 {
+    let mut size: u64 = 1;
+    for domain in domains {
+        size = size.saturating_mul(domain.radix());
+    }
+    size
+}
+
 /// The columns of a job's groups and of its aggregates, found in its tables once for all rows, seen as the
 /// job.
 pub(crate) struct Columns {
@@ -45,6 +61,8 @@ pub(crate) struct Columns {
     domains: Option<Vec<Domain>>,
     // How the totals of each aggregate are joined, by its column where they may be texts.
     joinings: Vec<Joining>,
+    // The ranks of the texts of each aggregate, where the job has some.
+    ranks: Arc<Vec<Option<Vec<u32>>>, Global>,
 }
 
 // Written out, so that what lets go of one need not say how its parts are let go.
@@ -56,11 +74,13 @@ impl Drop for Columns {
             keys,
             domains,
             joinings,
+            ranks,
         } = self;
         drop(tables);
         drop(keys);
         drop(domains);
         drop(joinings);
+        drop(ranks);
     }
 }
 
@@ -77,7 +97,7 @@ impl Model for Columns {
 
     ghost view = { λ k. k.job.value };
 
-    ghost invariant = { λ k. AreColumnsOf k.job.value (arc_value k.tables).items k.keys.items k.domains k.joinings.items };
+    ghost invariant = { λ k. AreColumnsOf k.job.value (arc_value k.tables).items k.keys.items k.domains k.joinings.items (arc_value k.ranks).items };
 }
 
 // The value that a cell of a key stands for, by its column.
@@ -161,7 +181,19 @@ impl Columns {
             keys,
             domains,
             joinings: joinings(alloc, job)?,
+            ranks: Arc::try_clone(&job.plan().ranks)?,
         })
+    }
+
+    // Whether keys are numbers for which a table of places is small against so many rows of the fact table.
+    pub(crate) fn has_small_keys(&self, rows: u32) -> bool {
+        match &self.domains {
+            Some(domains) => {
+                let keys = size_of(domains.as_slice());
+                keys <= FEW_KEYS || keys <= u64::from(rows / ROWS_OF_A_KEY)
+            }
+            None => false,
+        }
     }
 
     // The tables of the job.
@@ -177,6 +209,16 @@ impl Columns {
         ensures known { AreJoinings self.now.tables result.now }
     {
         self.joinings.as_slice()
+    }
+
+    // The ranks of the texts of an aggregate, where the job has some.
+    pub(crate) fn ranks(&self, at: usize) -> Option<&[u32]>
+        ensures { IfSome result (λ r. HasRanksBy self.now.tables (get_or (joinings_of self.now) at joinings.Adds) r.now) }
+    {
+        match self.ranks.get(at) {
+            Some(Some(ranks)) => Some(ranks.as_slice()),
+            Some(None) | None => None,
+        }
     }
 
     // Makes a list what stands for the values of the group columns in a combination. It takes no memory once

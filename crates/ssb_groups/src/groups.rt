@@ -26,6 +26,7 @@ use ssb_query::BoundColumn;
 use ssb_trees::Aggregate;
 use std::alloc::{AllocError, Global};
 use std::marker::Model;
+use std::mem;
 
 /// The groups over some combinations of a job's rows, seen as the job, the aggregates of each key, the
 /// least fact row of an overflow and a count of rows.
@@ -106,10 +107,11 @@ impl Groups {
         ensures counted { IfOk result (λ g. g.counted ≡ 0) }
     {
         let columns = Columns::of(alloc, job)?;
+        let are_small = columns.has_small_keys(job.fact_rows());
         Ok(Groups {
             alloc,
             columns,
-            store: Store::new(alloc, job)?,
+            store: Store::new(alloc, job, are_small)?,
             room: Room::new(alloc),
             totals: no_totals(alloc, job.query().parts().aggregates.len())?,
         })
@@ -174,38 +176,55 @@ impl Groups {
         ensures err { OnErr result (self.new ≡ self.old) }
         ensures other { IfErr result (λ e. e.0 ≡ other) }
     {
-        if self.store.counted() == 0 {
-            self.take(other);
-            return Ok(());
-        }
-        match self
-            .store
-            .merge(&self.columns, &other.store, &mut self.room)
-        {
-            Ok(()) => Ok(()),
+        let mut other = other;
+        match self.append(&mut other) {
+            Ok(()) => {
+                drop(other);
+                Ok(())
+            }
             Err(refused) => Err((other, refused)),
         }
     }
 
-    // Takes the rows of other groups, where there is none yet.
-    fn take(&mut self, other: Groups)
-        requires one_job { AreOneJob self.old.job other.job }
-        requires none { self.old.counted ≡ 0 }
-        ensures stands { (A B : List SeenRow) → Stands self.old A → Stands other B → Stands self.new (A ++ B) }
+    /// Moves the rows of other groups of the same job into these, as [`merge`](Self::merge) does. The others are over
+    /// no row then, and keep their memory for more.
+    ///
+    /// # Errors
+    ///
+    /// Only where a growth was refused; both stand as before.
+    pub fn append(&mut self, other: &mut Groups) -> Result<(), AllocError>
+        requires one_job { AreOneJob self.old.job other.old.job }
+        requires few { self.old.counted + other.old.counted < 2 ^ 32 }
+        ensures stands { OnOk result ((A B : List SeenRow) → Stands self.old A → Stands other.old B → Stands self.new (A ++ B)) }
         ensures job { self.new.job ≡ self.old.job }
-        ensures counted { self.new.counted ≡ other.counted }
+        ensures counted { OnOk result (self.new.counted ≡ self.old.counted + other.old.counted) }
+        ensures emptied { OnOk result (Stands other.new []) }
+        ensures other_job { other.new.job ≡ other.old.job }
+        ensures err { OnErr result (self.new ≡ self.old) }
+        ensures other { OnErr result (other.new ≡ other.old) }
     {
-        let Groups {
-            alloc: _,
-            columns,
-            store,
-            room,
-            totals,
-        } = other;
-        self.store = store;
-        drop(columns);
-        drop(room);
-        drop(totals);
+        if self.store.counted() == 0 {
+            self.take(other);
+            return Ok(());
+        }
+        self.store
+            .merge(&self.columns, &other.store, &mut self.room)?;
+        other.store.clear();
+        Ok(())
+    }
+
+    // Takes the rows of other groups, where there is none yet.
+    fn take(&mut self, other: &mut Groups)
+        requires one_job { AreOneJob self.old.job other.old.job }
+        requires none { self.old.counted ≡ 0 }
+        ensures stands { (A B : List SeenRow) → Stands self.old A → Stands other.old B → Stands self.new (A ++ B) }
+        ensures job { self.new.job ≡ self.old.job }
+        ensures counted { self.new.counted ≡ other.old.counted }
+        ensures emptied { Stands other.new [] }
+        ensures other_job { other.new.job ≡ other.old.job }
+    {
+        mem::swap(&mut self.store, &mut other.store);
+        other.store.clear();
     }
 
     /// The least row of the fact table, from 1, at which an aggregate's argument left 64 bits.

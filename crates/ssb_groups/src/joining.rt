@@ -2,15 +2,16 @@
 
 ghost use Rattle.std.specs.Cmp.Lexicographic.{slice_cmp};
 ghost use Rattle.std.specs.Ordering.{nat_cmp};
-ghost use Rattle.std.specs.Prelude.{◌≡◌, ◌<◌, [], get_or, length};
+ghost use Rattle.std.specs.Prelude.{◌≡◌, ◌<◌, [], true, false, IfSome, get_or, length};
 ghost use Rattle.ssb_cells.specs.Codes.{texts_of};
 ghost use Rattle.ssb_cells.specs.Order.{cell_cmp};
 ghost use Rattle.ssb_groups.specs.Aggregates.{greater, lesser};
-ghost use Rattle.ssb_groups.specs.Joining.{AreOfColumn, FitsAdded, IsJoining, JoinsTotal, added, joining_by, joining_of, sole_ref, values_by};
+ghost use Rattle.ssb_groups.specs.Joining.{AreOfColumn, FitsAdded, HasRanksBy, IsJoining, JoinsTotal, added, joining_by, joining_of, sole_ref, values_by};
 ghost use Rattle.ssb_groups.specs.Keys.{IsKept, kept_total, spelt_cell};
 ghost use Rattle.ssb_groups.specs.Refs.{IsSomeColumn, values_at};
 ghost use Rattle.ssb_plan.specs.Inputs.{input_of};
 ghost use Rattle.ssb_plan.specs.JobShape.{JobShape};
+ghost use Rattle.ssb_plan.specs.Ranks.{AreRanks};
 ghost use Rattle.ssb_query.specs.declared.column.BoundColumn.{BoundColumn as AnyColumn};
 ghost use Rattle.ssb_trees.specs.declared.aggregate.Aggregate.TheVariants as aggregates;
 ghost use Rattle.ssb_trees.specs.declared.aggregate.SetFunction.{SetFunction as AnyFunction};
@@ -68,10 +69,18 @@ impl Joining {
         }
     }
 
-    // Joins a total to another, which then is that over the values of both.
+    // Joins a total to another, which then is that over the values of both. Texts compare by their ranks, where there
+    // are some.
     #[inline(always)]
-    pub(crate) fn join(&self, tables: &[Table], into: &mut KeptTotal, more: &KeptTotal)
+    pub(crate) fn join(
+        &self,
+        tables: &[Table],
+        ranks: Option<&[u32]>,
+        into: &mut KeptTotal,
+        more: &KeptTotal,
+    )
         requires joining { IsJoining tables.now self.now }
+        requires ranks { IfSome ranks (λ r. HasRanksBy tables.now self.now r.now) }
         requires left { IsKept (values_by tables.now self.now) (kept_total into.old) }
         requires right { IsKept (values_by tables.now self.now) (kept_total more.now) }
         ensures joined { let values = values_by tables.now self.now in JoinsTotal self.now (spelt_cell values (kept_total into.old)) (spelt_cell values (kept_total more.now)) (spelt_cell values (kept_total into.new)) }
@@ -79,8 +88,16 @@ impl Joining {
     {
         match self {
             Joining::Adds => *into = add(*into, *more),
-            Joining::Least(column) => *into = lesser(tables, *column, *into, *more),
-            Joining::Greatest(column) => *into = greater(tables, *column, *into, *more),
+            Joining::Least(column) => {
+                if is_less(tables, *column, ranks, *into, *more) {
+                    *into = *more;
+                }
+            }
+            Joining::Greatest(column) => {
+                if is_greater(tables, *column, ranks, *into, *more) {
+                    *into = *more;
+                }
+            }
         }
     }
 }
@@ -115,9 +132,17 @@ pub(crate) fn add_alone(total: KeptTotal, more: Kept) -> KeptTotal
     }
 }
 
-// The order of the texts of two codes.
-fn text_order(tables: &[Table], column: Option<ColumnRef>, x: u32, y: u32) -> Ordering
+// The order of the texts of two codes, by their ranks where there are some.
+#[inline(always)]
+fn text_order(
+    tables: &[Table],
+    column: Option<ColumnRef>,
+    ranks: Option<&[u32]>,
+    x: u32,
+    y: u32,
+) -> Ordering
     requires column { IsSomeColumn tables.now column }
+    requires ranks { IfSome ranks (λ r. AreRanks (texts_of (values_at tables.now column)) r.now) }
     requires left { x < length (texts_of (values_at tables.now column)) }
     requires right { y < length (texts_of (values_at tables.now column)) }
     ensures { result ≡ slice_cmp nat_cmp (get_or (texts_of (values_at tables.now column)) x []) (get_or (texts_of (values_at tables.now column)) y []) }
@@ -125,12 +150,23 @@ fn text_order(tables: &[Table], column: Option<ColumnRef>, x: u32, y: u32) -> Or
     if x == y {
         return Ordering::Equal;
     }
-    text_in(tables, column, x).cmp(text_in(tables, column, y))
+    match ranks {
+        Some(ranks) => ranks[x as usize].cmp(&ranks[y as usize]),
+        None => text_in(tables, column, x).cmp(text_in(tables, column, y)),
+    }
 }
 
 // The order of what two totals stand for.
-fn order(tables: &[Table], column: Option<ColumnRef>, a: KeptTotal, b: KeptTotal) -> Ordering
-    requires { AreOfColumn tables.now column (kept_total a) (kept_total b) }
+#[inline(always)]
+fn order(
+    tables: &[Table],
+    column: Option<ColumnRef>,
+    ranks: Option<&[u32]>,
+    a: KeptTotal,
+    b: KeptTotal,
+) -> Ordering
+    requires totals { AreOfColumn tables.now column (kept_total a) (kept_total b) }
+    requires ranks { IfSome ranks (λ r. AreRanks (texts_of (values_at tables.now column)) r.now) }
     ensures { result ≡ cell_cmp (spelt_cell (values_at tables.now column) (kept_total a)) (spelt_cell (values_at tables.now column) (kept_total b)) }
 {
     match (a, b) {
@@ -142,32 +178,50 @@ fn order(tables: &[Table], column: Option<ColumnRef>, a: KeptTotal, b: KeptTotal
         ).cmp(&wide(k, m)),
         (KeptTotal::Number { high: _, low: _ }, KeptTotal::Code(_)) => Ordering::Less,
         (KeptTotal::Code(_), KeptTotal::Number { high: _, low: _ }) => Ordering::Greater,
-        (KeptTotal::Code(x), KeptTotal::Code(y)) => text_order(tables, column, x, y),
+        (KeptTotal::Code(x), KeptTotal::Code(y)) => text_order(tables, column, ranks, x, y),
     }
 }
 
-fn lesser(tables: &[Table], column: Option<ColumnRef>, a: KeptTotal, b: KeptTotal) -> KeptTotal
-    requires { AreOfColumn tables.now column (kept_total a) (kept_total b) }
-    ensures joined { spelt_cell (values_at tables.now column) (kept_total result) ≡ lesser (spelt_cell (values_at tables.now column) (kept_total a)) (spelt_cell (values_at tables.now column) (kept_total b)) }
-    ensures kept { IsKept (values_at tables.now column) (kept_total result) }
+// Whether a total is less than the least so far, or there is none yet. Null is none.
+#[inline(always)]
+fn is_less(
+    tables: &[Table],
+    column: Option<ColumnRef>,
+    ranks: Option<&[u32]>,
+    total: KeptTotal,
+    more: KeptTotal,
+) -> bool
+    requires totals { AreOfColumn tables.now column (kept_total total) (kept_total more) }
+    requires ranks { IfSome ranks (λ r. AreRanks (texts_of (values_at tables.now column)) r.now) }
+    ensures yes { result ≡ true → lesser (spelt_cell (values_at tables.now column) (kept_total total)) (spelt_cell (values_at tables.now column) (kept_total more)) ≡ spelt_cell (values_at tables.now column) (kept_total more) }
+    ensures no { result ≡ false → lesser (spelt_cell (values_at tables.now column) (kept_total total)) (spelt_cell (values_at tables.now column) (kept_total more)) ≡ spelt_cell (values_at tables.now column) (kept_total total) }
 {
-    match (a, b) {
-        (KeptTotal::Null, _) => b,
-        (_, KeptTotal::Null) => a,
-        _ => match order(tables, column, a, b) {
-            Ordering::Greater => b,
-            _ => a,
+    match (total, more) {
+        (KeptTotal::Null, _) => true,
+        (_, KeptTotal::Null) => false,
+        _ => match order(tables, column, ranks, total, more) {
+            Ordering::Greater => true,
+            _ => false,
         },
     }
 }
 
-fn greater(tables: &[Table], column: Option<ColumnRef>, a: KeptTotal, b: KeptTotal) -> KeptTotal
-    requires { AreOfColumn tables.now column (kept_total a) (kept_total b) }
-    ensures joined { spelt_cell (values_at tables.now column) (kept_total result) ≡ greater (spelt_cell (values_at tables.now column) (kept_total a)) (spelt_cell (values_at tables.now column) (kept_total b)) }
-    ensures kept { IsKept (values_at tables.now column) (kept_total result) }
+// Whether a total is greater than the greatest so far. Null is less than all.
+#[inline(always)]
+fn is_greater(
+    tables: &[Table],
+    column: Option<ColumnRef>,
+    ranks: Option<&[u32]>,
+    total: KeptTotal,
+    more: KeptTotal,
+) -> bool
+    requires totals { AreOfColumn tables.now column (kept_total total) (kept_total more) }
+    requires ranks { IfSome ranks (λ r. AreRanks (texts_of (values_at tables.now column)) r.now) }
+    ensures yes { result ≡ true → greater (spelt_cell (values_at tables.now column) (kept_total total)) (spelt_cell (values_at tables.now column) (kept_total more)) ≡ spelt_cell (values_at tables.now column) (kept_total more) }
+    ensures no { result ≡ false → greater (spelt_cell (values_at tables.now column) (kept_total total)) (spelt_cell (values_at tables.now column) (kept_total more)) ≡ spelt_cell (values_at tables.now column) (kept_total total) }
 {
-    match order(tables, column, a, b) {
-        Ordering::Greater => a,
-        _ => b,
+    match order(tables, column, ranks, total, more) {
+        Ordering::Less => true,
+        Ordering::Equal | Ordering::Greater => false,
     }
 }

@@ -9,13 +9,13 @@ ghost use Rattle.ssb_plan.specs.JobShape.{JobShape};
 
 use crate::key::KeyRef;
 use indexmap::IndexSet;
-use ssb_keys::Kept;
+use ssb_keys::{Kept, KeySet};
 use std::alloc::{AllocError, Global};
 
 /// The keys of groups, each once, in the order in which they came. Those of one job are all numbers, or all cells.
 #[derive(Drop)]
 pub(crate) struct Keys {
-    pub(crate) numbers: IndexSet<u64>,
+    pub(crate) numbers: KeySet,
     pub(crate) cells: IndexSet<Vec<Kept>>,
 }
 
@@ -29,13 +29,13 @@ fn copied(alloc: Global, cells: &[Kept]) -> Result<Vec<Kept>, AllocError>
 }
 
 impl Keys {
-    // None. It takes no memory yet.
-    pub(crate) fn new(alloc: Global) -> Keys
+    // None. Numbers are found by a table where they are small. It takes no memory yet.
+    pub(crate) fn new(alloc: Global, are_small: bool) -> Keys
         ensures unique { AreUnique result }
         ensures none { keys_in result ≡ [] }
     {
         Keys {
-            numbers: IndexSet::new(alloc),
+            numbers: KeySet::new(alloc, are_small),
             cells: IndexSet::new(alloc),
         }
     }
@@ -53,9 +53,7 @@ impl Keys {
         ensures { option_map lent result ≡ slice_get (keys_in self.now) place }
     {
         if place < self.numbers.len() {
-            self.numbers
-                .get_index(place)
-                .map(|number| KeyRef::Number(*number))
+            self.numbers.get(place).map(|number| KeyRef::Number(number))
         } else {
             self.cells
                 .get_index(place - self.numbers.len())
@@ -63,18 +61,8 @@ impl Keys {
         }
     }
 
-    // Whether a key that is this number stands at a place.
-    #[inline(always)]
-    pub(crate) fn is_at(&self, place: usize, number: u64) -> bool
-        ensures { result ≡ true → slice_get (keys_in self.now) place ≡ Some (form.Number number) }
-    {
-        match self.numbers.get_index(place) {
-            Some(there) => *there == number,
-            None => false,
-        }
-    }
-
     // The place of a key that is a number, which is added where it is not there.
+    #[inline(always)]
     pub(crate) fn open_number(&mut self, number: u64) -> Result<usize, AllocError>
         requires unique { AreUnique self.old }
         ensures opened { IfOk result (λ place. (j : JobShape) → AreKeys j (keys_in self.old) → IsKey j (form.Number number) → Opens j (keys_in self.old) (keys_in self.new) (cells_in j (form.Number number)) place) }
@@ -82,7 +70,7 @@ impl Keys {
         ensures unique { AreUnique self.new }
         ensures err { OnErr result (keys_in self.new ≡ keys_in self.old) }
     {
-        let (place, _) = self.numbers.insert_full(number)?;
+        let place = self.numbers.open(number)?;
         Ok(place)
     }
 

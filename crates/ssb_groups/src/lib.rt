@@ -1,9 +1,9 @@
 //! Groups: the aggregates of each group of the rows that were added.
 //!
 //! - Offers: [`Groups`], which stand for a list of rows in whatever order they came: `empty`, `add`,
-//!   `add_block`, `merge`; [`Group`] and [`Total`], which they lend.
+//!   `add_block`, `merge`, `append`; [`Group`] and [`Total`], which they lend.
 //! - Callers: `ssb_pipeline`, whose parts hold groups; `ssb_rows`, which makes rows of them.
-//! - Files: `groups`, `store`, `table`; `places`, `guesses`, `room`: where keys stand; `key`, `keys`, `column`,
+//! - Files: `groups`, `store`, `table`; `places`, `room`: where keys stand; `key`, `keys`, `column`,
 //!   `columns`, `digits`, `domains`: keys; `gather`, `numbers`, `block_totals`, `alone`, `pair`, `evaluate`,
 //!   `outcome`: what a block adds; `kept`, `totals`, `tallies`, `joining`: aggregates.
 //! - Definitions: `Value`, `Aggregates`, `Rows`, `Seen`, `Stands`, `Added`: what groups stand for; `Keys`,
@@ -20,7 +20,6 @@ mod domains;
 mod evaluate;
 mod gather;
 pub mod groups;
-mod guesses;
 mod joining;
 mod kept;
 mod key;

@@ -9,48 +9,12 @@ ghost use Rattle.ssb_groups.specs.Places.{AreKeys, IsFound, IsFront, OpenAll, Op
 ghost use Rattle.ssb_plan.specs.JobShape.{JobShape};
 
 use crate::columns::Columns;
-use crate::guesses::Guesses;
 use crate::key::KeyRef;
 use crate::keys::Keys;
 use std::alloc::{AllocError, Global};
 
-// The place of a key that is a number and not where it is guessed to stand.
-fn open_anew(keys: &mut Keys, guesses: &mut Guesses, number: u64) -> Result<usize, AllocError>
-    requires unique { AreUnique keys.old }
-    ensures opened { IfOk result (λ place. (j : JobShape) → AreKeys j (keys_in keys.old) → IsKey j (form.Number number) → Opens j (keys_in keys.old) (keys_in keys.new) (number_cells j number) place) }
-    ensures keys { (j : JobShape) → AreKeys j (keys_in keys.old) → IsKey j (form.Number number) → AreKeys j (keys_in keys.new) }
-    ensures unique { AreUnique keys.new }
-    ensures err { OnErr result (keys_in keys.new ≡ keys_in keys.old) }
-{
-    let place = keys.open_number(number)?;
-    guesses.note(number, place, keys.len());
-    Ok(place)
-}
-
-// The place of a key that is a number, which is added where it is not there: it is looked for where it is guessed to
-// stand first.
-#[inline(always)]
-fn open_number(keys: &mut Keys, guesses: &mut Guesses, number: u64) -> Result<usize, AllocError>
-    requires unique { AreUnique keys.old }
-    ensures opened { IfOk result (λ place. (j : JobShape) → AreKeys j (keys_in keys.old) → IsKey j (form.Number number) → Opens j (keys_in keys.old) (keys_in keys.new) (number_cells j number) place) }
-    ensures keys { (j : JobShape) → AreKeys j (keys_in keys.old) → IsKey j (form.Number number) → AreKeys j (keys_in keys.new) }
-    ensures unique { AreUnique keys.new }
-    ensures err { OnErr result (keys_in keys.new ≡ keys_in keys.old) }
-{
-    let guess = guesses.place(number);
-    if keys.is_at(guess, number) {
-        return Ok(guess);
-    }
-    open_anew(keys, guesses, number)
-}
-
 // The place of a key, which is added where it is not there.
-pub(crate) fn open(
-    alloc: Global,
-    keys: &mut Keys,
-    guesses: &mut Guesses,
-    key: KeyRef<'_>,
-) -> Result<usize, AllocError>
+pub(crate) fn open(alloc: Global, keys: &mut Keys, key: KeyRef<'_>) -> Result<usize, AllocError>
     requires unique { AreUnique keys.old }
     ensures opened { IfOk result (λ place. (j : JobShape) → AreKeys j (keys_in keys.old) → IsKey j (lent key.entry) → Opens j (keys_in keys.old) (keys_in keys.new) (cells_in j (lent key.entry)) place) }
     ensures keys { (j : JobShape) → AreKeys j (keys_in keys.old) → IsKey j (lent key.entry) → AreKeys j (keys_in keys.new) }
@@ -58,7 +22,7 @@ pub(crate) fn open(
     ensures err { OnErr result (keys_in keys.new ≡ keys_in keys.old) }
 {
     match key {
-        KeyRef::Number(number) => open_number(keys, guesses, number),
+        KeyRef::Number(number) => keys.open_number(number),
         KeyRef::Cells(cells) => keys.open_cells(alloc, cells),
     }
 }
@@ -73,12 +37,7 @@ pub(crate) struct Found {
 // The place of a key that is a number. Keys that follow one another are often equal, and then the last place is taken
 // again.
 #[inline(always)]
-fn open_next(
-    keys: &mut Keys,
-    guesses: &mut Guesses,
-    number: u64,
-    last: Option<Found>,
-) -> Result<usize, AllocError>
+fn open_next(keys: &mut Keys, number: u64, last: Option<Found>) -> Result<usize, AllocError>
     requires unique { AreUnique keys.old }
     ensures opened { IfOk result (λ place. (j : JobShape) → AreKeys j (keys_in keys.old) → IsKey j (form.Number number) → IsFound j (keys_in keys.old) last → Opens j (keys_in keys.old) (keys_in keys.new) (number_cells j number) place) }
     ensures keys { (j : JobShape) → AreKeys j (keys_in keys.old) → IsKey j (form.Number number) → AreKeys j (keys_in keys.new) }
@@ -90,7 +49,7 @@ fn open_next(
             return Ok(found.place);
         }
     }
-    open_number(keys, guesses, number)
+    keys.open_number(number)
 }
 
 // Fills a list with the places of the keys that are these numbers, and adds those that are not there. Where memory is
@@ -98,7 +57,6 @@ fn open_next(
 fn fill_places(
     columns: &Columns,
     keys: &mut Keys,
-    guesses: &mut Guesses,
     numbers: &[u64],
     places: &mut [usize],
 ) -> Result<(), AllocError>
@@ -114,7 +72,7 @@ fn fill_places(
     let mut last = None;
     for at in 0..numbers.len() {
         let number = numbers[at];
-        let place = open_next(keys, guesses, number, last)?;
+        let place = open_next(keys, number, last)?;
         last = Some(Found { number, place });
         places[at] = place;
     }
@@ -125,7 +83,6 @@ fn fill_places(
 pub(crate) fn open_numbers(
     columns: &Columns,
     keys: &mut Keys,
-    guesses: &mut Guesses,
     numbers: &[u64],
     places: &mut Vec<usize>,
 ) -> Result<(), AllocError>
@@ -138,5 +95,5 @@ pub(crate) fn open_numbers(
     ensures opened { OnOk result (OpenAll columns.now (keys_in keys.old) (keys_in keys.new) (map (number_cells columns.now) numbers.now) places.new.items) }
 {
     places.resize(numbers.len(), 0)?;
-    fill_places(columns, keys, guesses, numbers, places.as_mut_slice())
+    fill_places(columns, keys, numbers, places.as_mut_slice())
 }

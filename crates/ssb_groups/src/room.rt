@@ -1,6 +1,5 @@
 // Room that is used again for each block.
 
-use crate::guesses::Guesses;
 use ssb_keys::Kept;
 use std::alloc::Global;
 
@@ -18,7 +17,6 @@ pub(crate) struct Room {
     pub(crate) numbers: Vec<u64>,
     /// The place of each combination's key.
     pub(crate) places: Vec<usize>,
-    pub(crate) guesses: Guesses,
 }
 
 impl Room {
@@ -31,7 +29,6 @@ impl Room {
             right_numbers: Vec::new(alloc),
             numbers: Vec::new(alloc),
             places: Vec::new(alloc),
-            guesses: Guesses::new(alloc),
         }
     }
 }

@@ -55,15 +55,15 @@ impl Model for Store {
 }
 
 impl Store {
-    // The groups of a job over no row.
-    pub(crate) fn new(alloc: Global, job: &Job) -> Result<Store, AllocError>
+    // The groups of a job over no row. Keys that are numbers are found by a table where they are small.
+    pub(crate) fn new(alloc: Global, job: &Job, are_small: bool) -> Result<Store, AllocError>
         ensures stands { IfOk result (λ s. Stands s []) }
         ensures job { IfOk result (λ s. s.job ≡ job.now) }
         ensures counted { IfOk result (λ s. s.counted ≡ 0) }
     {
         Ok(Store {
             job: Snapshot::of(job),
-            table: GroupTable::new(alloc, job.query().parts().aggregates.len())?,
+            table: GroupTable::new(alloc, job.query().parts().aggregates.len(), are_small)?,
             overflow: None,
             counted: 0,
         })
@@ -131,6 +131,16 @@ impl Store {
         self.overflow = overflow;
         self.counted += other.counted;
         Ok(())
+    }
+
+    // Makes them the groups over no row. It keeps their memory.
+    pub(crate) fn clear(&mut self)
+        ensures stands { Stands self.new [] }
+        ensures job { self.new.job ≡ self.old.job }
+    {
+        self.table.clear();
+        self.overflow = None;
+        self.counted = 0;
     }
 
     pub(crate) fn overflow(&self) -> Option<u32>

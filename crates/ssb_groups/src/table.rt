@@ -38,6 +38,16 @@ fn no_tallies(alloc: Global, count: usize) -> Result<Vec<Tally>, AllocError>
     Ok(tallies)
 }
 
+// Takes the totals of all groups out.
+fn clear_all(tallies: &mut [Tally])
+    ensures many { length tallies.new ≡ length tallies.old }
+    ensures none { (i : ℕ) → get_or (lists tallies.new) i [] ≡ [] }
+{
+    for at in 0..tallies.len() {
+        tallies[at].clear();
+    }
+}
+
 // Finds the places of the keys of a block's combinations, and adds those that are not there: by the numbers of the keys
 // where they have some, else one after the other. Where memory is refused, some may be added.
 fn open_block(
@@ -56,13 +66,7 @@ fn open_block(
 {
     if let Some(domains) = columns.domains() {
         columns.number_keys(domains, block, &mut room.numbers)?;
-        return open_numbers(
-            columns,
-            keys,
-            &mut room.guesses,
-            &room.numbers,
-            &mut room.places,
-        );
+        return open_numbers(columns, keys, &room.numbers, &mut room.places);
     }
     room.places.clear();
     for at in 0..block.len() {
@@ -93,24 +97,39 @@ fn open_keys(
         let Some(key) = others.get(at) else {
             unreachable!()
         };
-        let place = open(room.alloc, keys, &mut room.guesses, key)?;
+        let place = open(room.alloc, keys, key)?;
         room.places.push(place)?;
     }
     Ok(())
 }
 
 impl GroupTable {
-    // No group of so many aggregates.
-    pub(crate) fn new(alloc: Global, count: usize) -> Result<GroupTable, AllocError>
+    // No group of so many aggregates. Keys that are numbers are found by a table where they are small.
+    pub(crate) fn new(
+        alloc: Global,
+        count: usize,
+        are_small: bool,
+    ) -> Result<GroupTable, AllocError>
         ensures unique { IfOk result (λ table. AreUnique table.keys) }
         ensures none { IfOk result (λ table. (keys_in table.keys) ≡ []) }
         ensures many { IfOk result (λ table. length table.tallies.items ≡ count) }
         ensures empty { IfOk result (λ table. (i : ℕ) → get_or (lists table.tallies.items) i [] ≡ []) }
     {
         Ok(GroupTable {
-            keys: Keys::new(alloc),
+            keys: Keys::new(alloc, are_small),
             tallies: no_tallies(alloc, count)?,
         })
+    }
+
+    // Takes all groups out. It keeps its memory.
+    pub(crate) fn clear(&mut self)
+        ensures unique { AreUnique self.new.keys }
+        ensures none { (keys_in self.new.keys) ≡ [] }
+        ensures many { length self.new.tallies.items ≡ length self.old.tallies.items }
+        ensures empty { (i : ℕ) → get_or (lists self.new.tallies.items) i [] ≡ [] }
+    {
+        self.keys.truncate(0);
+        clear_all(self.tallies.as_mut_slice());
     }
 
     // Joins to the totals at places those beside the places.

@@ -1,9 +1,9 @@
 // The totals of all groups, aggregate by aggregate.
 
-ghost use Rattle.std.specs.Prelude.{◌≡◌, ℕ, ◌<◌, ◌≤◌, List, [], get_or, length, map, OnOk};
+ghost use Rattle.std.specs.Prelude.{◌≡◌, ℕ, ◌<◌, ◌≤◌, List, [], get_or, length, map, IfSome, OnOk};
 ghost use Rattle.std.specs.List.{All};
 ghost use Rattle.ssb_cells.specs.Tables.{Columns as AnyColumns};
-ghost use Rattle.ssb_groups.specs.Joining.{AddsAs, IsJoining, values_by};
+ghost use Rattle.ssb_groups.specs.Joining.{AddsAs, HasRanksBy, IsJoining, values_by};
 ghost use Rattle.ssb_groups.specs.Keys.{IsKept, kept_total};
 ghost use Rattle.ssb_groups.specs.Places.{AreGrown, AreJoined, ArePlacesOf, IsJoined};
 ghost use Rattle.ssb_groups.specs.Tallies.{AreAdded, IsAdded, block_cells, kept_numbers, kept_totals, lists, tally_cells};
@@ -86,11 +86,13 @@ fn add_numbers(tally: &mut [KeptTotal], places: &[usize], more: &[i64])
 fn join_cells(
     tables: &[Table],
     joining: Joining,
+    ranks: Option<&[u32]>,
     tally: &mut [KeptTotal],
     places: &[usize],
     more: &[Kept],
 )
     requires joining { IsJoining tables.now joining }
+    requires ranks { IfSome ranks (λ r. HasRanksBy tables.now joining r.now) }
     requires places { All (λ p. p < length tally.old) places.now }
     requires kept { (p : ℕ) → IsKept (values_by tables.now joining) (kept_total (get_or tally.old p totals.Null)) }
     requires more { IsAdded (values_by tables.now joining) (length places.now) more.now }
@@ -100,7 +102,12 @@ fn join_cells(
         return add_all(tally, places, more);
     }
     for at in 0..places.len() {
-        joining.join(tables, &mut tally[places[at]], &KeptTotal::of(more[at]));
+        joining.join(
+            tables,
+            ranks,
+            &mut tally[places[at]],
+            &KeptTotal::of(more[at]),
+        );
     }
 }
 
@@ -123,7 +130,7 @@ fn join_numbers(
     }
     for at in 0..places.len() {
         let number = KeptTotal::of(Kept::Number(more[at]));
-        joining.join(tables, &mut tally[places[at]], &number);
+        joining.join(tables, None, &mut tally[places[at]], &number);
     }
 }
 
@@ -131,18 +138,20 @@ fn join_numbers(
 fn join_totals(
     tables: &[Table],
     joining: Joining,
+    ranks: Option<&[u32]>,
     tally: &mut [KeptTotal],
     places: &[usize],
     more: &[KeptTotal],
 )
     requires joining { IsJoining tables.now joining }
+    requires ranks { IfSome ranks (λ r. HasRanksBy tables.now joining r.now) }
     requires places { All (λ p. p < length tally.old) places.now }
     requires kept { (p : ℕ) → IsKept (values_by tables.now joining) (kept_total (get_or tally.old p totals.Null)) }
     requires more { IsAdded (values_by tables.now joining) (length places.now) (kept_totals more.now) }
     ensures { IsJoined tables.now joining places.now (kept_totals more.now) tally.old tally.new }
 {
     for at in 0..places.len() {
-        joining.join(tables, &mut tally[places[at]], &more[at]);
+        joining.join(tables, ranks, &mut tally[places[at]], &more[at]);
     }
 }
 
@@ -155,11 +164,13 @@ pub(crate) trait Joins {
     fn join_column(
         tables: &[Table],
         joining: Joining,
+        ranks: Option<&[u32]>,
         tally: &mut [KeptTotal],
         places: &[usize],
         more: &Self,
     )
         requires joining { IsJoining tables.now joining }
+        requires ranks { IfSome ranks (λ r. HasRanksBy tables.now joining r.now) }
         requires places { All (λ p. p < length tally.old) places.now }
         requires kept { (p : ℕ) → IsKept (values_by tables.now joining) (kept_total (get_or tally.old p totals.Null)) }
         requires more { IsAdded (values_by tables.now joining) (length places.now) (stand more.now) }
@@ -172,12 +183,13 @@ impl Joins for BlockTotals {
     fn join_column(
         tables: &[Table],
         joining: Joining,
+        ranks: Option<&[u32]>,
         tally: &mut [KeptTotal],
         places: &[usize],
         more: &BlockTotals,
     ) {
         match more.listing {
-            Listing::Cells => join_cells(tables, joining, tally, places, &more.cells),
+            Listing::Cells => join_cells(tables, joining, ranks, tally, places, &more.cells),
             Listing::Numbers => join_numbers(tables, joining, tally, places, &more.numbers),
         }
     }
@@ -189,11 +201,12 @@ impl Joins for Tally {
     fn join_column(
         tables: &[Table],
         joining: Joining,
+        ranks: Option<&[u32]>,
         tally: &mut [KeptTotal],
         places: &[usize],
         more: &Tally,
     ) {
-        join_totals(tables, joining, tally, places, more);
+        join_totals(tables, joining, ranks, tally, places, more);
     }
 }
 
@@ -235,6 +248,7 @@ pub(crate) fn join_all<T: Joins>(
     let joinings = columns.joinings();
     for at in 0..joinings.len() {
         let tally = tallies[at].as_mut_slice();
-        T::join_column(tables, joinings[at], tally, places, &more[at]);
+        let ranks = columns.ranks(at);
+        T::join_column(tables, joinings[at], ranks, tally, places, &more[at]);
     }
 }

@@ -1,1 +1,2 @@
 pub mod DomainFacts
+mod SetFacts

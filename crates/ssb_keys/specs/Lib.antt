@@ -1,1 +1,3 @@
 pub mod Domains
+pub mod KeySets
+pub mod Sets

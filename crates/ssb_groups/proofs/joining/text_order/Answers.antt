@@ -12,7 +12,7 @@ returns-then-x-y c =
     let texts = texts_of (values_at c.args.tables.now c.args.column) in
     sym (tied_itself nat_list_cmp_total (get_or texts c.args.x [])) ∙ ap (λ n. slice_cmp nat_cmp (get_or texts c.args.x []) (get_or texts n [])) c.if-x-y.true
 
-pub returns : goal.returns
-returns c =
+pub returns-in-None : goal.returns-in-None
+returns-in-None c =
     let texts = texts_of (values_at c.args.tables.now c.args.column) in
-    c.cmp.ensures ∙ sym (ap₂ (slice_cmp nat_cmp) (get_or_from_slice_get texts c.args.x _ [] c.text_in.ensures) (get_or_from_slice_get texts c.args.y _ [] c.text_in-2.ensures))
+    c.cmp-in-None.ensures ∙ sym (ap₂ (slice_cmp nat_cmp) (get_or_from_slice_get texts c.args.x _ [] c.text_in.ensures) (get_or_from_slice_get texts c.args.y _ [] c.text_in-in-None.ensures))

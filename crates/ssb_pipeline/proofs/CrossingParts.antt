@@ -21,7 +21,6 @@ use Rattle.ssb_groups.specs.contracts.columns.Columns.TheInside as InColumns
 use Rattle.ssb_groups.specs.contracts.joining.Joining as Joining
 use Rattle.ssb_groups.specs.contracts.groups.Groups as Groups
 use Rattle.ssb_groups.specs.contracts.groups.Groups.TheInside as InGroups
-use Rattle.ssb_groups.specs.contracts.guesses.Guesses as Guesses
 use Rattle.ssb_groups.specs.contracts.keys.Keys as Keys
 use Rattle.ssb_groups.specs.contracts.kept.KeptTotal as Total
 use Rattle.ssb_groups.specs.contracts.room.Room as Room
@@ -29,7 +28,13 @@ use Rattle.ssb_groups.specs.contracts.store.Store as Store
 use Rattle.ssb_groups.specs.contracts.store.Store.TheInside as InStore
 use Rattle.ssb_groups.specs.contracts.table.GroupTable as Groups_table
 use Rattle.ssb_job.specs.contracts.job.Job as Job
+use Rattle.ssb_keys.specs.contracts.dense.DenseKeys as DenseKeys
+use Rattle.ssb_keys.specs.contracts.dense.DenseKeys.TheInside as InDense
 use Rattle.ssb_keys.specs.contracts.domain.Domain as Domain
+use Rattle.ssb_keys.specs.contracts.guesses.Guesses as Guesses
+use Rattle.ssb_keys.specs.contracts.hashed.HashedKeys as HashedKeys
+use Rattle.ssb_keys.specs.contracts.hashed.HashedKeys.TheInside as InHashed
+use Rattle.ssb_keys.specs.contracts.key_set.KeySet as KeySet
 use Rattle.ssb_plan.specs.contracts.input.ColumnRef as ColumnRef
 use Rattle.ssb_pipeline.specs.contracts.part.Part as Part
 use Rattle.ssb_pipeline.specs.contracts.part.Part.TheInside as InPart
@@ -40,16 +45,27 @@ use Rattle.ssb_pipeline.specs.contracts.parts.Parts as Parts
 use Rattle.ssb_pipeline.specs.contracts.parts.Parts.TheInside as InParts
 use Rattle.ssb_pipeline.specs.contracts.parts.PartsPass as PartsPass
 use Rattle.ssb_pipeline.specs.contracts.parts.PartsPass.TheInside as InPass
-use Rattle.ssb_pipeline.proofs.CrossingJobs.{job, tables}
+use Rattle.std.proofs.MapsCrossingOver as over
+use Rattle.ssb_pipeline.proofs.Crossing.{Crosses, declared_crosses, variants_crosses, view_crosses}
+use Rattle.ssb_pipeline.proofs.CrossingJobs.{job, ranks, tables}
+
+guesses : Crosses Guesses.the_row
+guesses = (search (crosses, sendable) depth 20, search (crosses, sendable) depth 20)
+
+dense : Crosses DenseKeys.the_row
+dense = view_crosses InDense.the_row _ _ _ _ (declared_crosses InDense.the_type ((search (as_row_send, crosses, sendable) depth 20, search (as_row_sync, crosses, sendable) depth 20), ((search (as_row_send, crosses, sendable) depth 20, search (as_row_sync, crosses, sendable) depth 20), tt)))
+
+hashed : Crosses HashedKeys.the_row
+hashed = view_crosses InHashed.the_row _ _ _ _ (declared_crosses InHashed.the_type ((search (over.crosses, crosses, sendable) depth 40, search (over.crosses, crosses, sendable) depth 40), (guesses, tt)))
+
+key_set : Crosses KeySet.the_row
+key_set = variants_crosses KeySet.enum ((dense, tt), ((hashed, tt), tt))
 
 keys_send : IsSend Keys.the_row
-keys_send = declared_send Keys.the_type (search (crosses, sendable) depth 40, (search (crosses, sendable) depth 40, tt))
+keys_send = declared_send Keys.the_type (key_set.0, (search (crosses, sendable) depth 40, tt))
 
 total_send : IsSend Total.the_row
 total_send = search (crosses, sendable) depth 20
-
-guesses_send : IsSend Guesses.the_row
-guesses_send = search (crosses, sendable) depth 20
 
 room_send : IsSend Room.the_row
 room_send = search (crosses, sendable) depth 20
@@ -78,7 +94,7 @@ domain_send = search (as_row_send, crosses, sendable) depth 20
 
 columns_send : IsSend Columns.the_row
 columns_send =
-    view_send InColumns.the_row _ _ _ _ (declared_send InColumns.the_type (search (crosses, sendable) depth 20, (tables.0, (search (column_ref_send, as_row_send, crosses, sendable) depth 20, (search (domain_send, as_row_send, crosses, sendable) depth 20, (search (joining_send, as_row_send, crosses, sendable) depth 20, tt))))))
+    view_send InColumns.the_row _ _ _ _ (declared_send InColumns.the_type (search (crosses, sendable) depth 20, (tables.0, (search (column_ref_send, as_row_send, crosses, sendable) depth 20, (search (domain_send, as_row_send, crosses, sendable) depth 20, (search (joining_send, as_row_send, crosses, sendable) depth 20, (ranks.0, tt)))))))
 
 groups_send : IsSend Groups.the_row
 groups_send =

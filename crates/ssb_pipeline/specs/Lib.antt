@@ -1,5 +1,6 @@
 pub mod Morsels
 pub mod Joined
+pub mod Spare
 pub mod State
 pub mod Tickets
 pub mod Part

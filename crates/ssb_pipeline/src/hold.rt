@@ -2,6 +2,7 @@
 
 ghost use Rattle.std.specs.Prelude.{◌≡◌, ◌<◌, ◌≤◌, [], List};
 ghost use Rattle.std.specs.List.{All};
+ghost use Rattle.ssb_job.specs.Kept.{AreOneJob};
 ghost use Rattle.ssb_pipeline.specs.Batch.{BringsBatch, GetsTickets, HandsBatch, IsBatchOf, IsBatchWith, IsDueTo, Settles};
 ghost use Rattle.ssb_pipeline.specs.Part.{IsOutIn};
 ghost use Rattle.ssb_pipeline.specs.Pass.{known};
@@ -13,6 +14,7 @@ use crate::gate::Gate;
 use crate::part::Part;
 use crate::partial::Partial;
 use crate::parts::{Parts, PartsPass};
+use crate::scratch::Scratch;
 use crate::ticket::Ticket;
 use std::sync::Wait;
 
@@ -103,12 +105,14 @@ fn give_all_up(part: &mut Part, tickets: Vec<Ticket>)
 
 // A part takes a batch, the tickets of which are out, or notes that they are given up. It refuses none
 // but for want of memory.
-fn take_back(part: &mut Part, made: Result<Partial, Vec<Ticket>>)
-    requires { IsBatchWith (IsOutIn part.old) made }
-    ensures { (ts : List TicketState) → IsBatchOf ts made → Settles (morsels_of ts) part.old part.new }
+fn take_back(part: &mut Part, made: Result<Partial, Vec<Ticket>>, scratch: &mut Scratch)
+    requires made { IsBatchWith (IsOutIn part.old) made }
+    requires scratch { AreOneJob scratch.old part.old.job }
+    ensures same { scratch.new ≡ scratch.old }
+    ensures settles { (ts : List TicketState) → IsBatchOf ts made → Settles (morsels_of ts) part.old part.new }
 {
     match made {
-        Ok(partial) => match part.give_back(partial) {
+        Ok(partial) => match part.take_in(partial, scratch) {
             Ok(()) => {}
             Err(ReturnFault::Memory(partial)) => give_all_up(part, partial.into_tickets()),
             Err(ReturnFault::NotHandedOut(_)) => unreachable!(),
@@ -125,13 +129,16 @@ pub(crate) fn bring_back<R: Wait>(
     section: u32,
     pass: &mut PartsPass,
     made: Result<Partial, Vec<Ticket>>,
+    scratch: &mut Scratch,
 )
     requires ready { IsReady parts.now section pass.old }
+    requires scratch { AreOneJob scratch.old parts.now.job }
     requires made { IsBatchWith (IsDueTo (known pass.old section)) made }
     ensures ready { StaysReady parts.now section pass.old pass.new }
     ensures brings { (ts : List TicketState) → IsBatchOf ts made → BringsBatch ts (known pass.old section) (known pass.new section) }
+    ensures same { scratch.new ≡ scratch.old }
 {
     let mut held = parts.take(rt, section, pass);
-    take_back(held.part(), made);
+    take_back(held.part(), made, scratch);
     parts.put(rt, held, pass);
 }

@@ -4,10 +4,10 @@
 //!   [`Held`]: all sections, shared; [`run_workers`], [`run_batches`] and [`finish`]; [`Gate`];
 //!   [`replay`] of calls.
 //! - Callers: `ssb_answer`; embedders with threads of their own.
-//! - Files: `part`, which tells the way of a morsel, `ticket`, `batch`, `partial`, `grouping`, `fault`,
-//!   `calls`: one section; `line`, `parts`, `hold`, `worker`, `gate`, `finishing`: all of them; `law`.
+//! - Files: `part`, which tells the way of a morsel, `ticket`, `batch`, `partial`, `grouping`, `scratch`,
+//!   `fault`, `calls`: one section; `line`, `parts`, `hold`, `worker`, `gate`, `finishing`: all of them; `law`.
 //! - Definitions: `Morsels`, `Joined`, `Tickets`, `State`, `Part`, `Replay`: one section; `Rule`, `Free`,
-//!   `Pass`, `Lending`, `Work`, `Batch`, `Finish`: all of them; `Marks`, `Probed`: for the contracts inside.
+//!   `Pass`, `Lending`, `Work`, `Batch`, `Finish`: all of them; `Marks`, `Probed`, `Spare`: for the contracts inside.
 #![tactic(auto)]
 
 mod batch;
@@ -22,6 +22,7 @@ mod line;
 mod part;
 mod partial;
 mod parts;
+mod scratch;
 mod ticket;
 mod worker;
 

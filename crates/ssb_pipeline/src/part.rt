@@ -19,6 +19,7 @@ ghost use Rattle.ssb_job.specs.Kept.{AreOneJob};
 
 use crate::fault::ReturnFault;
 use crate::partial::Partial;
+use crate::scratch::Scratch;
 use crate::ticket::Ticket;
 use ssb_groups::Groups;
 use ssb_job::Job;
@@ -218,13 +219,32 @@ impl Part {
         ensures due { All (IsOutIn self.old) partial.tickets → IsUnrefused result }
         ensures ran { Ran self.old self.new }
     {
+        let mut scratch = Scratch::new(self.alloc, &self.job);
+        let given = self.take_in(partial, &mut scratch);
+        drop(scratch);
+        given
+    }
+
+    // The same; the memory of the partial's groups is kept in the scratch.
+    pub(crate) fn take_in(
+        &mut self,
+        partial: Partial,
+        scratch: &mut Scratch,
+    ) -> Result<(), ReturnFault>
+        requires one_job { All (λ t. AreOneJob t.job self.old.job) partial.tickets }
+        requires scratch { AreOneJob scratch.old self.old.job }
+        ensures gives { GivesBack self.old partial result self.new }
+        ensures due { All (IsOutIn self.old) partial.tickets → IsUnrefused result }
+        ensures ran { Ran self.old self.new }
+        ensures same { scratch.new ≡ scratch.old }
+    {
         if !self.are_handed_out(partial.tickets()) {
             return Err(ReturnFault::NotHandedOut(partial));
         }
         if self.has_come_back(partial.tickets()) {
             return Err(ReturnFault::Doubled(partial));
         }
-        match partial.merge_into(&mut self.groups) {
+        match partial.merge_into(&mut self.groups, scratch) {
             Ok(tickets) => {
                 set_marks(
                     self.marks.as_mut_slice(),
@@ -283,17 +303,20 @@ impl Part {
 
     // Does the morsel of a ticket that was handed out and did not come back, and takes its groups.
     // Refused, the part is as before.
-    fn bring_back(&mut self, ticket: Ticket) -> Result<(), AllocError>
+    fn bring_back(&mut self, ticket: Ticket, scratch: &mut Scratch) -> Result<(), AllocError>
         requires one_job { AreOneJob ticket.job self.old.job }
+        requires scratch { AreOneJob scratch.old self.old.job }
         requires handed { is_handed_out self.old ticket ≡ true }
         requires fresh { has self.old.returned ticket.morsel ≡ false }
         ensures back { OnOk result (Returns ticket.morsel self.old self.new) }
+        ensures job { OnOk result (self.new.job ≡ self.old.job) }
         ensures err { OnErr result (self.new ≡ self.old) }
+        ensures same { scratch.new ≡ scratch.old }
     {
-        let Ok(partial) = Partial::of(self.alloc, &self.job, ticket) else {
+        let Ok(partial) = Partial::of_one(self.alloc, &self.job, ticket, scratch) else {
             return Err(AllocError);
         };
-        match self.give_back(partial) {
+        match self.take_in(partial, scratch) {
             Ok(()) => Ok(()),
             Err(ReturnFault::Memory(_)) => Err(AllocError),
             Err(_) => unreachable!(),
@@ -314,9 +337,10 @@ impl Part {
         ensures lawful { IsLawfulPart self.new }
     {
         self.lawful();
+        let mut scratch = Scratch::new(self.alloc, &self.job);
         while let Some(ticket) = self.hand_out() {
             self.lawful();
-            self.bring_back(ticket)?;
+            self.bring_back(ticket, &mut scratch)?;
             self.lawful();
         }
         Ok(())
@@ -341,10 +365,11 @@ impl Part {
         self.hand_out_all();
         self.lawful();
         let (first, end) = self.bounds();
+        let mut scratch = Scratch::new(self.alloc, &self.job);
         for morsel in first..end {
             if !self.is_back(morsel) {
                 let ticket = self.ticket_for(morsel);
-                self.bring_back(ticket)?;
+                self.bring_back(ticket, &mut scratch)?;
                 self.lawful();
             }
         }

@@ -14,6 +14,7 @@ ghost use Rattle.ssb_pipeline.specs.Lending.{LendsPart};
 use crate::line::{Line, LinePass, another_one, open_one, put_one, take_one};
 use crate::part::Part;
 use crate::partial::Partial;
+use crate::scratch::Scratch;
 use crate::ticket::Ticket;
 use ssb_job::Job;
 use std::alloc::{AllocError, Global};
@@ -191,12 +192,25 @@ impl Parts {
         let _rows = self.job.fact_rows();
     }
 
-    // The partial of a batch of tickets of these parts' job; where it can't be made, the tickets.
-    pub(crate) fn partial_of(&self, tickets: Vec<Ticket>) -> Result<Partial, Vec<Ticket>>
-        requires { All (λ t. AreOneJob t.job self.now.job) tickets.items }
-        ensures { IsBatchOf tickets.items result }
+    // Memory for a worker of these parts. It takes none yet.
+    pub(crate) fn scratch(&self) -> Scratch
+        ensures { result ≡ self.now.job }
     {
-        match Partial::of_all(self.alloc, &self.job, tickets) {
+        Scratch::new(self.alloc, &self.job)
+    }
+
+    // The partial of a batch of tickets of these parts' job; where it can't be made, the tickets.
+    pub(crate) fn partial_of(
+        &self,
+        tickets: Vec<Ticket>,
+        scratch: &mut Scratch,
+    ) -> Result<Partial, Vec<Ticket>>
+        requires one_job { All (λ t. AreOneJob t.job self.now.job) tickets.items }
+        requires scratch { AreOneJob scratch.old self.now.job }
+        ensures batch { IsBatchOf tickets.items result }
+        ensures same { scratch.new ≡ scratch.old }
+    {
+        match Partial::in_scratch(&self.job, tickets, scratch) {
             Ok(partial) => Ok(partial),
             Err((tickets, _)) => Err(tickets),
         }

@@ -7,6 +7,7 @@
 // queue says that it is out in the part, so that its return is refused for want of memory alone.
 
 ghost use Rattle.std.specs.Prelude.{◌≡◌, ◌<◌, ℕ, length, slice_index_or, All, IfOk, IsFalse, IsTrue};
+ghost use Rattle.ssb_job.specs.Kept.{AreOneJob};
 ghost use Rattle.ssb_pipeline.specs.Pass.{HoldsNone, IsPassOfParts, PassState, known};
 ghost use Rattle.ssb_pipeline.specs.Batch.{IsMore};
 ghost use Rattle.ssb_pipeline.specs.Work.{IsExhausted, IsReady, IsRound, IsWorked, StaysReady};
@@ -14,9 +15,19 @@ ghost use Rattle.ssb_pipeline.specs.Work.{IsExhausted, IsReady, IsRound, IsWorke
 use crate::gate::Gate;
 use crate::hold::{bring_back, get_tickets};
 use crate::parts::{Parts, PartsPass};
+use crate::scratch::Scratch;
 use std::sync::Wait;
 use std::thread;
 use std::thread::Threads;
+
+// How a worker takes morsels.
+#[derive(Drop)]
+struct Taking<'a, G: Gate> {
+    // Up to how many at a time.
+    batch: u32,
+    // What is told of each.
+    gate: &'a G,
+}
 
 // Up to so many morsels of the section, if there is one left.
 fn turn<R: Wait, G: Gate>(
@@ -24,25 +35,27 @@ fn turn<R: Wait, G: Gate>(
     parts: &Parts,
     section: u32,
     pass: &mut PartsPass,
-    batch: u32,
-    gate: &G,
+    taking: &Taking<'_, G>,
+    scratch: &mut Scratch,
 ) -> bool
     requires ready { IsReady parts.now section pass.old }
-    requires some { 0 < batch }
+    requires some { 0 < taking.now.batch }
+    requires scratch { AreOneJob scratch.old parts.now.job }
+    ensures same { scratch.new ≡ scratch.old }
     ensures ready { StaysReady parts.now section pass.old pass.new }
     ensures round { IsRound (known pass.old section) (known pass.new section) }
     ensures more { IsTrue result → IsMore (known pass.old section) (known pass.new section) }
     ensures ended { IsFalse result → IsExhausted (known pass.new section) }
 {
-    let tickets = get_tickets(rt, parts, section, pass, batch, gate);
+    let tickets = get_tickets(rt, parts, section, pass, taking.batch, taking.gate);
     if tickets.is_empty() {
         return false;
     }
     for place in 0..tickets.len() {
-        gate.before_probe(tickets[place].morsel());
+        taking.gate.before_probe(tickets[place].morsel());
     }
-    let made = parts.partial_of(tickets);
-    bring_back(rt, parts, section, pass, made);
+    let made = parts.partial_of(tickets, scratch);
+    bring_back(rt, parts, section, pass, made, scratch);
     true
 }
 
@@ -52,17 +65,19 @@ fn work_section<R: Wait, G: Gate>(
     parts: &Parts,
     section: u32,
     pass: &mut PartsPass,
-    batch: u32,
-    gate: &G,
+    taking: &Taking<'_, G>,
+    scratch: &mut Scratch,
 )
     requires ready { IsReady parts.now section pass.old }
-    requires some { 0 < batch }
+    requires some { 0 < taking.now.batch }
+    requires scratch { AreOneJob scratch.old parts.now.job }
+    ensures same { scratch.new ≡ scratch.old }
     ensures ready { StaysReady parts.now section pass.old pass.new }
     ensures round { IsRound (known pass.old section) (known pass.new section) }
     ensures ended { IsExhausted (known pass.new section) }
 {
     for _ in rt.forever() {
-        if !turn(rt, parts, section, pass, batch, gate) {
+        if !turn(rt, parts, section, pass, taking, scratch) {
             return;
         }
     }
@@ -92,11 +107,13 @@ pub fn work<R: Wait, G: Gate>(
     } else {
         (index % sections as usize) as u32
     };
+    let taking = Taking { batch, gate };
+    let mut scratch = parts.scratch();
     for section in first..sections {
-        work_section(rt, parts, section, pass, batch, gate);
+        work_section(rt, parts, section, pass, &taking, &mut scratch);
     }
     for section in 0..first {
-        work_section(rt, parts, section, pass, batch, gate);
+        work_section(rt, parts, section, pass, &taking, &mut scratch);
     }
 }
 

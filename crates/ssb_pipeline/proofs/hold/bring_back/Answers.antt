@@ -8,8 +8,8 @@ use Rattle.ssb_pipeline.proofs.Batches.{batch-with, brings-batch, due-is-out, se
 use Rattle.ssb_pipeline.proofs.Holds.{hold, taken}
 use Rattle.ssb_pipeline.proofs.hold.bring_back.Goals as goal
 
-pub take_back-requires : goal.take_back-requires
-take_back-requires g c =
+pub take_back-requires-clause-made : goal.take_back-requires-clause-made
+take_back-requires-clause-made g c =
     let v = known c.args.pass.now c.args.section in
     let t = c.take-held.ensures in
     subst (λ (x : PartState). IsBatchWith (IsOutIn x) c.args.made) (sym c.part.ensures.value)
@@ -19,7 +19,7 @@ pub put-requires-clause-ran : goal.put-requires-clause-ran
 put-requires-clause-ran g c =
     let in_views = subst (λ n. c.args.section < n) (sym c.requires.ready.pass.count) c.requires.ready.there in
     let m = c.requires.made in
-    let s = subst (λ (x : PartState). Settles (morsels_of m.tickets) x c.take_back.new.part) c.part.ensures.value (c.take_back.ensures m.tickets m.of) in
+    let s = subst (λ (x : PartState). Settles (morsels_of m.tickets) x c.take_back.new.part) c.part.ensures.value (c.take_back.ensures.settles m.tickets m.of) in
     let is = taken c.args.section c.take-held.result.section c.args.pass.now c.take-held.new.pass c.take-held.result.part c.take-held.ensures.section in_views c.take-held.ensures.view in
     subst (λ (v : Knows). Ran v.seen c.take_back.new.part) (sym is) s.ran
 
@@ -29,7 +29,7 @@ put-requires-clause-own g c =
     let v = known c.args.pass.now c.args.section in
     let m = c.requires.made in
     let t = c.take-held.ensures in
-    let s = subst (λ (x : PartState). Settles (morsels_of m.tickets) x c.take_back.new.part) c.part.ensures.value (c.take_back.ensures m.tickets m.of) in
+    let s = subst (λ (x : PartState). Settles (morsels_of m.tickets) x c.take_back.new.part) c.part.ensures.value (c.take_back.ensures.settles m.tickets m.of) in
     let is = taken c.args.section c.take-held.result.section c.args.pass.now c.take-held.new.pass c.take-held.result.part t.section in_views t.view in
     subst (λ (w : Knows). BringsOwn w c.take_back.new.part) (sym is) (settles-own v v c.take-held.result.part c.take_back.new.part t.due m.tickets s m.each)
 
@@ -44,4 +44,4 @@ returns-clause-brings g c =
     let in_views = subst (λ n. c.args.section < n) (sym c.requires.ready.pass.count) c.requires.ready.there in
     let t = c.take-held.ensures in
     let h = hold c.args.section c.take-held.result.section c.args.pass.now c.take-held.new.pass c.put.new.pass c.take-held.result.part c.take_back.new.part t.section in_views c.requires.ready.none t.view c.put.ensures.view in
-    λ ts of. brings-batch _ _ c.take-held.result.part c.take_back.new.part t.due ts (subst (λ (x : PartState). Settles (morsels_of ts) x c.take_back.new.part) c.part.ensures.value (c.take_back.ensures ts of)) h.known t.follows
+    λ ts of. brings-batch _ _ c.take-held.result.part c.take_back.new.part t.due ts (subst (λ (x : PartState). Settles (morsels_of ts) x c.take_back.new.part) c.part.ensures.value (c.take_back.ensures.settles ts of)) h.known t.follows

@@ -1,4 +1,4 @@
-use Rattle.std.proofs.Common.{◌<◌, ◌≤◌, ◌⊎◌, inl, inr, ⊎_elim, arith, rules, ◌+◌}
+use Rattle.std.proofs.Common.{◌∙◌, ◌<◌, ◌≤◌, ◌⊎◌, inl, inr, ⊎_elim, arith, rules, ◌+◌}
 use Rattle.std.proofs.lemmas.Bool.{cases_lt}
 use Rattle.ssb_pipeline.specs.Pass.{known}
 use Rattle.ssb_pipeline.proofs.Rounds.{round_self, rounds_step, ended_step}
@@ -7,6 +7,7 @@ use Rattle.ssb_pipeline.proofs.worker.work.Goals as goal
 
 pub loop-section-init : goal.loop-section-init
 loop-section-init g c = record {
+  scratch = c.scratch-scratch.ensures;
   pass = c.requires.pass;
   none = c.requires.none;
   rounds = λ s _. round_self (known c.args.pass.now s);
@@ -18,7 +19,7 @@ work_section-requires g c =
     let i = c.loop-section.invariant in
     let k = c.sections-sections.ensures in
     let t = c.loop-section-test.true in
-    record { ready = record { there = omega (arith, k, t); pass = i.pass; none = i.none }; some = c.requires.some }
+    record { ready = record { there = omega (arith, k, t); pass = i.pass; none = i.none }; some = c.requires.some; scratch = i.scratch }
 
 pub loop-section-preserved : goal.loop-section-preserved
 loop-section-preserved g c =
@@ -28,6 +29,7 @@ loop-section-preserved g c =
     let t = c.loop-section-test.true in
     let first = c.if-sections-eq0.first in
     let w = c.work_section.ensures in record {
+      scratch = w.same ∙ c.loop-section.invariant.scratch;
       pass = w.ready.pass;
       none = w.ready.none;
       rounds = rounds_step c.args.pass.now q c.work_section.new.pass c.loop-section.section (omega arith) c.loop-section.invariant.rounds w.ready.only w.round;
@@ -44,6 +46,7 @@ loop-section-2-preserved g c =
     let first = c.if-sections-eq0.first in
     let f = c.loop-section-2.auto.section-end in
     let w = c.work_section-in-loop-section-2.ensures in record {
+      scratch = w.same ∙ c.loop-section-2.invariant.scratch;
       pass = w.ready.pass;
       none = w.ready.none;
       rounds = rounds_step c.args.pass.now q c.work_section-in-loop-section-2.new.pass c.loop-section-2.section (search rules) c.loop-section-2.invariant.rounds w.ready.only w.round;
@@ -69,6 +72,7 @@ loop-section-2-init g c =
     let k = c.sections-sections.ensures in
     let past = c.loop-section-test.false in
     record {
+      scratch = i.scratch;
       pass = i.pass;
       none = i.none;
       rounds = i.rounds;

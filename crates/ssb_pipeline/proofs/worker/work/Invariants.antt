@@ -1,10 +1,11 @@
-use Rattle.std.proofs.Common.{◌<◌, ◌≤◌, ◌⊎◌}
+use Rattle.std.proofs.Common.{◌≡◌, ◌<◌, ◌≤◌, ◌⊎◌}
 use Rattle.ssb_pipeline.specs.Pass.{AllSections, HoldsNone, IsPassOfParts, known}
 use Rattle.ssb_pipeline.specs.Work.{IsExhausted, IsRound}
 use Rattle.ssb_pipeline.proofs.worker.work.Given as goal
 
 abbrev pub invariant-loop-section : goal.invariant-loop-section
 invariant-loop-section g l = record {
+  scratch : l.scratch ≡ l.parts.job;
   pass : IsPassOfParts l.parts l.pass;
   none : HoldsNone l.pass;
   rounds : AllSections (λ s w. IsRound (known l.fn.pass s) w) l.pass;
@@ -13,6 +14,7 @@ invariant-loop-section g l = record {
 
 abbrev pub invariant-loop-section-2 : goal.invariant-loop-section-2
 invariant-loop-section-2 g l = record {
+  scratch : l.scratch ≡ l.parts.job;
   pass : IsPassOfParts l.parts l.pass;
   none : HoldsNone l.pass;
   rounds : AllSections (λ s w. IsRound (known l.fn.pass s) w) l.pass;

@@ -12,7 +12,7 @@ use Rattle.ssb_pipeline.proofs.Due.{awaits, in-place}
 use Rattle.ssb_pipeline.proofs.MarkFacts.{length-with}
 use Rattle.ssb_pipeline.proofs.PartFacts.{back-few, comes-back, few-both, given-marks-there, kept-more, marks-there, one-job, state, still-long}
 use Rattle.ssb_pipeline.proofs.Numbers.{not-both}
-use Rattle.ssb_pipeline.proofs.part.Part.give_back.Goals as goal
+use Rattle.ssb_pipeline.proofs.part.Part.take_in.Goals as goal
 
 pub merge_into-requires-clause-one_job : goal.merge_into-requires-clause-one_job
 merge_into-requires-clause-one_job c =

@@ -154,7 +154,7 @@ const PARTS: Choice = Choice {
 const BATCH: Choice = Choice {
     name: "batch",
     value: Some("N"),
-    help: "Up to how many morsels a worker takes at a time, 1 to 64; 1 if not given",
+    help: "Up to how many morsels a worker takes at a time, 1 to 64; 1 if not given. Take 8 or 64 where groups are thousands",
     is_required: false,
 };
 

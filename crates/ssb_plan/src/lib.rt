@@ -29,7 +29,7 @@ pub mod table_filter;
 
 pub use column_filter::{ColumnFilter, values_of};
 pub use dimension::Dimension;
-pub use index::{Index, Span};
+pub use index::{Index, Lookup, Span};
 pub use input::{ColumnRef, Input};
 pub use join::Join;
 pub use only::only_at;

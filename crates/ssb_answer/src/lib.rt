@@ -3,7 +3,8 @@
 //! - Offers: [`Database`], tables loaded once, and the plans of texts over them; [`Session`], the statements of an
 //!   input over them, in a [`Manner`]; [`run`] and [`run_alone`] over readers, [`run_from`] and [`run_alone_from`] over sources,
 //!   [`answer_bytes`] over files in memory; [`Context`], [`Settings`], [`RunFault`], [`Gate`], [`Laps`]; [`Shape`],
-//!   in which [`Database::show`] writes; [`rows`], [`write_answer`], [`Answer`], [`Sink`], [`Out`].
+//!   in which [`Database::show`] writes; [`rows`], [`write_answer`], [`Answer`], [`AnswerRows`],
+//!   [`AnswerRow`], [`Sink`], [`Out`].
 //! - Callers: the program; embedders.
 //! - Files: `database`, `session`, `context`; `show`: for people; `whole`, `grouping`: by workers; `alone`: in
 //!   the caller's thread; `readers`, `bytes`, `law`.
@@ -37,7 +38,9 @@ pub use ssb_lanes::{
 pub use ssb_load::{In, Source};
 pub use ssb_pipeline::{Gate, NoGate};
 pub use ssb_reply::{RunFault, Settings, run_line};
-pub use ssb_rows::{Answer, AnswerFault, AnswerRow, Out, Sink, SinkFault, rows, write_answer};
+pub use ssb_rows::{
+    Answer, AnswerFault, AnswerRow, AnswerRows, Out, Sink, SinkFault, rows, write_answer,
+};
 pub use ssb_show::{Mode, Shape};
 pub use ssb_sql::SqlFault;
 pub use ssb_statements::{

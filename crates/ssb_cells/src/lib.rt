@@ -1,11 +1,10 @@
 //! Values, columns and tables: what every other layer reads values from.
 //!
 //! - Offers: [`Value`], [`Truth`], [`compare`], [`sort_cmp`], [`Op`], [`ColType`], [`Column`], [`Table`];
-//!   [`OwnedValue`], which is kept; [`ColumnBuilder`] and [`ColumnParts`], columns that grow by values
-//!   and by parts.
+//!   [`ColumnBuilder`] and [`ColumnParts`], columns that grow by values and by parts.
 //! - Callers: `ssb_load` and `ssb_lanes`, which fill columns; `ssb_conditions`, `ssb_plan`, `ssb_job`,
 //!   `ssb_groups` and `ssb_rows`, which read them.
-//! - Files: `value`, `owned`, `truth`, `order`: values; `column`, over `texts` and their `dictionary`;
+//! - Files: `value`, `truth`, `order`: values; `column`, over `texts` and their `dictionary`;
 //!   `builder`, `parts`; `table`.
 //! - Definitions: `Cell`, `Values`, `Truth`, `Compare`, `Order`: values; `Tables`, `Codes`, `Lent`,
 //!   `Joined`, `Lawful`: what is seen of columns and tables; `Stored`, `Building`, `Spelling`, `Parts`:
@@ -16,7 +15,6 @@ pub mod builder;
 pub mod column;
 mod dictionary;
 pub mod order;
-pub mod owned;
 pub mod parts;
 pub mod table;
 mod texts;
@@ -26,7 +24,6 @@ pub mod value;
 pub use builder::ColumnBuilder;
 pub use column::{Column, codes_tell_texts, numbers_have_no_text};
 pub use order::{compare, sort_cmp};
-pub use owned::OwnedValue;
 pub use parts::ColumnParts;
 pub use ssb_packed::{CodeSlice, NumberSlice, flag_at};
 pub use ssb_terms::{ColType, Op};

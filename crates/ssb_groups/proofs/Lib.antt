@@ -15,8 +15,8 @@ pub mod Permuted
 pub mod PlaceFacts
 pub mod PlacedRows
 pub mod PlainFacts
-pub mod RankFacts
-mod RowFacts
+mod RankFacts
+pub mod RowFacts
 pub mod StandsFacts
 pub mod StoreFacts
 pub mod TakenFacts

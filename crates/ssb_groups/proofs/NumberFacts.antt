@@ -9,7 +9,7 @@ use Rattle.ssb_cells.specs.Cell.{Cell, number}
 use Rattle.ssb_cells.specs.Tables.{Columns}
 use Rattle.ssb_groups.specs.Joining.{AddsAs, FitsAdded, JoinsTotal, added}
 use Rattle.ssb_groups.specs.Keys.{AreOfKind, FitsSum, IsKept, IsOfKind, kept_total, spelt_cell}
-use Rattle.ssb_groups.specs.Tallies.{kept_numbers}
+use Rattle.ssb_groups.specs.Tallies.{kept_codes, kept_numbers}
 use Rattle.ssb_groups.specs.Alone.{AreAlone, AreApplied, IsApplied, IsItself}
 use Rattle.ssb_groups.specs.Outcomes.{exact}
 use Rattle.ssb_groups.specs.Stands.{IsRanged}
@@ -26,6 +26,9 @@ use Rattle.ssb_groups.proofs.TallyFacts.{JoinedTo, joined-next}
 
 pub number-at : (ns : List ℤ) (k : ℕ) → k < length ns → get_or (kept_numbers ns) k kept.Null ≡ kept.Number (get_or ns k (pos 0))
 number-at ns k lt = get_or-map kept.Number ns k (pos 0) kept.Null lt
+
+pub code-at : (cs : List ℕ) (k : ℕ) → k < length cs → get_or (kept_codes cs) k kept.Null ≡ kept.Code (get_or cs k 0)
+code-at cs k lt = get_or-map kept.Code cs k 0 kept.Null lt
 
 pub numbers-of-kind : (ns : List ℤ) (m : ℕ) → length ns ≤ m → ((n : ℕ) → n < m → in_range (get_or ns n (pos 0)) ≡ true) → AreOfKind kinds.Int (kept_numbers ns)
 numbers-of-kind ns m all range = λ n lt.
@@ -83,6 +86,15 @@ numbers-applied o f left right xs itself beside many lefts rights each = record 
 -- values that are numbers, where a set function over one alone is that one
 pub numbers-alone : (f : SetFunction) (ns : List ℤ) → IsItself f kinds.Int → AreOfKind kinds.Int (kept_numbers ns) → AreAlone f (kept_numbers ns) (kept_numbers ns)
 numbers-alone f ns itself kinds = record { many = refl; each = λ n lt. itself (get_or (kept_numbers ns) n kept.Null) (kinds n lt) }
+
+-- the same of codes
+codes-of-kind : (cs : List ℕ) (n : ℕ) → IsOfKind kinds.Text (get_or (kept_codes cs) n kept.Null)
+codes-of-kind [] n = tt
+codes-of-kind (c ∷ cs) zero = tt
+codes-of-kind (c ∷ cs) (suc n) = codes-of-kind cs n
+
+pub codes-alone : (f : SetFunction) (cs : List ℕ) → IsItself f kinds.Text → AreAlone f (kept_codes cs) (kept_codes cs)
+codes-alone f cs itself = record { many = refl; each = λ n lt. itself (get_or (kept_codes cs) n kept.Null) (codes-of-kind cs n) }
 
 -- ---- a sum as a number
 

@@ -52,13 +52,18 @@ tally_cells tally = kept_totals tally.items
 abbrev pub kept_numbers : List ℤ → List Kept
 kept_numbers ns = map kept.Number ns
 
+-- what stands for texts with these codes
+abbrev pub kept_codes : List ℕ → List Kept
+kept_codes cs = map kept.Code cs
+
 -- what stands for an aggregate over each combination of a block alone, by the list that has it
-abbrev pub cells_by : Listing → List Kept → List ℤ → List Kept
-cells_by listing.Cells cells numbers = cells
-cells_by listing.Numbers cells numbers = kept_numbers numbers
+abbrev pub cells_by : Listing → List Kept → List ℤ → List ℕ → List Kept
+cells_by listing.Cells cells numbers codes = cells
+cells_by listing.Numbers cells numbers codes = kept_numbers numbers
+cells_by listing.Codes cells numbers codes = kept_codes codes
 
 abbrev pub block_cells : BlockTotals → List Kept
-block_cells totals = cells_by totals.listing totals.cells.items totals.numbers.items
+block_cells totals = cells_by totals.listing totals.cells.items totals.numbers.items totals.codes.items
 
 -- the totals at a place
 abbrev pub totals_at : List (List KeptTotal) → ℕ → List Kept

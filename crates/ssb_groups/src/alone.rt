@@ -78,8 +78,8 @@ pub(crate) fn apply_all(
     true
 }
 
-// Makes each number what an operation makes of it and of the one that stands beside it, unless 64 bits do not hold one of
-// them.
+// Makes each number what an operation makes of it and of the one that stands beside it, unless 64 bits do not hold one
+// of them.
 pub(crate) fn apply_numbers(operation: Operation, left: &mut [i64], right: &[i64]) -> bool
     requires many { length left.old ≡ length right.now }
     requires left { AreOfKind kinds.Int (kept_numbers left.old) }

@@ -10,9 +10,11 @@ pub(crate) enum Listing {
     Cells,
     /// As numbers: each value is one.
     Numbers,
+    /// As codes: each value is a text.
+    Codes,
 }
 
-/// An aggregate over each combination of a block alone. The memory of both lists is used again for the next block.
+/// An aggregate over each combination of a block alone. The memory of the lists is used again for the next block.
 #[derive(Drop)]
 pub(crate) struct BlockTotals {
     /// Which list has them.
@@ -21,6 +23,8 @@ pub(crate) struct BlockTotals {
     pub(crate) cells: Vec<Kept>,
     /// Each, where all are numbers.
     pub(crate) numbers: Vec<i64>,
+    /// The code of each, where all are texts.
+    pub(crate) codes: Vec<u32>,
 }
 
 impl BlockTotals {
@@ -30,6 +34,7 @@ impl BlockTotals {
             listing: Listing::Cells,
             cells: Vec::new(alloc),
             numbers: Vec::new(alloc),
+            codes: Vec::new(alloc),
         }
     }
 }

@@ -34,10 +34,12 @@ use std::marker::Model;
 use std::snapshot::Snapshot;
 use std::sync::Arc;
 
-// How many keys there may be for a table of their places in any case: 256 KB.
+// How many keys there may be for a table of their places in any case: 256 KB, and up to 512 KB, since it grows by
+// doubling.
 const FEW_KEYS: u64 = 65_536;
 
-// For how many rows of the fact table there may be a key: the table then takes 2 bytes a row.
+// For how many rows of the fact table there may be a key: the table then takes 2 bytes a row, and up to 4, since it
+// grows by doubling.
 const ROWS_OF_A_KEY: u32 = 2;
 
 // How many keys there may be.
@@ -270,36 +272,40 @@ impl Columns {
         Ok(())
     }
 
-    // The values of a key that has its cells one by one.
-    fn spell_cells(&self, alloc: Global, cells: &[Kept]) -> Result<Vec<Value<'_>>, AllocError>
+    // Makes a list the values of a key that has its cells one by one.
+    fn spell_cells<'a>(
+        &'a self,
+        cells: &[Kept],
+        values: &mut Vec<Value<'a>>,
+    ) -> Result<(), AllocError>
         requires { AreKept (key_columns self.now) cells.now }
-        ensures { IfOk result (λ values. map cell_of values.items ≡ spelt (key_columns self.now) cells.now) }
+        ensures { OnOk result (map cell_of values.new.items ≡ spelt (key_columns self.now) cells.now) }
     {
         let tables = self.tables.as_slice();
         let keys = self.keys.as_slice();
-        let mut values = Vec::with_capacity(alloc, keys.len())?;
+        values.clear();
         for at in 0..keys.len() {
             values.push(spelt_value(tables, keys[at], cells[at]))?;
         }
-        Ok(values)
+        Ok(())
     }
 
-    // The values of a key that is a number of these domains.
-    fn spell_number(
-        &self,
-        alloc: Global,
+    // Makes a list the values of a key that is a number of these domains.
+    fn spell_number<'a>(
+        &'a self,
         domains: &[Domain],
         number: u64,
-    ) -> Result<Vec<Value<'_>>, AllocError>
+        values: &mut Vec<Value<'a>>,
+    ) -> Result<(), AllocError>
         requires domains { domains.now ≡ domains_of self.now }
         requires below { number < size domains.now }
         requires kept { AreKept (key_columns self.now) (cells domains.now number) }
         requires lawful { AreLawful domains.now }
-        ensures { IfOk result (λ values. map cell_of values.items ≡ spelt (key_columns self.now) (cells domains.now number)) }
+        ensures { OnOk result (map cell_of values.new.items ≡ spelt (key_columns self.now) (cells domains.now number)) }
     {
         let tables = self.tables.as_slice();
         let keys = self.keys.as_slice();
-        let mut values = Vec::with_capacity(alloc, keys.len())?;
+        values.clear();
         let mut left = number;
         for at in 0..keys.len() {
             let domain = domains[at];
@@ -307,43 +313,44 @@ impl Columns {
             left /= domain.radix();
             values.push(spelt_value(tables, keys[at], cell))?;
         }
-        Ok(values)
+        Ok(())
     }
 
-    // The values of a key.
-    pub(crate) fn spell_key(
-        &self,
-        alloc: Global,
+    // Makes a list the values of a key. It takes no memory once the list has had as many.
+    pub(crate) fn spell_key<'a>(
+        &'a self,
         key: KeyRef<'_>,
-    ) -> Result<Vec<Value<'_>>, AllocError>
+        values: &mut Vec<Value<'a>>,
+    ) -> Result<(), AllocError>
         requires { IsKey self.now (lent key) }
-        ensures { IfOk result (λ values. map cell_of values.items ≡ cells_in self.now (lent key.entry)) }
+        ensures { OnOk result (map cell_of values.new.items ≡ cells_in self.now (lent key.entry)) }
     {
         match (key, &self.domains) {
-            (KeyRef::Cells(cells), _) => self.spell_cells(alloc, cells),
-            (KeyRef::Number(number), Some(domains)) => self.spell_number(alloc, domains, number),
+            (KeyRef::Cells(cells), _) => self.spell_cells(cells, values),
+            (KeyRef::Number(number), Some(domains)) => self.spell_number(domains, number, values),
             (KeyRef::Number(_), None) => unreachable!(),
         }
     }
 
-    // The values of a group's totals, which stand at a place of the tallies.
-    pub(crate) fn spell_totals(
-        &self,
-        alloc: Global,
+    // Makes a list the values of a group's totals, which stand at a place of the tallies. It takes no memory once the
+    // list has had as many.
+    pub(crate) fn spell_totals<'a>(
+        &'a self,
         tallies: &[Tally],
         place: usize,
-    ) -> Result<Vec<Total<'_>>, AllocError>
+        values: &mut Vec<Total<'a>>,
+    ) -> Result<(), AllocError>
         requires many { length tallies.now ≡ length self.now.query.aggregates }
         requires kept { AreTotals self.now (totals_at (lists tallies.now) place) }
-        ensures { IfOk result (λ values. map total_cell values.items ≡ totals_in self.now (totals_at (lists tallies.now) place)) }
+        ensures { OnOk result (map total_cell values.new.items ≡ totals_in self.now (totals_at (lists tallies.now) place)) }
     {
         let tables = self.tables.as_slice();
         let joinings = self.joinings.as_slice();
-        let mut values = Vec::with_capacity(alloc, joinings.len())?;
+        values.clear();
         for at in 0..joinings.len() {
             let total = total_in(&tallies[at], place);
             values.push(spelt_total(tables, joinings[at], total))?;
         }
-        Ok(values)
+        Ok(())
     }
 }

@@ -18,7 +18,7 @@ ghost use Rattle.ssb_groups.specs.Refs.{input_texts, input_value};
 ghost use Rattle.ssb_groups.specs.Seen.{fact_of, seen};
 ghost use Rattle.ssb_groups.specs.Stands.{IsRanged, least, least_of, overflows};
 ghost use Rattle.ssb_groups.specs.Alone.{IsItself};
-ghost use Rattle.ssb_groups.specs.Tallies.{block_cells, kept_numbers};
+ghost use Rattle.ssb_groups.specs.Tallies.{block_cells, kept_codes, kept_numbers};
 ghost use Rattle.ssb_plan.specs.declared.input.Input.TheVariants as inputs;
 ghost use Rattle.ssb_terms.specs.declared.rule.ColType.TheVariants as kinds;
 
@@ -26,7 +26,7 @@ use crate::alone::{alone, alone_all, apply_all, apply_numbers, is_itself};
 use crate::block_totals::{BlockTotals, Listing};
 use crate::column::{cell, fill_cells, kind_at};
 use crate::evaluate::number;
-use crate::numbers::list_numbers;
+use crate::numbers::{list_codes, list_numbers};
 use crate::pair::{Pair, pair_of};
 use crate::room::Room;
 use ssb_job::{Block, Job, JoinedRow};
@@ -213,7 +213,21 @@ fn gather_value_numbers(
     list_numbers(job.tables(), block, column, numbers)
 }
 
-// The same of an expression of two columns.
+// The same of codes, if all values are texts.
+fn gather_value_codes(
+    job: &Job,
+    block: &Block,
+    column: ColumnRef,
+    codes: &mut Vec<u32>,
+) -> Result<bool, AllocError>
+    requires rows { All (IsCombination (from_tables job.now)) block.now }
+    requires there { has_column job.now.query job.now.tables column ≡ true }
+    ensures { IfOk result (λ plain. (f : AnyFunction) (e : AnyExpr AnyColumn) → plain ≡ true → IsItself f kinds.Text → input_of job.now.query (aggregates.Of f e) ≡ inputs.Column column → AreTakenPlain job.now (aggregates.Of f e) block.now (kept_codes codes.new.items)) }
+{
+    list_codes(job.tables(), block, column, codes)
+}
+
+// As `gather_value_numbers`, of an expression of two columns.
 fn gather_pair_numbers(
     job: &Job,
     block: &Block,
@@ -286,6 +300,31 @@ fn gather_numbers(
     }
 }
 
+// Fills a list with the codes of an aggregate over each combination of a block alone, if it is MIN or MAX of a column
+// of texts without nulls. Whether it is: if not, the list is of no matter.
+fn gather_codes(
+    job: &Job,
+    block: &Block,
+    aggregate: &Aggregate<BoundColumn>,
+    input: &Input,
+    codes: &mut Vec<u32>,
+) -> Result<bool, AllocError>
+    requires rows { All (IsCombination (from_tables job.now)) block.now }
+    requires input { input.now ≡ input_of job.now.query aggregate.now }
+    requires there { list_all (has_column job.now.query job.now.tables) (input_columns input.now) ≡ true }
+    ensures { IfOk result (λ plain. plain ≡ true → AreTakenPlain job.now aggregate.now block.now (kept_codes codes.new.items)) }
+{
+    match (aggregate, input) {
+        (Aggregate::Of(function, _), Input::Column(column)) => {
+            if !is_itself(*function, ColType::Text) {
+                return Ok(false);
+            }
+            gather_value_codes(job, block, *column, codes)
+        }
+        (Aggregate::Of(_, _), Input::Number(_) | Input::Rows) | (Aggregate::Rows, _) => Ok(false),
+    }
+}
+
 // Fills a list with an aggregate over each combination of a block alone, one after the other. The least row of the fact
 // table at which its argument is Over, or the one that is given where that is less.
 fn gather_rows(
@@ -344,6 +383,10 @@ fn gather_column(
     let (aggregate, input) = aggregate_at(job, place);
     if gather_numbers(job, block, aggregate, input, room, &mut totals.numbers)? {
         totals.listing = Listing::Numbers;
+        return Ok(so_far);
+    }
+    if gather_codes(job, block, aggregate, input, &mut totals.codes)? {
+        totals.listing = Listing::Codes;
         return Ok(so_far);
     }
     totals.listing = Listing::Cells;

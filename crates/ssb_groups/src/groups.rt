@@ -84,6 +84,19 @@ pub struct Group<'a> {
     pub totals: Vec<Total<'a>>,
 }
 
+impl<'a> Group<'a> {
+    /// No group yet, to be read into. It takes no memory.
+    pub fn new(alloc: Global) -> Group<'a>
+        ensures key { result.key.items ≡ [] }
+        ensures totals { result.totals.items ≡ [] }
+    {
+        Group {
+            key: Vec::new(alloc),
+            totals: Vec::new(alloc),
+        }
+    }
+}
+
 // So many lists of an aggregate over each combination of a block alone, of none yet.
 fn no_totals(alloc: Global, count: usize) -> Result<Vec<BlockTotals>, AllocError>
     ensures { IfOk result (λ totals. length totals.items ≡ count) }
@@ -187,7 +200,7 @@ impl Groups {
     }
 
     /// Moves the rows of other groups of the same job into these, as [`merge`](Self::merge) does. The others are over
-    /// no row then, and keep their memory for more.
+    /// no row then, and keep their memory for more; where these were over no row, the two swap memory.
     ///
     /// # Errors
     ///
@@ -248,21 +261,19 @@ impl Groups {
         self.store.group_count()
     }
 
-    /// The values of a group's key and of its aggregates, by the group's number from 0. In which order
-    /// groups stand, no clause says.
+    /// Reads the values of a group's key and of its aggregates, by the group's number from 0. In which order groups
+    /// stand, no clause says. It takes no memory once another group was read.
     ///
     /// # Errors
     ///
-    /// Only where a growth was refused.
-    pub fn group(&self, alloc: Global, at: usize) -> Result<Group<'_>, AllocError>
+    /// Only where a growth was refused; what was read is of no matter then.
+    pub fn read_group<'a>(&'a self, at: usize, group: &mut Group<'a>) -> Result<(), AllocError>
         requires { at < length self.now.entries }
-        ensures { IfOk result (λ e. slice_get self.now.entries at ≡ Some (map cell_of e.key.items, map total_cell e.totals.items)) }
+        ensures { OnOk result (slice_get self.now.entries at ≡ Some (map cell_of group.new.key.items, map total_cell group.new.totals.items)) }
     {
         let (key, tallies) = self.store.group(at);
-        Ok(Group {
-            key: self.columns.spell_key(alloc, key)?,
-            totals: self.columns.spell_totals(alloc, tallies, at)?,
-        })
+        self.columns.spell_key(key, &mut group.key)?;
+        self.columns.spell_totals(tallies, at, &mut group.totals)
     }
 }
 

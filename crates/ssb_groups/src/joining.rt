@@ -89,12 +89,12 @@ impl Joining {
         match self {
             Joining::Adds => *into = add(*into, *more),
             Joining::Least(column) => {
-                if is_less(tables, *column, ranks, *into, *more) {
+                if replaces_least(tables, *column, ranks, *into, *more) {
                     *into = *more;
                 }
             }
             Joining::Greatest(column) => {
-                if is_greater(tables, *column, ranks, *into, *more) {
+                if replaces_greatest(tables, *column, ranks, *into, *more) {
                     *into = *more;
                 }
             }
@@ -182,9 +182,9 @@ fn order(
     }
 }
 
-// Whether a total is less than the least so far, or there is none yet. Null is none.
+// Whether one more takes the place of the least so far: it is less, or there is none yet. Null is none.
 #[inline(always)]
-fn is_less(
+fn replaces_least(
     tables: &[Table],
     column: Option<ColumnRef>,
     ranks: Option<&[u32]>,
@@ -206,9 +206,9 @@ fn is_less(
     }
 }
 
-// Whether a total is greater than the greatest so far. Null is less than all.
+// Whether one more takes the place of the greatest so far: it is greater. Null is less than all.
 #[inline(always)]
-fn is_greater(
+fn replaces_greatest(
     tables: &[Table],
     column: Option<ColumnRef>,
     ranks: Option<&[u32]>,

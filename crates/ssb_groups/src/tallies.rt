@@ -6,7 +6,7 @@ ghost use Rattle.ssb_cells.specs.Tables.{Columns as AnyColumns};
 ghost use Rattle.ssb_groups.specs.Joining.{AddsAs, HasRanksBy, IsJoining, values_by};
 ghost use Rattle.ssb_groups.specs.Keys.{IsKept, kept_total};
 ghost use Rattle.ssb_groups.specs.Places.{AreGrown, AreJoined, ArePlacesOf, IsJoined};
-ghost use Rattle.ssb_groups.specs.Tallies.{AreAdded, IsAdded, block_cells, kept_numbers, kept_totals, lists, tally_cells};
+ghost use Rattle.ssb_groups.specs.Tallies.{AreAdded, IsAdded, block_cells, kept_codes, kept_numbers, kept_totals, lists, tally_cells};
 ghost use Rattle.ssb_groups.specs.declared.joining.Joining.TheVariants as joining;
 ghost use Rattle.ssb_groups.specs.declared.kept.KeptTotal.TheVariants as totals;
 ghost use Rattle.ssb_keys.specs.declared.kept.Kept.{Kept as AnyKept};
@@ -134,8 +134,73 @@ fn join_numbers(
     }
 }
 
-// The same of totals.
-fn join_totals(
+// Joins to the totals at some places the texts with the codes beside the places.
+#[inline(always)]
+fn join_each_code(
+    tables: &[Table],
+    joining: Joining,
+    ranks: Option<&[u32]>,
+    tally: &mut [KeptTotal],
+    places: &[usize],
+    more: &[u32],
+)
+    requires joining { IsJoining tables.now joining }
+    requires ranks { IfSome ranks (λ r. HasRanksBy tables.now joining r.now) }
+    requires places { All (λ p. p < length tally.old) places.now }
+    requires kept { (p : ℕ) → IsKept (values_by tables.now joining) (kept_total (get_or tally.old p totals.Null)) }
+    requires more { IsAdded (values_by tables.now joining) (length places.now) (kept_codes more.now) }
+    ensures { IsJoined tables.now joining places.now (kept_codes more.now) tally.old tally.new }
+{
+    for at in 0..places.len() {
+        let text = KeptTotal::Code(more[at]);
+        joining.join(tables, ranks, &mut tally[places[at]], &text);
+    }
+}
+
+// The same. The match on how they are joined, once for all places: MIN and MAX by ranks have a loop each.
+fn join_codes(
+    tables: &[Table],
+    joining: Joining,
+    ranks: Option<&[u32]>,
+    tally: &mut [KeptTotal],
+    places: &[usize],
+    more: &[u32],
+)
+    requires joining { IsJoining tables.now joining }
+    requires ranks { IfSome ranks (λ r. HasRanksBy tables.now joining r.now) }
+    requires places { All (λ p. p < length tally.old) places.now }
+    requires kept { (p : ℕ) → IsKept (values_by tables.now joining) (kept_total (get_or tally.old p totals.Null)) }
+    requires more { IsAdded (values_by tables.now joining) (length places.now) (kept_codes more.now) }
+    ensures { IsJoined tables.now joining places.now (kept_codes more.now) tally.old tally.new }
+{
+    match (joining, ranks) {
+        (Joining::Least(column), Some(ranks)) => {
+            join_each_code(
+                tables,
+                Joining::Least(column),
+                Some(ranks),
+                tally,
+                places,
+                more,
+            )
+        }
+        (Joining::Greatest(column), Some(ranks)) => {
+            join_each_code(
+                tables,
+                Joining::Greatest(column),
+                Some(ranks),
+                tally,
+                places,
+                more,
+            )
+        }
+        _ => join_each_code(tables, joining, ranks, tally, places, more),
+    }
+}
+
+// Joins to the totals at some places those beside the places.
+#[inline(always)]
+fn join_each_total(
     tables: &[Table],
     joining: Joining,
     ranks: Option<&[u32]>,
@@ -152,6 +217,47 @@ fn join_totals(
 {
     for at in 0..places.len() {
         joining.join(tables, ranks, &mut tally[places[at]], &more[at]);
+    }
+}
+
+// The same. MIN and MAX by ranks have a loop each.
+fn join_totals(
+    tables: &[Table],
+    joining: Joining,
+    ranks: Option<&[u32]>,
+    tally: &mut [KeptTotal],
+    places: &[usize],
+    more: &[KeptTotal],
+)
+    requires joining { IsJoining tables.now joining }
+    requires ranks { IfSome ranks (λ r. HasRanksBy tables.now joining r.now) }
+    requires places { All (λ p. p < length tally.old) places.now }
+    requires kept { (p : ℕ) → IsKept (values_by tables.now joining) (kept_total (get_or tally.old p totals.Null)) }
+    requires more { IsAdded (values_by tables.now joining) (length places.now) (kept_totals more.now) }
+    ensures { IsJoined tables.now joining places.now (kept_totals more.now) tally.old tally.new }
+{
+    match (joining, ranks) {
+        (Joining::Least(texts), Some(ranks)) => {
+            join_each_total(
+                tables,
+                Joining::Least(texts),
+                Some(ranks),
+                tally,
+                places,
+                more,
+            )
+        }
+        (Joining::Greatest(texts), Some(ranks)) => {
+            join_each_total(
+                tables,
+                Joining::Greatest(texts),
+                Some(ranks),
+                tally,
+                places,
+                more,
+            )
+        }
+        _ => join_each_total(tables, joining, ranks, tally, places, more),
     }
 }
 
@@ -191,6 +297,7 @@ impl Joins for BlockTotals {
         match more.listing {
             Listing::Cells => join_cells(tables, joining, ranks, tally, places, &more.cells),
             Listing::Numbers => join_numbers(tables, joining, tally, places, &more.numbers),
+            Listing::Codes => join_codes(tables, joining, ranks, tally, places, &more.codes),
         }
     }
 }

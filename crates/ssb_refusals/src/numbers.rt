@@ -50,8 +50,10 @@ pub(crate) fn are_squares(
     if groups.group_count() != count {
         return Err(Stop::Wrong);
     }
+    let mut group = Group::new(alloc);
     for at in 0..groups.group_count() {
-        if !is_one_of(&groups.group(alloc, at)?, least, most) {
+        groups.read_group(at, &mut group)?;
+        if !is_one_of(&group, least, most) {
             return Err(Stop::Wrong);
         }
     }

@@ -7,8 +7,7 @@ use Rattle.ssb_rows.specs.Writing.{IsPut, barred, Desk, Puts, Breaks, Writes, de
 use Rattle.ssb_rows.proofs.Written.{begins-front, grew-none, grew-both, puts-more, puts-began, begins-more, puts-end, puts-end_began}
 use Rattle.ssb_rows.specs.Text.{cell_text, line, text_of}
 use Rattle.ssb_rows.specs.Order.{Row}
-use Rattle.ssb_cells.specs.Values.{owned_cell}
-use Rattle.ssb_cells.specs.declared.owned.OwnedValue.{OwnedValue}
+use Rattle.ssb_cells.specs.Cell.{Cell}
 
 -- the text so far is put, and this is left of it
 pub record Going (old now : Desk) (text left : List ℕ) : Type 0 where
@@ -64,16 +63,17 @@ joined x [] = sym (append-nil x)
 joined x (y ∷ ys) = ap (λ t. x ++ (124 ∷ t)) (joined y ys)
 
 -- the front of what is left
-pub field-on : (a b : Desk) (text : List ℕ) (rest fs : List OwnedValue) (f : OwnedValue) → Going a b text (barred (map cell_text (map owned_cell rest))) → rest ≡ f ∷ fs
-    → Going a b text ((124 ∷ []) ++ (cell_text (owned_cell f) ++ barred (map cell_text (map owned_cell fs))))
-field-on a b text rest fs f w e = subst (λ r. Going a b text (barred (map cell_text (map owned_cell r)))) e w
+pub field-on : (a b : Desk) (text : List ℕ) (rest fs : Row) (f : Cell) → Going a b text (barred (map cell_text rest)) → rest ≡ f ∷ fs → Going a b text ((124 ∷ []) ++ (cell_text f ++ barred (map cell_text fs)))
+field-on a b text rest fs f w e = subst (λ r. Going a b text (barred (map cell_text r))) e w
 
 pub row-on : (a b : Desk) (text : List ℕ) (rest rs : List Row) (r : Row) → Going a b text (text_of rest) → rest ≡ r ∷ rs → Going a b text (line r ++ text_of rs)
 row-on a b text rest rs r w e = subst (λ q. Going a b text (text_of q)) e w
 
-pub fields-are : (fields fs : List OwnedValue) (f : OwnedValue) → fields ≡ f ∷ fs
-    → join_with_byte 124 (map cell_text (map owned_cell fields)) ≡ cell_text (owned_cell f) ++ barred (map cell_text (map owned_cell fs))
-fields-are fields fs f e = ap (λ q. join_with_byte 124 (map cell_text (map owned_cell q))) e ∙ joined (cell_text (owned_cell f)) (map cell_text (map owned_cell fs))
+pub fields-are : (fields fs : Row) (f : Cell) → fields ≡ f ∷ fs → join_with_byte 124 (map cell_text fields) ≡ cell_text f ++ barred (map cell_text fs)
+fields-are fields fs f e = ap (λ q. join_with_byte 124 (map cell_text q)) e ∙ joined (cell_text f) (map cell_text fs)
+
+pub no-fields : (d : Desk) (fields : Row) → fields ≡ [] → Puts d d (join_with_byte 124 (map cell_text fields))
+no-fields d fields e = subst (λ q. Puts d d (join_with_byte 124 (map cell_text q))) (sym e) (nothing-put d)
 
 pub writes-after : {E : Type 0} (r : Result (Unit {0}) E) (a b c : Desk) (x y : List ℕ) → Puts a b x → Writes r b c y → Writes r a c (x ++ y)
 writes-after (Ok u) a b c x y p w = puts-both a b c x y p w
@@ -89,9 +89,8 @@ ends a b c t q w e f g = puts-end a b c t q (subst (λ v. IsPut a b (v ++ t) q) 
 pub fails_began : (a b t w : List ℕ) → w ≡ [] → IsBeginning a b (w ++ t) → IsBeginning a b t
 fails_began a b t w e f = subst (λ v. IsBeginning a b (v ++ t)) e f
 
-pub breaks-line : (a c : Desk) (fields : List OwnedValue) → Breaks a c (join_with_byte 124 (map cell_text (map owned_cell fields))) → Breaks a c (line (map owned_cell fields))
+pub breaks-line : (a c : Desk) (fields : Row) → Breaks a c (join_with_byte 124 (map cell_text fields)) → Breaks a c (line fields)
 breaks-line a c fields b = breaks-front a c _ _ b
 
-pub writes-line : {E : Type 0} (r : Result (Unit {0}) E) (a b c : Desk) (fields : List OwnedValue)
-    → Puts a b (join_with_byte 124 (map cell_text (map owned_cell fields))) → Writes r b c (10 ∷ []) → Writes r a c (line (map owned_cell fields))
+pub writes-line : {E : Type 0} (r : Result (Unit {0}) E) (a b c : Desk) (fields : Row) → Puts a b (join_with_byte 124 (map cell_text fields)) → Writes r b c (10 ∷ []) → Writes r a c (line fields)
 writes-line r a b c fields p w = writes-after r a b c _ _ p w

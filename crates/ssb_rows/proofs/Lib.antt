@@ -1,7 +1,9 @@
 pub mod Bridge
 pub mod EntryFacts
 pub mod Going
+pub mod KeptFacts
 pub mod KnownLemmas
+pub mod LeadFacts
 pub mod Members
 pub mod Orders
 pub mod Written

@@ -1,6 +1,6 @@
 -- Rows of an answer by the entries of its groups.
 -- For the contracts inside this crate.
-use Rattle.std.specs.Prelude.{◌≡◌, Bool, true, false, ⊤, List, [], ◌∷◌, ◌++◌, map, Option, None, Some}
+use Rattle.std.specs.Prelude.{◌≡◌, ℕ, Bool, true, false, ⊤, List, [], ◌∷◌, ◌++◌, length, map, Option, None, Some}
 use Rattle.std.specs.List.{filter, list_any}
 use Rattle.ssb_cells.specs.Cell.{Cell}
 use Rattle.ssb_cells.specs.Truth.{is_true}
@@ -16,9 +16,12 @@ use Rattle.ssb_groups.specs.Aggregates.{totals}
 use Rattle.ssb_groups.specs.Rows.{Key}
 use Rattle.ssb_groups.specs.Totals.{total_cell}
 use Rattle.ssb_groups.specs.declared.groups.Group.{Group}
+use Rattle.ssb_rows.specs.Kept.{keyed_rows}
+use Rattle.ssb_rows.specs.Kept as kept
 use Rattle.ssb_rows.specs.Order.{Row}
 use Rattle.ssb_rows.specs.Result.{at_or_null, having_says, is_beyond}
 use Rattle.ssb_rows.specs.declared.fault.AnswerFault.{AnswerFault}
+use Rattle.ssb_rows.specs.declared.keyed.KeyedRows.{KeyedRows}
 use Rattle.ssb_rows.specs.declared.fault.AnswerFault.TheVariants as fault
 
 abbrev pub Entry : Type 0
@@ -88,3 +91,15 @@ AreRowsOf q es rows = (list_any entry_beyond es ≡ false) × (rows ≡ entry_ro
 -- why the entries have no rows
 abbrev pub IsFaultOf : List Entry → AnswerFault → Type 0
 IsFaultOf es f = IsBeyondFault (list_any entry_beyond es) f
+
+-- ---- rows as they are found
+
+abbrev pub width_of : QueryParts → ℕ
+width_of q = length q.items
+
+abbrev pub found_rows : QueryParts → KeyedRows → List Row
+found_rows q found = keyed_rows found.cells (width_of q) found.keys.items
+
+-- each row that was found lies among the cells
+abbrev pub AreFoundWithin : QueryParts → KeyedRows → Type 0
+AreFoundWithin q found = kept.AreWithin found.cells (width_of q) found.keys.items

@@ -1,4 +1,6 @@
 pub mod Entries
+pub mod Kept
+pub mod Leads
 pub mod Order
 pub mod Result
 pub mod Taking

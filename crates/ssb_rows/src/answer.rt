@@ -1,86 +1,104 @@
 // An answer: rows of values.
 
-use ssb_cells::OwnedValue;
+ghost use Rattle.std.specs.Prelude.{◌≡◌, ◌==◌, ◌∷◌, [], IfNone, IfSome, length};
+ghost use Rattle.ssb_rows.specs.Kept.{keyed_rows};
+
+use crate::cells::Cells;
+use crate::keyed::KeyedRows;
+use crate::order::SortKey;
+use crate::row::AnswerRow;
 use std::marker::Model;
-
-/// The values of a row, from left to right, seen as their list.
-pub struct AnswerRow {
-    fields: Vec<OwnedValue>,
-}
-
-// Written out, so that what lets go of one need not say how its parts are let go.
-impl Drop for AnswerRow {
-    fn drop(self) {
-        let AnswerRow { fields } = self;
-        drop(fields);
-    }
-}
-
-impl Model for AnswerRow {
-    ghost use Rattle.std.specs.Prelude.{List, map};
-    ghost use Rattle.ssb_cells.specs.Cell.{Cell};
-    ghost use Rattle.ssb_cells.specs.Values.{owned_cell};
-
-    ghost Value = { List Cell };
-
-    ghost view = { λ r. map owned_cell r.fields.items };
-}
-
-impl AnswerRow {
-    ghost use Rattle.std.specs.Prelude.{◌≡◌, map};
-    ghost use Rattle.ssb_cells.specs.Values.{owned_cell};
-
-    // The row of these values.
-    pub(crate) fn new(fields: Vec<OwnedValue>) -> AnswerRow
-        ensures { result ≡ map owned_cell fields.items }
-    {
-        AnswerRow { fields }
-    }
-
-    /// The values.
-    pub fn fields(&self) -> &[OwnedValue]
-        ensures { map owned_cell result.now ≡ self.now }
-    {
-        self.fields.as_slice()
-    }
-}
 
 /// The rows of an answer in order, seen as their list.
 pub struct Answer {
-    rows: Vec<AnswerRow>,
+    rows: KeyedRows,
+    // How many values each has.
+    width: usize,
 }
 
 impl Model for Answer {
     ghost use Rattle.std.specs.Prelude.{List};
     ghost use Rattle.ssb_cells.specs.Cell.{Cell};
+    ghost use Rattle.ssb_rows.specs.Kept.{keyed_rows};
 
     ghost Value = { List (List Cell) };
 
-    ghost view = { λ a. a.rows.items };
+    ghost view = { λ a. keyed_rows a.rows.cells a.width a.rows.keys.items };
 }
 
 // Written out, so that the crates above need no proof of how its parts are let go.
 impl Drop for Answer {
     fn drop(self) {
-        let Answer { rows } = self;
+        let Answer { rows, width: _ } = self;
         drop(rows);
     }
 }
 
 impl Answer {
-    ghost use Rattle.std.specs.Prelude.{◌≡◌};
-
-    // The answer of these rows.
-    pub(crate) fn new(rows: Vec<AnswerRow>) -> Answer
-        ensures { result ≡ rows.items }
+    // The answer of these rows, of so many values each.
+    pub(crate) fn new(rows: KeyedRows, width: usize) -> Answer
+        ensures { result ≡ keyed_rows rows.cells width rows.keys.items }
     {
-        Answer { rows }
+        Answer { rows, width }
     }
 
     /// The rows.
-    pub fn rows(&self) -> &[AnswerRow]
-        ensures { result.now ≡ self.now }
+    pub fn rows(&self) -> AnswerRows<'_>
+        ensures { result ≡ self.now }
     {
-        self.rows.as_slice()
+        AnswerRows {
+            cells: &self.rows.cells,
+            width: self.width,
+            keys: self.rows.keys.as_slice(),
+        }
+    }
+}
+
+/// Rows of an answer in order, lent, seen as their list.
+#[derive(Drop)]
+pub struct AnswerRows<'a> {
+    cells: &'a Cells,
+    width: usize,
+    keys: &'a [SortKey],
+}
+
+impl<'a> Model for AnswerRows<'a> {
+    ghost use Rattle.std.specs.Prelude.{List};
+    ghost use Rattle.ssb_cells.specs.Cell.{Cell};
+    ghost use Rattle.ssb_rows.specs.Kept.{keyed_rows};
+
+    ghost Value = { List (List Cell) };
+
+    ghost view = { λ r. keyed_rows r.cells.now r.width r.keys.now };
+}
+
+impl<'a> AnswerRows<'a> {
+    /// How many there are.
+    pub fn len(&self) -> usize
+        ensures { result ≡ length self.now }
+    {
+        self.keys.len()
+    }
+
+    /// Whether there is none.
+    pub fn is_empty(&self) -> bool
+        ensures { result ≡ (length self.now == 0) }
+    {
+        self.keys.is_empty()
+    }
+
+    /// The first row, and the others.
+    pub fn split_first(&self) -> Option<(AnswerRow<'a>, AnswerRows<'a>)>
+        ensures some { IfSome result (λ split. self.now ≡ split.0 ∷ split.1) }
+        ensures none { IfNone result (self.now ≡ []) }
+    {
+        let (first, others) = self.keys.split_first()?;
+        let rest = AnswerRows {
+            cells: self.cells,
+            width: self.width,
+            keys: others,
+        };
+        let row = AnswerRow::new(self.cells, first.from, self.width);
+        Some((row, rest))
     }
 }

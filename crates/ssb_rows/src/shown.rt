@@ -1,20 +1,18 @@
 // The text of a value.
-ghost use Rattle.std.specs.Prelude.{◌≡◌, ◌<◌, ◌++◌, OnOk, OnErr};
-ghost use Rattle.ssb_rows.specs.Taking.{IsBeginning};
-ghost use Rattle.ssb_rows.specs.Writing.{IsPut};
-ghost use Rattle.ssb_cells.specs.Values.{owned_cell};
+ghost use Rattle.std.specs.Prelude.{◌≡◌};
+ghost use Rattle.ssb_cells.specs.Values.{cell_of};
 ghost use Rattle.ssb_rows.specs.Text.{cell_text};
 
 use itoa::Buffer;
-use ssb_cells::OwnedValue;
+use ssb_cells::Value;
 
 // The text of a value, in the buffer where it is a number.
-pub(crate) fn shown<'a>(field: &'a OwnedValue, buffer: &'a mut Buffer) -> &'a [u8]
-    ensures { result.now ≡ cell_text (owned_cell field.entry.now) }
+pub(crate) fn shown<'a>(field: Value<'a>, buffer: &'a mut Buffer) -> &'a [u8]
+    ensures { result.now ≡ cell_text (cell_of field.entry) }
 {
     match field {
-        OwnedValue::Null => &[],
-        OwnedValue::Number(number) => buffer.format(*number).as_bytes(),
-        OwnedValue::Text(text) => text.as_bytes(),
+        Value::Null => &[],
+        Value::Int(number) => buffer.format(number).as_bytes(),
+        Value::Text(text) => text.as_bytes(),
     }
 }

@@ -1,28 +1,29 @@
 // Writing an answer.
 ghost use Rattle.std.specs.Prelude.{◌≡◌, ◌<◌, ◌++◌, ◌∷◌, [], IfErr, OnOk, OnErr, map};
 ghost use Rattle.ssb_rows.specs.Taking.{GrewAlike, IsBeginning};
-ghost use Rattle.ssb_cells.specs.Values.{owned_cell};
+ghost use Rattle.ssb_cells.specs.Values.{cell_of};
 ghost use Rattle.ssb_rows.specs.Text.{cell_text, fields_text, line, text_of};
 ghost use Rattle.ssb_rows.specs.Writing.{barred, Writes, desk};
 
-use crate::answer::{Answer, AnswerRow};
+use crate::answer::{Answer, AnswerRows};
 use crate::fault::AnswerFault;
 use crate::page::Page;
+use crate::row::AnswerRow;
 use crate::shown::shown;
 use crate::sink::{Sink, SinkFault};
 use itoa::Buffer;
-use ssb_cells::OwnedValue;
+use ssb_cells::Value;
 
-fn put_field<W: Sink>(page: &mut Page, out: &mut W, field: &OwnedValue) -> Result<(), SinkFault>
-    ensures { Writes result (desk (W.taken out.old) page.old (W.failures out.old) (W.contents out.old)) (desk (W.taken out.new) page.new (W.failures out.new) (W.contents out.new)) (cell_text (owned_cell field.now)) }
+fn put_field<W: Sink>(page: &mut Page, out: &mut W, field: Value<'_>) -> Result<(), SinkFault>
+    ensures { Writes result (desk (W.taken out.old) page.old (W.failures out.old) (W.contents out.old)) (desk (W.taken out.new) page.new (W.failures out.new) (W.contents out.new)) (cell_text (cell_of field.entry)) }
 {
     let mut buffer = Buffer::new();
     page.put(out, shown(field, &mut buffer))
 }
 
 // Writes each field behind a bar.
-fn put_barred<W: Sink>(page: &mut Page, out: &mut W, fields: &[OwnedValue]) -> Result<(), SinkFault>
-    ensures { Writes result (desk (W.taken out.old) page.old (W.failures out.old) (W.contents out.old)) (desk (W.taken out.new) page.new (W.failures out.new) (W.contents out.new)) (barred (map cell_text (map owned_cell fields.now))) }
+fn put_barred<W: Sink>(page: &mut Page, out: &mut W, fields: AnswerRow<'_>) -> Result<(), SinkFault>
+    ensures { Writes result (desk (W.taken out.old) page.old (W.failures out.old) (W.contents out.old)) (desk (W.taken out.new) page.new (W.failures out.new) (W.contents out.new)) (barred (map cell_text fields.entry)) }
 {
     let mut rest = fields;
     while let Some((field, fields)) = rest.split_first() {
@@ -38,10 +39,10 @@ fn put_barred<W: Sink>(page: &mut Page, out: &mut W, fields: &[OwnedValue]) -> R
 }
 
 // Writes fields joined by bars.
-fn put_fields<W: Sink>(page: &mut Page, out: &mut W, fields: &[OwnedValue]) -> Result<(), SinkFault>
-    ensures { Writes result (desk (W.taken out.old) page.old (W.failures out.old) (W.contents out.old)) (desk (W.taken out.new) page.new (W.failures out.new) (W.contents out.new)) (fields_text (map owned_cell fields.now)) }
+fn put_fields<W: Sink>(page: &mut Page, out: &mut W, row: AnswerRow<'_>) -> Result<(), SinkFault>
+    ensures { Writes result (desk (W.taken out.old) page.old (W.failures out.old) (W.contents out.old)) (desk (W.taken out.new) page.new (W.failures out.new) (W.contents out.new)) (fields_text row.entry) }
 {
-    let Some((first, rest)) = fields.split_first() else {
+    let Some((first, rest)) = row.split_first() else {
         return Ok(());
     };
     let Ok(()) = put_field(page, out, first) else {
@@ -50,29 +51,27 @@ fn put_fields<W: Sink>(page: &mut Page, out: &mut W, fields: &[OwnedValue]) -> R
     put_barred(page, out, rest)
 }
 
-fn put_row<W: Sink>(page: &mut Page, out: &mut W, fields: &[OwnedValue]) -> Result<(), SinkFault>
-    ensures { Writes result (desk (W.taken out.old) page.old (W.failures out.old) (W.contents out.old)) (desk (W.taken out.new) page.new (W.failures out.new) (W.contents out.new)) (line (map owned_cell fields.now)) }
+fn put_row<W: Sink>(page: &mut Page, out: &mut W, row: AnswerRow<'_>) -> Result<(), SinkFault>
+    ensures { Writes result (desk (W.taken out.old) page.old (W.failures out.old) (W.contents out.old)) (desk (W.taken out.new) page.new (W.failures out.new) (W.contents out.new)) (line row.entry) }
 {
-    let Ok(()) = put_fields(page, out, fields) else {
+    let Ok(()) = put_fields(page, out, row) else {
         return Err(SinkFault);
     };
     page.put(out, b"\n")
 }
 
-fn put_line<W: Sink>(page: &mut Page, out: &mut W, row: &AnswerRow) -> Result<(), SinkFault>
-    ensures { Writes result (desk (W.taken out.old) page.old (W.failures out.old) (W.contents out.old)) (desk (W.taken out.new) page.new (W.failures out.new) (W.contents out.new)) (line row.now) }
-{
-    put_row(page, out, row.fields())
-}
-
 /// Puts the text of rows behind what waits in a page. A fault leaves what a failed write left, and says no more
 /// of the page.
-pub fn put_rows<W: Sink>(page: &mut Page, out: &mut W, rows: &[AnswerRow]) -> Result<(), SinkFault>
-    ensures { Writes result (desk (W.taken out.old) page.old (W.failures out.old) (W.contents out.old)) (desk (W.taken out.new) page.new (W.failures out.new) (W.contents out.new)) (text_of rows.now) }
+pub fn put_rows<W: Sink>(
+    page: &mut Page,
+    out: &mut W,
+    rows: AnswerRows<'_>,
+) -> Result<(), SinkFault>
+    ensures { Writes result (desk (W.taken out.old) page.old (W.failures out.old) (W.contents out.old)) (desk (W.taken out.new) page.new (W.failures out.new) (W.contents out.new)) (text_of rows.entry) }
 {
     let mut rest = rows;
     while let Some((row, rows)) = rest.split_first() {
-        let Ok(()) = put_line(page, out, row) else {
+        let Ok(()) = put_row(page, out, row) else {
             return Err(SinkFault);
         };
         rest = rows;
@@ -81,11 +80,11 @@ pub fn put_rows<W: Sink>(page: &mut Page, out: &mut W, rows: &[AnswerRow]) -> Re
 }
 
 // Writes the text of rows.
-fn write_rows<W: Sink>(rows: &[AnswerRow], out: &mut W) -> Result<(), SinkFault>
-    ensures wrote { OnOk result (W.taken out.new ≡ W.taken out.old ++ text_of rows.now) }
+fn write_rows<W: Sink>(rows: AnswerRows<'_>, out: &mut W) -> Result<(), SinkFault>
+    ensures wrote { OnOk result (W.taken out.new ≡ W.taken out.old ++ text_of rows.entry) }
     ensures clean { OnOk result (W.failures out.new ≡ W.failures out.old) }
     ensures failed { OnErr result (W.failures out.old < W.failures out.new) }
-    ensures began { OnErr result (IsBeginning (W.taken out.old) (W.taken out.new) (text_of rows.now)) }
+    ensures began { OnErr result (IsBeginning (W.taken out.old) (W.taken out.new) (text_of rows.entry)) }
     ensures holds { GrewAlike (W.taken out.old) (W.taken out.new) (W.contents out.old) (W.contents out.new) }
 {
     let mut page = Page::new();

@@ -1,9 +1,9 @@
 -- The widths of columns, line by line.
-use Rattle.std.proofs.Common.{◌≡◌, ◌∙◌, ◌++◌, ◌∷◌, ◌<◌, ◌+◌, [], ℕ, zero, suc, List, true, false, length, max, map, drop, get_or, replicate, refl, sym, ap, arith}
+use Rattle.std.proofs.Common.{◌≡◌, ◌∙◌, ◌++◌, ◌∷◌, ◌+◌, [], ℕ, zero, suc, List, true, false, max, map, replicate, refl, sym, ap, arith}
 use Rattle.std.specs.Int.{is_in_range}
 use Rattle.std.specs.List.{list_all}
 use Rattle.std.specs.Str.{IsAscii}
-use Rattle.std.proofs.lemmas.List.{at_drop_more, length-replicate}
+use Rattle.std.proofs.lemmas.List.{length-replicate}
 use Rattle.std.proofs.lemmas.Str.{chars-IsAscii}
 use Rattle.unicode_width.specs.Width.{str_width}
 use Rattle.unicode_width.proofs.Rules.{str_width-printable}
@@ -34,15 +34,21 @@ max-apart a b c = omega arith
 none-max : (a : ℕ) → a ≡ max 0 a
 none-max a = omega arith
 
+max-none : (a : ℕ) → a ≡ max a 0
+max-none a = omega arith
+
 -- the widest of some lines and of others
 pub column-apart : (xs ys : List Line) (place : ℕ) → column_width (xs ++ ys) place ≡ max (column_width xs place) (column_width ys place)
 column-apart [] ys place = none-max (column_width ys place)
 column-apart (x ∷ xs) ys place = ap (max (width_at place x)) (column-apart xs ys place) ∙ sym (max-apart (width_at place x) (column_width xs place) (column_width ys place))
 
 -- one row more
-pub column-more : (rows : List Row) (i place so_far wide all next : ℕ) (row : Row) → i < length rows → row ≡ get_or rows i row → wide ≡ width_at place (row_line row) → next ≡ max so_far wide
-    → max so_far (column_width (map row_line (drop i rows)) place) ≡ all → max next (column_width (map row_line (drop (i + 1) rows)) place) ≡ all
-column-more rows i place so_far wide all next row below is width more inv =
-    ap (λ n. max n (column_width (map row_line (drop (i + 1) rows)) place)) more ∙ max-apart so_far wide (column_width (map row_line (drop (i + 1) rows)) place)
-    ∙ ap (λ w. max so_far (max w (column_width (map row_line (drop (i + 1) rows)) place))) (width ∙ ap (λ r. width_at place (row_line r)) is)
-    ∙ sym (at_drop_more (λ rs. max so_far (column_width (map row_line rs) place)) rows i row below) ∙ inv
+pub column-more : (rest rows : List Row) (row : Row) (place so_far wide all next : ℕ) → rest ≡ row ∷ rows → wide ≡ width_at place (row_line row) → next ≡ max so_far wide
+    → max so_far (column_width (map row_line rest) place) ≡ all → max next (column_width (map row_line rows) place) ≡ all
+column-more rest rows row place so_far wide all next front width more inv =
+    ap (λ n. max n (column_width (map row_line rows) place)) more ∙ max-apart so_far wide (column_width (map row_line rows) place)
+    ∙ ap (λ w. max so_far (max w (column_width (map row_line rows) place))) width ∙ sym (ap (λ rs. max so_far (column_width (map row_line rs) place)) front) ∙ inv
+
+-- no row more
+pub column-end : (rest : List Row) (place so_far all : ℕ) → rest ≡ [] → max so_far (column_width (map row_line rest) place) ≡ all → so_far ≡ all
+column-end rest place so_far all none inv = max-none so_far ∙ sym (ap (λ rs. max so_far (column_width (map row_line rs) place)) none) ∙ inv

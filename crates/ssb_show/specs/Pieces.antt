@@ -2,7 +2,6 @@
 -- For the contracts inside this crate.
 use Rattle.std.specs.Prelude.{Bool, false, map, Option, None, Some, string_bytes}
 use Rattle.std.specs.Fmt.{signed_decimal}
-use Rattle.ssb_cells.specs.Values.{owned_cell}
 use Rattle.ssb_show.specs.Columns.{Field, Line, has_letters, left_field, right_field, rule_field}
 use Rattle.ssb_show.specs.Shown.{row_line, title_line}
 use Rattle.ssb_show.specs.declared.piece.Piece.{Piece}
@@ -18,7 +17,7 @@ field_of (piece.Rule width) = rule_field width
 abbrev pub line_of : Fields → Line
 line_of (fields.Titles titles) = title_line (map string_bytes titles.now)
 line_of (fields.Rule widths) = map rule_field widths.now
-line_of (fields.Row values) = row_line (map owned_cell values.now)
+line_of (fields.Row row) = row_line row
 
 abbrev pub letters_at : Option Field → Bool
 letters_at None = false

@@ -6,7 +6,7 @@ ghost use Rattle.ssb_show.specs.Shown.{row_line, title_lines, widths_of, sheet_w
 
 use crate::fields::Fields;
 use crate::shape::{Mode, Shape};
-use ssb_rows::AnswerRow;
+use ssb_rows::{Answer, AnswerRow};
 use std::alloc::{AllocError, Global};
 
 fn titles_width(headers: bool, titles: &[String], place: usize) -> usize
@@ -19,19 +19,21 @@ fn titles_width(headers: bool, titles: &[String], place: usize) -> usize
     }
 }
 
-fn row_width(row: &AnswerRow, place: usize) -> usize
-    ensures { result ≡ spec.width_at place (row_line row.now) }
+fn row_width(row: AnswerRow<'_>, place: usize) -> usize
+    ensures { result ≡ spec.width_at place (row_line row.entry) }
 {
-    Fields::Row(row.fields()).width_at(place)
+    Fields::Row(row).width_at(place)
 }
 
 // How wide a column is: as its title, if that is shown, and as its widest value.
-fn column_width(headers: bool, titles: &[String], rows: &[AnswerRow], place: usize) -> usize
-    ensures { result ≡ spec.column_width (title_lines headers (map string_bytes titles.now) ++ map row_line rows.now) place }
+fn column_width(headers: bool, titles: &[String], answer: &Answer, place: usize) -> usize
+    ensures { result ≡ spec.column_width (title_lines headers (map string_bytes titles.now) ++ map row_line answer.now) place }
 {
     let mut width = titles_width(headers, titles, place);
-    for row in rows {
+    let mut rest = answer.rows();
+    while let Some((row, rows)) = rest.split_first() {
         width = width.max(row_width(row, place));
+        rest = rows;
     }
     width
 }
@@ -41,16 +43,16 @@ pub(crate) fn column_widths(
     alloc: Global,
     shape: Shape,
     titles: &[String],
-    rows: &[AnswerRow],
+    answer: &Answer,
 ) -> Result<Vec<usize>, AllocError>
-    ensures { IfOk result (λ widths. widths.items ≡ sheet_widths shape.mode shape.headers (map string_bytes titles.now) rows.now) }
+    ensures { IfOk result (λ widths. widths.items ≡ sheet_widths shape.mode shape.headers (map string_bytes titles.now) answer.now) }
 {
     match shape.mode {
         Mode::Bars => Ok(Vec::new(alloc)),
         Mode::Columns => {
             let mut widths = Vec::with_capacity(alloc, titles.len())?;
             for place in 0..titles.len() {
-                widths.push(column_width(shape.headers, titles, rows, place))?;
+                widths.push(column_width(shape.headers, titles, answer, place))?;
             }
             Ok(widths)
         }

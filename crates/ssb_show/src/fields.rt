@@ -3,22 +3,21 @@
 ghost use Rattle.std.specs.Prelude.{◌≡◌, ◌+◌, drop, length, map, slice_get, string_bytes};
 ghost use Rattle.std.specs.List.{list_any};
 ghost use Rattle.std.specs.Option.{option_map};
-ghost use Rattle.ssb_cells.specs.Values.{owned_cell};
 ghost use Rattle.ssb_show.specs.Columns as spec;
 ghost use Rattle.ssb_show.specs.Pieces.{field_of, letters_at, line_of};
 
 use crate::piece::{Piece, piece_of};
-use ssb_cells::OwnedValue;
+use ssb_rows::AnswerRow;
 
 /// The fields of a line.
-#[derive(Clone, Copy)]
+#[derive(Drop)]
 pub enum Fields<'a> {
     /// The titles of the columns.
     Titles(&'a [String]),
     /// Dashes across columns of these widths.
     Rule(&'a [usize]),
     /// A row.
-    Row(&'a [OwnedValue]),
+    Row(AnswerRow<'a>),
 }
 
 fn title_at(titles: &[String], place: usize) -> Option<Piece<'_>>
@@ -39,10 +38,10 @@ fn rule_at<'a>(widths: &'a [usize], place: usize) -> Option<Piece<'a>>
     }
 }
 
-fn value_at(values: &[OwnedValue], place: usize) -> Option<Piece<'_>>
-    ensures { option_map field_of result ≡ slice_get (map (λ v. spec.value_field (owned_cell v)) values.now) place }
+fn value_at<'a>(row: &AnswerRow<'a>, place: usize) -> Option<Piece<'a>>
+    ensures { option_map field_of result ≡ slice_get (map spec.value_field row.now) place }
 {
-    match values.get(place) {
+    match row.value(place) {
         Some(value) => Some(piece_of(value)),
         None => None,
     }
@@ -56,7 +55,7 @@ impl<'a> Fields<'a> {
         match self {
             Fields::Titles(titles) => titles.len(),
             Fields::Rule(widths) => widths.len(),
-            Fields::Row(values) => values.len(),
+            Fields::Row(row) => row.len(),
         }
     }
 
@@ -67,7 +66,7 @@ impl<'a> Fields<'a> {
         match self {
             Fields::Titles(titles) => title_at(titles, place),
             Fields::Rule(widths) => rule_at(widths, place),
-            Fields::Row(values) => value_at(values, place),
+            Fields::Row(row) => value_at(row, place),
         }
     }
 

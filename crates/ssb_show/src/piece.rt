@@ -2,13 +2,13 @@
 
 ghost use Rattle.std.specs.Prelude.{◌≡◌, chars, false};
 ghost use Rattle.std.specs.Fmt.{signed_decimal};
-ghost use Rattle.ssb_cells.specs.Values.{owned_cell};
+ghost use Rattle.ssb_cells.specs.Values.{cell_of};
 ghost use Rattle.unicode_width.specs.Width.{str_width};
 ghost use Rattle.ssb_show.specs.Columns as spec;
 ghost use Rattle.ssb_show.specs.Pieces.{field_of};
 
 use itoa::Buffer;
-use ssb_cells::OwnedValue;
+use ssb_cells::Value;
 use unicode_width::UnicodeWidthStr;
 
 /// What a field of a line shows.
@@ -30,13 +30,13 @@ fn number_width(number: i64) -> usize
 }
 
 // What a value shows.
-pub(crate) fn piece_of(value: &OwnedValue) -> Piece<'_>
-    ensures { field_of result ≡ spec.value_field (owned_cell value.now) }
+pub(crate) fn piece_of(value: Value<'_>) -> Piece<'_>
+    ensures { field_of result ≡ spec.value_field (cell_of value.entry) }
 {
     match value {
-        OwnedValue::Null => Piece::Text(""),
-        OwnedValue::Number(number) => Piece::Number(*number),
-        OwnedValue::Text(text) => Piece::Text(text.as_str()),
+        Value::Null => Piece::Text(""),
+        Value::Int(number) => Piece::Number(number),
+        Value::Text(text) => Piece::Text(text),
     }
 }
 

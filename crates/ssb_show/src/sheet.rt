@@ -10,7 +10,7 @@ ghost use Rattle.ssb_show.specs.Shown as spec;
 use crate::fields::Fields;
 use crate::put::put_line;
 use crate::shape::{Mode, Shape};
-use ssb_rows::{AnswerRow, Page, Sink, SinkFault, put_rows};
+use ssb_rows::{AnswerRow, AnswerRows, Page, Sink, SinkFault, put_rows};
 
 fn put_title<W: Sink>(page: &mut Page, out: &mut W, title: &String) -> Result<(), SinkFault>
     ensures { Writes result (desk (W.taken out.old) page.old (W.failures out.old) (W.contents out.old)) (desk (W.taken out.new) page.new (W.failures out.new) (W.contents out.new)) (string_bytes title.now) }
@@ -76,9 +76,9 @@ fn put_bars<W: Sink>(
     out: &mut W,
     headers: bool,
     titles: &[String],
-    rows: &[AnswerRow],
+    rows: AnswerRows<'_>,
 ) -> Result<(), SinkFault>
-    ensures { Writes result (desk (W.taken out.old) page.old (W.failures out.old) (W.contents out.old)) (desk (W.taken out.new) page.new (W.failures out.new) (W.contents out.new)) (spec.bar_titles headers (map string_bytes titles.now) ++ text_of rows.now) }
+    ensures { Writes result (desk (W.taken out.old) page.old (W.failures out.old) (W.contents out.old)) (desk (W.taken out.new) page.new (W.failures out.new) (W.contents out.new)) (spec.bar_titles headers (map string_bytes titles.now) ++ text_of rows.entry) }
 {
     let Ok(()) = put_bar_titles(page, out, headers, titles) else {
         return Err(SinkFault);
@@ -120,20 +120,20 @@ fn put_row<W: Sink>(
     page: &mut Page,
     out: &mut W,
     widths: &[usize],
-    row: &AnswerRow,
+    row: AnswerRow<'_>,
 ) -> Result<(), SinkFault>
-    ensures { Writes result (desk (W.taken out.old) page.old (W.failures out.old) (W.contents out.old)) (desk (W.taken out.new) page.new (W.failures out.new) (W.contents out.new)) (in_columns widths.now (spec.row_line row.now)) }
+    ensures { Writes result (desk (W.taken out.old) page.old (W.failures out.old) (W.contents out.old)) (desk (W.taken out.new) page.new (W.failures out.new) (W.contents out.new)) (in_columns widths.now (spec.row_line row.entry)) }
 {
-    put_line(page, out, widths, &Fields::Row(row.fields()))
+    put_line(page, out, widths, &Fields::Row(row))
 }
 
 fn put_row_lines<W: Sink>(
     page: &mut Page,
     out: &mut W,
     widths: &[usize],
-    rows: &[AnswerRow],
+    rows: AnswerRows<'_>,
 ) -> Result<(), SinkFault>
-    ensures { Writes result (desk (W.taken out.old) page.old (W.failures out.old) (W.contents out.old)) (desk (W.taken out.new) page.new (W.failures out.new) (W.contents out.new)) (spec.rows_of widths.now rows.now) }
+    ensures { Writes result (desk (W.taken out.old) page.old (W.failures out.old) (W.contents out.old)) (desk (W.taken out.new) page.new (W.failures out.new) (W.contents out.new)) (spec.rows_of widths.now rows.entry) }
 {
     let mut rest = rows;
     while let Some((row, rows)) = rest.split_first() {
@@ -151,9 +151,9 @@ fn put_columns<W: Sink>(
     headers: bool,
     widths: &[usize],
     titles: &[String],
-    rows: &[AnswerRow],
+    rows: AnswerRows<'_>,
 ) -> Result<(), SinkFault>
-    ensures { Writes result (desk (W.taken out.old) page.old (W.failures out.old) (W.contents out.old)) (desk (W.taken out.new) page.new (W.failures out.new) (W.contents out.new)) (spec.head_of headers widths.now (map string_bytes titles.now) ++ spec.rows_of widths.now rows.now) }
+    ensures { Writes result (desk (W.taken out.old) page.old (W.failures out.old) (W.contents out.old)) (desk (W.taken out.new) page.new (W.failures out.new) (W.contents out.new)) (spec.head_of headers widths.now (map string_bytes titles.now) ++ spec.rows_of widths.now rows.entry) }
 {
     let Ok(()) = put_head(page, out, headers, widths, titles) else {
         return Err(SinkFault);
@@ -168,9 +168,9 @@ pub(crate) fn put_sheet<W: Sink>(
     shape: Shape,
     widths: &[usize],
     titles: &[String],
-    rows: &[AnswerRow],
+    rows: AnswerRows<'_>,
 ) -> Result<(), SinkFault>
-    ensures { Writes result (desk (W.taken out.old) page.old (W.failures out.old) (W.contents out.old)) (desk (W.taken out.new) page.new (W.failures out.new) (W.contents out.new)) (spec.sheet shape.mode shape.headers widths.now (map string_bytes titles.now) rows.now) }
+    ensures { Writes result (desk (W.taken out.old) page.old (W.failures out.old) (W.contents out.old)) (desk (W.taken out.new) page.new (W.failures out.new) (W.contents out.new)) (spec.sheet shape.mode shape.headers widths.now (map string_bytes titles.now) rows.entry) }
 {
     match shape.mode {
         Mode::Bars => put_bars(page, out, shape.headers, titles, rows),

@@ -8,7 +8,7 @@ ghost use Rattle.ssb_show.specs.Shown as spec;
 use crate::columns::column_widths;
 use crate::shape::Shape;
 use crate::sheet::put_sheet;
-use ssb_rows::{Answer, AnswerFault, AnswerRow, Page, Sink, SinkFault};
+use ssb_rows::{Answer, AnswerFault, AnswerRows, Page, Sink, SinkFault};
 use std::alloc::Global;
 
 // Writes rows in a shape, with these titles, and in columns of these widths.
@@ -16,13 +16,13 @@ fn write_sheet<W: Sink>(
     shape: Shape,
     widths: &[usize],
     titles: &[String],
-    rows: &[AnswerRow],
+    rows: AnswerRows<'_>,
     out: &mut W,
 ) -> Result<(), SinkFault>
-    ensures wrote { OnOk result (W.taken out.new ≡ W.taken out.old ++ spec.sheet shape.mode shape.headers widths.now (map string_bytes titles.now) rows.now) }
+    ensures wrote { OnOk result (W.taken out.new ≡ W.taken out.old ++ spec.sheet shape.mode shape.headers widths.now (map string_bytes titles.now) rows.entry) }
     ensures clean { OnOk result (W.failures out.new ≡ W.failures out.old) }
     ensures failed { OnErr result (W.failures out.old < W.failures out.new) }
-    ensures began { OnErr result (IsBeginning (W.taken out.old) (W.taken out.new) (spec.sheet shape.mode shape.headers widths.now (map string_bytes titles.now) rows.now)) }
+    ensures began { OnErr result (IsBeginning (W.taken out.old) (W.taken out.new) (spec.sheet shape.mode shape.headers widths.now (map string_bytes titles.now) rows.entry)) }
     ensures holds { GrewAlike (W.taken out.old) (W.taken out.new) (W.contents out.old) (W.contents out.new) }
 {
     let mut page = Page::new();
@@ -54,7 +54,7 @@ pub fn write_shown<W: Sink>(
     ensures unshown { IfErr result (spec.IsUnshown (spec.shown shape (map string_bytes titles.now) answer.now) (W.taken out.old) (W.taken out.new) (W.failures out.old) (W.failures out.new)) }
     ensures holds { GrewAlike (W.taken out.old) (W.taken out.new) (W.contents out.old) (W.contents out.new) }
 {
-    let Ok(widths) = column_widths(alloc, shape, titles, answer.rows()) else {
+    let Ok(widths) = column_widths(alloc, shape, titles, answer) else {
         return Err(AnswerFault::Memory);
     };
     match write_sheet(shape, widths.as_slice(), titles, answer.rows(), out) {

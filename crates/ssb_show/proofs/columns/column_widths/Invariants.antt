@@ -5,4 +5,4 @@ use Rattle.ssb_show.specs.Shown.{row_line, title_lines}
 use Rattle.ssb_show.proofs.columns.column_widths.Given as goal
 
 abbrev pub invariant-loop-place : goal.invariant-loop-place
-invariant-loop-place l = l.widths.items ≡ map (column_width (title_lines l.shape.headers (map string_bytes l.titles) ++ map row_line l.rows)) (range_with_len 0 l.place)
+invariant-loop-place l = l.widths.items ≡ map (column_width (title_lines l.shape.headers (map string_bytes l.titles) ++ map row_line l.answer)) (range_with_len 0 l.place)

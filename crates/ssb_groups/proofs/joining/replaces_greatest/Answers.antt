@@ -4,7 +4,7 @@ use Rattle.ssb_cells.proofs.OrderLaws.{cell-same}
 use Rattle.ssb_groups.specs.Aggregates.{greater}
 use Rattle.ssb_groups.specs.Keys.{kept_total, spelt_cell}
 use Rattle.ssb_groups.specs.Refs.{values_at}
-use Rattle.ssb_groups.proofs.joining.is_greater.Goals as goal
+use Rattle.ssb_groups.proofs.joining.replaces_greatest.Goals as goal
 
 pub returns-in-Equal : goal.returns-in-Equal
 returns-in-Equal c =

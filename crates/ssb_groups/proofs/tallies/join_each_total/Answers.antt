@@ -3,7 +3,7 @@ use Rattle.ssb_groups.specs.Joining.{JoinsTotal, values_by}
 use Rattle.ssb_groups.specs.Keys.{IsKept, kept_total, spelt_cell}
 use Rattle.ssb_groups.specs.Tallies.{kept_totals, total_at}
 use Rattle.ssb_groups.proofs.TallyFacts.{joined-all, joined-next, joined-none, kept-at}
-use Rattle.ssb_groups.proofs.tallies.join_totals.Goals as goal
+use Rattle.ssb_groups.proofs.tallies.join_each_total.Goals as goal
 
 pub loop-at-init : goal.loop-at-init
 loop-at-init c = joined-none c.args.tables.now c.args.joining c.args.places.now (kept_totals c.args.more.now) c.args.tally.now c.requires.kept

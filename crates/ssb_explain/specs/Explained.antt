@@ -1,6 +1,6 @@
 -- The text of a plan: a line a step, in the order in which they are done.
 -- Source: own; docs/SQL.md shows one.
-use Rattle.std.specs.Prelude.{◌≡◌, ◌++◌, ◌∷◌, [], ◌+◌, ◌||◌, ℕ, Bool, true, false, if◌then◌else◌, List, Option, None, Some, codes, decimal, length, map, nat_eq, not, slice_get}
+use Rattle.std.specs.Prelude.{◌≡◌, ◌++◌, ◌∷◌, [], ◌+◌, ◌||◌, ℕ, Bool, true, false, if◌then◌else◌, List, Option, None, Some, codes, decimal, length, map, nat_eq, nat_lt, not, slice_get}
 use Rattle.std.specs.Bool.{beq}
 use Rattle.ssb_catalog.specs.Shapes.{TableShape}
 use Rattle.ssb_cells.specs.Tables.{Columns, rows_in}
@@ -9,6 +9,7 @@ use Rattle.ssb_plan.specs.Only.{only_at}
 use Rattle.ssb_plan.specs.declared.column_filter.ColumnFilter.{ColumnFilter}
 use Rattle.ssb_plan.specs.declared.table_filter.TableFilter.{TableFilter}
 use Rattle.ssb_plan.specs.Build.{IsPlan}
+use Rattle.ssb_plan.specs.Inputs.{column_ref}
 use Rattle.ssb_plan.specs.JobShape.{JobShape, from_tables}
 use Rattle.ssb_plan.specs.declared.dimension.Dimension.{Dimension as AnyDimension}
 use Rattle.ssb_plan.specs.declared.join.Join.{Join}
@@ -25,6 +26,7 @@ use Rattle.ssb_spelling.specs.Titles.{Bytes, aggregate_title, column_name, item_
 use Rattle.ssb_trees.specs.Conditions.{Filter}
 use Rattle.ssb_trees.specs.Lists.{concat}
 use Rattle.ssb_trees.specs.declared.operand.Operand.{Operand}
+use Rattle.ssb_explain.specs.GroupCount.{groups_by}
 use Rattle.ssb_explain.specs.Members.{members, parted_or_nothing, table_or_none}
 
 -- ---- lines
@@ -136,14 +138,28 @@ abbrev pub join_text : List TableShape → JobShape → Plan → Bytes
 join_text c j p = fact_line c j ++ (filter_text c j j.query.fact p.filter ++ (accesses_from c j true 0 p.accesses.items ++ (accesses_from c j false 0 p.accesses.items
     ++ concat (map (residual_line c j) p.rest.items))))
 
+-- the most groups that GROUP BY may make, at most one for each row of the fact table
+abbrev pub group_count : JobShape → ℕ
+group_count j = groups_by j.tables (rows_in (table_in j j.query.fact)) (map (column_ref j.query) j.query.groups)
+
+-- from so many groups on batches are told of
+abbrev pub many_groups : ℕ
+many_groups = 1000
+
+abbrev pub batch_line : ℕ → Bytes
+batch_line groups = if nat_lt groups many_groups then [] else line (codes "batch") (codes "up to " ++ (decimal groups ++ codes " groups, so 8 or 64 may be faster"))
+
+-- what is done with the groups
+abbrev pub grouped_text : List TableShape → QueryParts → Bytes
+grouped_text c q = list_line (codes "aggregates") (map (aggregate_title (named c q)) q.aggregates) ++ (having_line c q q.having ++ list_line (codes "order") (map (order_text c q) q.orders))
+
 -- what is made of the rows that are kept
-abbrev pub answer_text : List TableShape → QueryParts → Bytes
-answer_text c q = list_line (codes "groups") (map (named c q) q.groups) ++ (list_line (codes "aggregates") (map (aggregate_title (named c q)) q.aggregates)
-    ++ (having_line c q q.having ++ list_line (codes "order") (map (order_text c q) q.orders)))
+abbrev pub answer_text : List TableShape → JobShape → Bytes
+answer_text c j = list_line (codes "groups") (map (named c j.query) j.query.groups) ++ (batch_line (group_count j) ++ grouped_text c j.query)
 
 -- the text of a plan of a query over tables
 abbrev pub explained : List TableShape → JobShape → Plan → Bytes
-explained c j p = join_text c j p ++ answer_text c j.query
+explained c j p = join_text c j p ++ answer_text c j
 
 -- a text is that of a plan which is right for the query over the tables
 pub record IsExplained (c : List TableShape) (j : JobShape) (text : Bytes) : Type 0 where

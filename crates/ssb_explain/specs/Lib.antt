@@ -1,3 +1,4 @@
 pub mod Analyzed
 pub mod Explained
+pub mod GroupCount
 pub mod Members

@@ -84,8 +84,8 @@ impl<'a> Shown<'a> {
         self.job.tables().as_slice().get(*number)
     }
 
-    // How many rows the table at a place of FROM has.
-    fn row_count(self, place: usize) -> u32
+    /// How many rows the table at a place of FROM has.
+    pub fn row_count(self, place: usize) -> u32
         ensures { result ≡ rows_in (spec.table_in self.entry.job.now place) }
     {
         match self.table(place) {

@@ -3,9 +3,11 @@
 ghost use Rattle.std.specs.Prelude.{◌≡◌, ◌++◌, IfOk, OnOk, map, slice_get, string_bytes};
 ghost use Rattle.ssb_explain.specs.Explained as spec;
 ghost use Rattle.ssb_explain.specs.Explained.{IsExplained};
+ghost use Rattle.ssb_plan.specs.Build.{IsPlan};
 ghost use Rattle.ssb_spelling.specs.Titles.{aggregate_title};
 
-use crate::lines::Shown;
+use crate::group_count::groups_by;
+use crate::lines::{Shown, put_count};
 use crate::members::put_parted;
 use ssb_catalog::Catalog;
 use ssb_job::Job;
@@ -13,6 +15,9 @@ use ssb_query::{BoundColumn, BoundOrder, Origin};
 use ssb_spelling::{put_aggregate, put_condition, put_name, put_title};
 use ssb_trees::{Aggregate, Filter};
 use std::alloc::{AllocError, Global};
+
+// From so many groups on batches are told of.
+const MANY_GROUPS: u32 = 1_000;
 
 // Puts a line of texts, where there are any.
 fn put_list(out: &mut String, head: &str, texts: &[String]) -> Result<(), AllocError>
@@ -34,6 +39,18 @@ fn put_direction(out: &mut String, descending: bool) -> Result<(), AllocError>
         return out.push_str(" desc");
     }
     Ok(())
+}
+
+// Puts the line of batches, where groups may be many.
+fn put_batch(out: &mut String, groups: u32) -> Result<(), AllocError>
+    ensures { OnOk result (string_bytes out.new ≡ string_bytes out.old ++ spec.batch_line groups) }
+{
+    if groups < MANY_GROUPS {
+        return Ok(());
+    }
+    out.push_str("batch: up to ")?;
+    put_count(out, groups as usize)?;
+    out.push_str(" groups, so 8 or 64 may be faster\n")
 }
 
 impl<'a> Shown<'a> {
@@ -130,24 +147,44 @@ impl<'a> Shown<'a> {
         self.put_residual(out, &plan.rest)
     }
 
-    /// Puts the lines of what is made of the rows that are kept.
-    pub fn put_answer(self, out: &mut String) -> Result<(), AllocError>
-        ensures { OnOk result (string_bytes out.new ≡ string_bytes out.old ++ spec.answer_text self.entry.catalog.now self.entry.job.now.query) }
+    // The most groups that there may be.
+    fn group_count(self) -> u32
+        requires { IsPlan self.job.now.query self.job.now.tables self.plan.now }
+        ensures { result ≡ spec.group_count self.entry.job.now }
+    {
+        let rows = self.row_count(self.query().fact);
+        let tables = self.job.tables().as_slice();
+        groups_by(tables, &self.plan.keys, &self.plan.spans, rows)
+    }
+
+    // Puts the lines of what is done with the groups.
+    fn put_grouped(self, out: &mut String) -> Result<(), AllocError>
+        ensures { OnOk result (string_bytes out.new ≡ string_bytes out.old ++ spec.grouped_text self.entry.catalog.now self.entry.job.now.query) }
     {
         let query = self.query();
-        let groups = self.column_texts(query.groups.as_slice())?;
         let aggregates = self.aggregate_texts(query.aggregates.as_slice())?;
         let orders = self.order_texts(query.orders.as_slice())?;
-        put_list(out, "groups", &groups)?;
         put_list(out, "aggregates", &aggregates)?;
         self.put_having(out, &query.having)?;
         put_list(out, "order", &orders)
+    }
+
+    /// Puts the lines of what is made of the rows that are kept.
+    pub fn put_answer(self, out: &mut String) -> Result<(), AllocError>
+        requires { IsPlan self.job.now.query self.job.now.tables self.plan.now }
+        ensures { OnOk result (string_bytes out.new ≡ string_bytes out.old ++ spec.answer_text self.entry.catalog.now self.entry.job.now) }
+    {
+        let groups = self.column_texts(self.query().groups.as_slice())?;
+        put_list(out, "groups", &groups)?;
+        put_batch(out, self.group_count())?;
+        self.put_grouped(out)
     }
 }
 
 /// The text of what a job does, a line a step, in the order in which they are done: the fact table and what is asked
 /// of it alone; the dimensions with conjuncts of their own and then the others, each with how many of its rows stay;
-/// the conjuncts that are tested on whole combinations; groups, aggregates, HAVING and ORDER BY.
+/// the conjuncts that are tested on whole combinations; groups, and that batches may help where they may be many;
+/// aggregates, HAVING and ORDER BY.
 ///
 /// The catalog is that which its query was bound to.
 ///

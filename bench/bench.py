@@ -8,6 +8,7 @@ Usage: bench.py load FOLDER [--old PROGRAM]
        bench.py threads FOLDER [--queries NAME..] [--workers N..] [--parts N..] [--morsels N..]
                                 [--batches N..] [--times N]
        bench.py session FOLDER [--old PROGRAM] [--tiny N]
+       bench.py written FOLDER [--old-ssb PROGRAM] [--queries NAME..] [--times N]
        bench.py check
 
 Each takes [--runs N] [--ssb PROGRAM] [--ssb-bench PROGRAM] too. FOLDER has tables and their catalog, as
@@ -21,19 +22,15 @@ import tempfile
 from pathlib import Path
 
 import measure
+import sessions
+from measure import NEW, OLD, WORKERS, thirteen
 
-sys.path.append(str(measure.ROOT / "tests"))
-from benchmark_queries import thirteen  # noqa: E402
-
-NEW = "new"
-OLD = "old"
 ALONE = "alone"
 
 # What `load` runs: `ssb_bench read`, `ssb run` of two queries, and `ssb_bench load` by its threads.
 BARE = "bare reading of the fact file"
 COUNT = "select count(*) from lineorder\n"
 NAME = "Q2.1"
-WORKERS = 4
 COUNTING = f"counting all rows, {WORKERS} workers"
 ANSWERING = f"{NAME}, {WORKERS} workers"
 THREADS = [1, 2, 4, 8]
@@ -69,6 +66,7 @@ def grouped(columns, rows, more=""):
 
 GROUPINGS = {
     "joins-grouped": TEXTS["joins-grouped"],
+    "extremes-grouped": f"select min(p_name), max(p_name), d_year, p_brand1 {JOINS} group by d_year, p_brand1\n",
     "four-columns": grouped("d_year, c_nation, s_region, p_mfgr", ALL_JOINS, ", count(*)"),
     "c_phone": grouped("c_phone", CUSTOMERS),
     "lo_custkey": grouped("lo_custkey", FACTS),
@@ -117,20 +115,6 @@ SUMS = {
     "max-joined-text": "sum-joined",
 }
 
-# The inputs of a session: nothing, the benchmark's queries, and one statement a few times and many times.
-NOTHING = "load alone"
-THIRTEEN = "the thirteen"
-THRICE = "the thirteen three times"
-FEW = 10
-MANY = 1000
-NO_ROW = "select count(*) from lineorder where lo_orderkey < 0;\n"
-
-# The tables of the many tiny statements of a session: one of seven rows.
-TINY_CATALOG = "t|a|int|null\n"
-TINY_ROWS = "".join(f"{row}|\n" for row in range(1, 8))
-TINY = "select sum(a) from t;\n"
-TINY_SUM = "28\n"
-
 # What `check` reads.
 CATALOG = "t|a|int|null\n"
 SHORT = "a short text"
@@ -142,11 +126,6 @@ def line_count(path):
     """How many lines a file has."""
     with open(path, "rb") as lines:
         return sum(1 for _ in lines)
-
-
-def programs_of(new, old):
-    """The new program, and the old one where there is one."""
-    return {NEW: new} | ({OLD: old} if old else {})
 
 
 def load_commands(given, programs, query):
@@ -223,7 +202,7 @@ def load(given, texts):
     rows = line_count(fact)
     size = sum(path.stat().st_size for path in given.folder.glob("*.tbl"))
     measure.print_setting(given, f"{rows:,} fact rows, files of {size / 1e6:.1f} MB")
-    programs = programs_of(given.ssb, given.old)
+    programs = measure.programs_of(given.ssb, given.old)
     query = measure.write_texts(texts, {COUNTING: COUNT})[COUNTING]
     runs = measure.run_all(load_commands(given, programs, query), given.runs)
     check_load(runs, programs, rows)
@@ -231,15 +210,6 @@ def load(given, texts):
     print_threads(runs, size)
     if given.old:
         print_old(runs)
-
-
-def paths_of(given, texts, known):
-    """The files of those of the known queries that are to be answered, by their names."""
-    names = given.queries or list(known)
-    for name in names:
-        if name not in known:
-            raise SystemExit(f"no query {name}: there are {' '.join(known)}")
-    return measure.write_texts(texts, {name: known[name] for name in names})
 
 
 def answering(program, word, given, path, morsel, *shared):
@@ -264,7 +234,7 @@ def least_of_all(given, commands):
 
 def query(given, texts):
     """Answers over loaded tables by one worker: for sizes of a morsel, and by an old ssb_bench."""
-    paths = paths_of(given, texts, {**thirteen(), **TEXTS})
+    paths = measure.paths_of(given, texts, {**thirteen(), **TEXTS})
     first, *others = given.morsels
     commands = {}
     for name, path in paths.items():
@@ -285,10 +255,10 @@ def query(given, texts):
 
 def answer(given, texts):
     """Answers from the text on, whose job is made each time, by one worker, long lists too, and by an old ssb_bench."""
-    paths = paths_of(given, texts, {**thirteen(), **LISTS})
+    paths = measure.paths_of(given, texts, {**thirteen(), **LISTS})
     rows = line_count(given.folder / "lineorder.tbl")
     morsel = given.morsels[0]
-    programs = programs_of(given.ssb_bench, given.old)
+    programs = measure.programs_of(given.ssb_bench, given.old)
     commands = {
         (name, program): answering(path, "answer", given, paths[name], morsel)
         for name in paths
@@ -313,10 +283,10 @@ def check_rows(given, texts, paths):
     session_path = texts / "session.sql"
     session_path.write_text(";\n".join(path.read_text(encoding="utf-8") for path in paths.values()), encoding="utf-8")
     commands = {
-        f"{name}, {workers} workers, batch {batch}": shell(
+        f"{name}, {workers} workers, batch {batch}": sessions.shell(
             program, given.folder, session_path, "--morsel", given.morsels[0], "--workers", workers, "--batch", batch
         )
-        for name, program in programs_of(given.ssb, given.old_ssb).items()
+        for name, program in measure.programs_of(given.ssb, given.old_ssb).items()
         for workers, batch in SHARES
     }
     runs = measure.run_all(commands, 1)
@@ -327,7 +297,7 @@ def check_rows(given, texts, paths):
 
 def groups(given, texts):
     """Groupings and sums from the text on, by workers in batches, and by an old ssb_bench; ssb's rows are compared."""
-    paths = paths_of(given, texts, GROUPINGS)
+    paths = measure.paths_of(given, texts, GROUPINGS)
     morsel = given.morsels[0]
     commands = {}
     for (name, path), (workers, batch) in itertools.product(paths.items(), SHARES):
@@ -349,7 +319,7 @@ def groups(given, texts):
 
 def threads(given, texts):
     """Answers over loaded tables by workers in threads, against one thread alone."""
-    paths = paths_of(given, texts, {**thirteen(), **TEXTS})
+    paths = measure.paths_of(given, texts, {**thirteen(), **TEXTS})
     choices = list(itertools.product(given.workers, given.parts, given.morsels, given.batches))
     commands = {}
     for name, path in paths.items():
@@ -366,63 +336,6 @@ def threads(given, texts):
         rows.append([name, f"{found[name, ALONE, first]:.2f}", *(f"{ratio:.2f}" for ratio in ratios)])
     head = [f"{workers} of {parts}, {batch} of {morsel:,}" for workers, parts, morsel, batch in choices]
     measure.print_table(["Query", f"Milliseconds alone, in morsels of {first:,}", *head], rows)
-
-
-def shell(program, folder, path, *options):
-    """The command of a session whose input is a file."""
-    return ["sh", "-c", 'exec "$@" <"$0"', path, program, "shell", "--data", folder, *options]
-
-
-def tiny_shell(program, folder, path, workers):
-    """The command of a session over the tiny table, whose input is a pipe."""
-    words = [program, "shell", "--data", folder, "--catalog", folder / "catalog", "--workers", workers]
-    return ["sh", "-c", 'cat "$0" | "$@"', path, *words]
-
-
-def tiny_session(given, folder):
-    """The rows of a table: seconds of many tiny statements, and how those of other workers and builds compare."""
-    path = folder / "tiny.sql"
-    for name, text in (("catalog", TINY_CATALOG), ("t.tbl", TINY_ROWS), (path.name, given.tiny * TINY)):
-        (folder / name).write_text(text, encoding="utf-8")
-    commands = {
-        (name, workers): tiny_shell(program, folder, path, workers)
-        for name, program in programs_of(given.ssb, given.old).items()
-        for workers in ((1, WORKERS) if name == NEW else (1,))
-    }
-    runs = measure.run_all(commands, given.runs)
-    for name, some in runs.items():
-        measure.check_outputs(f"{name[0]}, {name[1]} workers", some, given.tiny * TINY_SUM)
-    took = {name: measure.least_seconds(some) for name, some in runs.items()}
-    rows = [
-        [f"{given.tiny:,} statements over seven rows, 1 worker, seconds", f"{took[NEW, 1]:.3f}"],
-        [f"by {WORKERS} workers, against 1", f"{took[NEW, WORKERS] / took[NEW, 1]:.2f}"],
-    ]
-    if given.old:
-        rows.append(["new / old, 1 worker", f"{took[NEW, 1] / took[OLD, 1]:.2f}"])
-    return rows
-
-
-def session(given, texts):
-    """Sessions: the thirteen against one load and their own times; what a further statement takes."""
-    queries = "\n".join(thirteen().values())
-    statements = {NOTHING: "", THIRTEEN: queries, THRICE: 3 * queries, FEW: FEW * NO_ROW, MANY: MANY * NO_ROW}
-    paths = measure.write_texts(texts, statements)
-    measure.print_setting(given, f"{given.folder}, {WORKERS} workers")
-    commands = {name: shell(given.ssb, given.folder, path, "--workers", WORKERS) for name, path in paths.items()}
-    runs = measure.run_all(commands, given.runs)
-    took = {name: measure.least_seconds(some) for name, some in runs.items()}
-    peak = {name: measure.least_peak(some) / 1e6 for name, some in runs.items()}
-    own = (took[THRICE] - took[THIRTEEN]) / 2
-    rows = [
-        [f"{NOTHING}, seconds", f"{took[NOTHING]:.3f}"],
-        [f"{THIRTEEN} once more, seconds", f"{own:.3f}"],
-        [f"{THIRTEEN}, with the load", f"{took[THIRTEEN]:.3f}"],
-        ["against the load and their own times", f"{took[THIRTEEN] / (took[NOTHING] + own):.2f}"],
-        ["a statement without a row, milliseconds", f"{1000 * (took[MANY] - took[FEW]) / (MANY - FEW):.2f}"],
-        [f"peak memory of {FEW} such, MB", f"{peak[FEW]:.1f}"],
-        [f"of {MANY}, more", f"{peak[MANY] - peak[FEW]:.1f}"],
-    ]
-    measure.print_table(["Session", "Figure"], rows + tiny_session(given, texts))
 
 
 def filled(first, again, last):
@@ -468,7 +381,8 @@ COMMANDS = {
     answer: (["ssb_bench"], ["folder", "--old", "--queries", "--morsels", "--times"]),
     groups: (["ssb", "ssb_bench"], ["folder", "--old", "--old-ssb", "--queries", "--morsels", "--times"]),
     threads: (["ssb_bench"], ["folder", "--queries", "--workers", "--parts", "--morsels", "--batches", "--times"]),
-    session: (["ssb"], ["folder", "--old", "--tiny"]),
+    sessions.session: (["ssb"], ["folder", "--old", "--tiny"]),
+    sessions.written: (["ssb"], ["folder", "--old-ssb", "--queries", "--times"]),
     check: (["ssb"], []),
 }
 

@@ -15,9 +15,7 @@ from pathlib import Path
 
 import engines
 import measure
-
-sys.path.append(str(measure.ROOT / "tests"))
-from benchmark_queries import thirteen  # noqa: E402
+from measure import thirteen
 
 EXAMPLES = measure.ROOT / "examples"
 THREADS = 4

@@ -12,6 +12,7 @@ from pathlib import Path
 from typing import NamedTuple
 
 import export
+import measure
 
 HERE = Path(__file__).resolve().parent
 
@@ -71,7 +72,6 @@ class Ssb:
 
     name = "ssb"
     package = None
-    TIME = re.compile(r"^time: read ([\d.]+) ms, answer ([\d.]+) ms, write ([\d.]+) ms$", re.M)
 
     def __init__(self, program, threads):
         self.program = program
@@ -85,7 +85,7 @@ class Ssb:
         words = [self.program, "shell", "--data", folder, "--catalog", catalog or folder / "catalog"]
         words += ["--workers", self.threads]
         told, whole = printed([*map(str, words), "--stop"], f".timing on\n{lines}")
-        times = [sum(map(float, parts)) / 1000 for parts in self.TIME.findall(told)]
+        times = [sum(parts) / 1000 for parts in measure.timed(told)]
         return session_of(whole, times, list(texts), out)
 
 

@@ -5,14 +5,24 @@ import itertools
 import os
 import re
 import subprocess
+import sys
 import time
 from pathlib import Path
 from typing import NamedTuple
 
 ROOT = Path(__file__).resolve().parent.parent
+sys.path.append(str(ROOT / "tests"))
+from benchmark_queries import thirteen  # noqa: E402, F401
 
-# What `ssb_bench` prints of a time.
+NEW = "new"
+OLD = "old"
+
+# How many workers `load` and sessions have.
+WORKERS = 4
+
+# What `ssb_bench` prints of a time, and what a session's `.timing on` tells of one.
 TOLD = re.compile(r"\w+ (\d+\.\d{3}) ms\n")
+TIMED = re.compile(r"^time: read ([\d.]+) ms, answer ([\d.]+) ms, write ([\d.]+) ms$", re.M)
 
 
 def number(word):
@@ -71,6 +81,11 @@ def parsed(doc, commands, words):
     return given
 
 
+def programs_of(new, old):
+    """The new program, and the old one where there is one."""
+    return {NEW: new} | ({OLD: old} if old else {})
+
+
 class Run(NamedTuple):
     """One run of a program: its seconds, those of processors, its peak memory in bytes, and what it printed."""
 
@@ -81,7 +96,7 @@ class Run(NamedTuple):
 
 
 def run(command):
-    """Runs a program once. Ends the script where the program fails.
+    """Runs a program once. Ends the script where the program fails, and tells the last that it printed.
 
     The peak is never below this process's own, which a started program inherits: so the scripts
     keep nothing large.
@@ -97,7 +112,7 @@ def run(command):
     seconds = time.perf_counter() - start
     child.returncode = os.waitstatus_to_exitcode(status)
     if child.returncode != 0:
-        raise SystemExit(f"{' '.join(words)}: ended with status {child.returncode}")
+        raise SystemExit(f"{' '.join(words)}: ended with status {child.returncode}: {output[-500:].strip()}")
     return Run(seconds, usage.ru_utime + usage.ru_stime, usage.ru_maxrss * 1024, output)
 
 
@@ -146,12 +161,39 @@ def least_told(runs):
     return min(told(run.output) for run in runs)
 
 
+class Timed(NamedTuple):
+    """The milliseconds that a session tells of one answer: of reading, of working out the rows, of writing them."""
+
+    read: float
+    answer: float
+    write: float
+
+
+def timed(output):
+    """The times that a session tells."""
+    return [Timed(*map(float, parts)) for parts in TIMED.findall(output)]
+
+
+def chosen(given, known):
+    """Those of the known queries that are to be answered."""
+    names = given.queries or list(known)
+    for name in names:
+        if name not in known:
+            raise SystemExit(f"no query {name}: there are {' '.join(known)}")
+    return {name: known[name] for name in names}
+
+
 def write_texts(folder, texts):
     """Writes named texts to files of a folder: the path of each."""
     paths = {name: folder / f"{at}.sql" for at, name in enumerate(texts)}
     for name, path in paths.items():
         path.write_text(texts[name], encoding="utf-8")
     return paths
+
+
+def paths_of(given, texts, known):
+    """The files of those of the known queries that are to be answered, by their names."""
+    return write_texts(texts, chosen(given, known))
 
 
 def print_setting(given, what):

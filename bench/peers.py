@@ -18,9 +18,7 @@ from pathlib import Path
 import chart
 import engines
 import measure
-
-sys.path.append(str(measure.ROOT / "tests"))
-from benchmark_queries import thirteen  # noqa: E402
+from measure import thirteen
 
 
 def parsed(words):

@@ -264,16 +264,16 @@ read-one values None x e = cc
 read-one values (Some v) x e = same_Some (kept_cell values v) x e
 
 -- what is read of the rows of one table is what stands there in each combination
-pub cells-of-block : (tables : List Columns) (r : ColumnRef) (block : List (List ℕ)) (row-at : ℕ → ℕ) (cells : List Kept) → ((at : ℕ) (row : List ℕ) → slice_get block at ≡ Some row → unwrap_or (slice_get row r.place) 0 ≡ row-at at)
-    → AreCellsOf (values_of tables r) row-at (length block) cells → cells ≡ map (λ row. cell_in tables row r) block
-cells-of-block tables r block row-at cells there are =
+pub cells-of-block : (tables : List Columns) (r : ColumnRef) (block : List (List ℕ)) (rows : List ℕ) (cells : List Kept) → ((at : ℕ) (row : List ℕ) → slice_get block at ≡ Some row → unwrap_or (slice_get row r.place) 0 ≡ get_or rows at 0)
+    → AreCellsOf (values_of tables r) rows (length block) cells → cells ≡ map (λ row. cell_in tables row r) block
+cells-of-block tables r block rows cells there are =
     same_lists cells (map (λ row. cell_in tables row r) block) (are.many ∙ sym (length-map block (λ row. cell_in tables row r))) (λ k d lt.
     let many = are.many in
     let below : k < length block = omega (arith, lt, many) in
     let row = get_or block k [] in
     let at : slice_get block k ≡ Some row = slice_get-get_or block k [] below in
     get-same cells k d lt
-    ∙ sym (read-one (values_of tables r) (slice_get (values_of tables r) (row-at k)) (get_or cells k kept.Null) (are.each k below))
+    ∙ sym (read-one (values_of tables r) (slice_get (values_of tables r) (get_or rows k 0)) (get_or cells k kept.Null) (are.each k below))
     ∙ ap (λ n. kept_cell (values_of tables r) (unwrap_or (slice_get (values_of tables r) n) null)) (sym (there k row at))
     ∙ sym (get_or-map (λ x. cell_in tables x r) block k [] d below))
   where

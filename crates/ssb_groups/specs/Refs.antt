@@ -1,6 +1,6 @@
 -- What is read of a combination where a job's columns stand in the tables.
 -- Source: own; for the contracts inside this crate.
-use Rattle.std.specs.Prelude.{◌≡◌, ℕ, ◌+◌, ◌<◌, pos, List, [], ◌∷◌, length, get_or, option_map, Option, None, Some, slice_get, unwrap_or, ⊤}
+use Rattle.std.specs.Prelude.{◌≡◌, ℕ, ◌<◌, pos, List, [], ◌∷◌, length, get_or, option_map, Option, None, Some, slice_get, unwrap_or, ⊤}
 use Rattle.ssb_cells.specs.Cell.{Cell, null, number}
 use Rattle.ssb_cells.specs.Tables.{rows_in, Columns}
 use Rattle.ssb_conditions.specs.Rows.{column_value}
@@ -12,8 +12,6 @@ use Rattle.ssb_plan.specs.declared.input.Input.TheVariants as input
 use Rattle.ssb_query.specs.declared.column.BoundColumn.{BoundColumn}
 use Rattle.ssb_groups.specs.Keys.{kept_cell}
 use Rattle.ssb_groups.specs.Value.{Outcome, column_outcome, known, number_of}
-use Rattle.ssb_groups.specs.declared.row_slice.RowSlice.{RowSlice}
-use Rattle.ssb_groups.specs.declared.row_slice.RowSlice.TheVariants as slice
 use Rattle.ssb_keys.specs.declared.kept.Kept.{Kept}
 use Rattle.ssb_keys.specs.declared.kept.Kept.TheVariants as kept
 
@@ -37,19 +35,10 @@ cell_in tables rows r =
     let values : List Cell = values_of tables r in
     kept_cell values (unwrap_or (slice_get values (unwrap_or (slice_get rows r.place) 0)) null)
 
--- the row at a place of a list
-abbrev pub listed : List ℕ → ℕ → ℕ
-listed rows at = get_or rows at 0
-
--- the row at a place
-abbrev pub row_in : RowSlice → ℕ → ℕ
-row_in (slice.Listed rows) at = listed rows.now at
-row_in (slice.Run first) at = first + at
-
--- what stands for the values of a column in so many rows, each by its place
-pub record AreCellsOf (values : List Cell) (row : ℕ → ℕ) (count : ℕ) (cells : List Kept) : Type 0 where
+-- what stands for the values of so many rows of a column
+pub record AreCellsOf (values : List Cell) (rows : List ℕ) (count : ℕ) (cells : List Kept) : Type 0 where
   pub many : length cells ≡ count
-  pub each : (at : ℕ) → at < count → option_map (kept_cell values) (slice_get values (row at)) ≡ Some (get_or cells at kept.Null)
+  pub each : (at : ℕ) → at < count → option_map (kept_cell values) (slice_get values (get_or rows at 0)) ≡ Some (get_or cells at kept.Null)
 
 -- where there may be no column, there is no text
 

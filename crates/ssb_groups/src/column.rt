@@ -11,7 +11,7 @@ ghost use Rattle.ssb_conditions.specs.Rows.{IsCombination};
 ghost use Rattle.ssb_plan.specs.Inputs.{has_column, values_of};
 ghost use Rattle.ssb_plan.specs.JobShape.{from_tables};
 ghost use Rattle.ssb_groups.specs.Keys.{AreOfKind, IsKept, IsOfKind, kept_cell, kind_of, spelt_cell};
-ghost use Rattle.ssb_groups.specs.Refs.{AreCellsOf, HasRow, IsColumn, IsSomeColumn, cell_in, listed, ref_value, values_at};
+ghost use Rattle.ssb_groups.specs.Refs.{AreCellsOf, HasRow, IsColumn, IsSomeColumn, cell_in, ref_value, values_at};
 
 use ssb_cells::{CodeSlice, Column, NumberSlice, Table, Value, flag_at, numbers_have_no_text};
 use ssb_job::{Block, Job, JoinedRow};
@@ -96,7 +96,7 @@ pub(crate) fn code_at(codes: CodeSlice<'_>, nulls: &[u64], row: u32) -> Kept
 #[inline(always)]
 fn take_numbers(numbers: NumberSlice<'_>, nulls: &[u64], rows: &[u32], cells: &mut [Kept])
     requires { (at : ℕ) → at < length cells.old → get_or rows.now at 0 < length (numbers_in numbers) }
-    ensures values { (values : List Cell) → AreNumbers values (numbers_in numbers.entry) → AreNulls values nulls.now → AreCellsOf values (listed rows.now) (length cells.old) cells.new }
+    ensures values { (values : List Cell) → AreNumbers values (numbers_in numbers.entry) → AreNulls values nulls.now → AreCellsOf values rows.now (length cells.old) cells.new }
     ensures kinds { AreOfKind kinds.Int cells.new }
 {
     for at in 0..cells.len() {
@@ -108,7 +108,7 @@ fn take_numbers(numbers: NumberSlice<'_>, nulls: &[u64], rows: &[u32], cells: &m
 #[inline(always)]
 fn take_codes(codes: CodeSlice<'_>, nulls: &[u64], rows: &[u32], cells: &mut [Kept])
     requires { (at : ℕ) → at < length cells.old → get_or rows.now at 0 < length (codes_in codes) }
-    ensures values { (values : List Cell) → AreCodes values (codes_in codes.entry) → AreNulls values nulls.now → AreCellsOf values (listed rows.now) (length cells.old) cells.new }
+    ensures values { (values : List Cell) → AreCodes values (codes_in codes.entry) → AreNulls values nulls.now → AreCellsOf values rows.now (length cells.old) cells.new }
     ensures kinds { AreOfKind kinds.Text cells.new }
 {
     for at in 0..cells.len() {
@@ -120,7 +120,7 @@ fn take_codes(codes: CodeSlice<'_>, nulls: &[u64], rows: &[u32], cells: &mut [Ke
 fn fill_numbers(column: &Column, rows: &[u32], cells: &mut [Kept])
     requires kind { column.now.kind ≡ kinds.Int }
     requires rows { (at : ℕ) → at < length cells.old → get_or rows.now at 0 < length column.now.values }
-    ensures values { AreCellsOf column.now.values (listed rows.now) (length cells.old) cells.new }
+    ensures values { AreCellsOf column.now.values rows.now (length cells.old) cells.new }
     ensures kinds { AreOfKind column.now.kind cells.new }
 {
     let nulls = column.null_words();
@@ -143,7 +143,7 @@ pub(crate) fn codes_of(numbers: NumberSlice<'_>) -> CodeSlice<'_>
 fn fill_codes(column: &Column, rows: &[u32], cells: &mut [Kept])
     requires kind { column.now.kind ≡ kinds.Text }
     requires rows { (at : ℕ) → at < length cells.old → get_or rows.now at 0 < length column.now.values }
-    ensures values { AreCellsOf column.now.values (listed rows.now) (length cells.old) cells.new }
+    ensures values { AreCellsOf column.now.values rows.now (length cells.old) cells.new }
     ensures kinds { AreOfKind column.now.kind cells.new }
 {
     let nulls = column.null_words();
@@ -173,7 +173,7 @@ fn fill(
     cells: &mut Vec<Kept>,
 ) -> Result<(), AllocError>
     requires rows { (at : ℕ) → at < count → get_or rows.now at 0 < length column.now.values }
-    ensures values { OnOk result (AreCellsOf column.now.values (listed rows.now) count cells.new.items) }
+    ensures values { OnOk result (AreCellsOf column.now.values rows.now count cells.new.items) }
     ensures kinds { OnOk result (AreOfKind column.now.kind cells.new.items) }
 {
     cells.resize(count, Kept::Null)?;

@@ -4,7 +4,7 @@
 //!   `add_block`, `merge`, `append`, `read_group`; [`Group`], which that fills, and [`Total`].
 //! - Callers: `ssb_pipeline`, whose parts hold groups; `ssb_rows`, which makes rows of them.
 //! - Files: `groups`, `store`, `table`; `places`, `room`: where keys stand; `key`, `keys`, `column`, `columns`,
-//!   `digits`, `domains`: keys; `row_slice`, `gather`, `numbers`, `block_totals`, `alone`, `pair`, `evaluate`,
+//!   `digits`, `domains`: keys; `gather`, `numbers`, `block_totals`, `alone`, `pair`, `evaluate`,
 //!   `outcome`: what a block adds; `kept`, `totals`, `tallies`, `joining`: aggregates.
 //! - Definitions: `Value`, `Aggregates`, `Rows`, `Seen`, `Stands`, `Added`: what groups stand for; `Keys`,
 //!   `GroupKeys`, `Refs`, `Digits`, `Places`, `Tallies`, `Joining`, `Gathering`, `Alone`, `Pairs`, `Outcomes`,
@@ -29,7 +29,6 @@ mod outcome;
 mod pair;
 mod places;
 mod room;
-mod row_slice;
 mod store;
 mod table;
 mod tallies;

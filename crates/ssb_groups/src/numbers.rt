@@ -1,6 +1,6 @@
 // The numbers, or the codes of the texts, of a column that has no null.
 
-ghost use Rattle.std.specs.Prelude.{◌≡◌, ◌<◌, ◌^◌, ℕ, List, [], IfOk, true, length, map};
+ghost use Rattle.std.specs.Prelude.{◌≡◌, ◌<◌, ℕ, List, [], IfOk, true, get_or, length, map};
 ghost use Rattle.std.specs.List.{All};
 ghost use Rattle.ssb_cells.specs.Cell.{Cell};
 ghost use Rattle.ssb_cells.specs.Lent.{AreCodes, AreNulls, AreNumbers};
@@ -8,10 +8,9 @@ ghost use Rattle.ssb_cells.specs.PackedLent.{codes_in, numbers_in};
 ghost use Rattle.ssb_terms.specs.declared.rule.ColType.TheVariants as kinds;
 ghost use Rattle.ssb_groups.specs.Keys.{AreOfKind};
 ghost use Rattle.ssb_groups.specs.Tallies.{kept_codes, kept_numbers};
-ghost use Rattle.ssb_groups.specs.Refs.{AreCellsOf, HasRow, IsColumn, cell_in, row_in};
+ghost use Rattle.ssb_groups.specs.Refs.{AreCellsOf, HasRow, IsColumn, cell_in};
 
-use crate::column::codes_of;
-use crate::row_slice::{RowSlice, rows_of};
+use crate::column::{codes_of, row_at};
 use ssb_cells::{CodeSlice, Column, NumberSlice, Table};
 use ssb_job::Block;
 use ssb_plan::ColumnRef;
@@ -20,39 +19,35 @@ use std::alloc::AllocError;
 
 // Fills a list with the numbers of some rows, kept in one width. Where a row is null, the number is of no matter.
 #[inline(always)]
-fn copy_numbers(kept: NumberSlice<'_>, rows: RowSlice<'_>, numbers: &mut [i64])
-    requires few { length (numbers_in kept) < 2 ^ 32 }
-    requires rows { (at : ℕ) → at < length numbers.old → row_in rows at < length (numbers_in kept) }
-    ensures values { (values : List Cell) → AreNumbers values (numbers_in kept.entry) → AreNulls values [] → AreCellsOf values (row_in rows.entry) (length numbers.old) (kept_numbers numbers.new) }
+fn copy_numbers(kept: NumberSlice<'_>, rows: &[u32], numbers: &mut [i64])
+    requires { (at : ℕ) → at < length numbers.old → get_or rows.now at 0 < length (numbers_in kept) }
+    ensures values { (values : List Cell) → AreNumbers values (numbers_in kept.entry) → AreNulls values [] → AreCellsOf values rows.now (length numbers.old) (kept_numbers numbers.new) }
     ensures kinds { AreOfKind kinds.Int (kept_numbers numbers.new) }
 {
     for at in 0..numbers.len() {
-        numbers[at] = kept.get(rows.at(at));
+        numbers[at] = kept.get(row_at(rows, at) as usize);
     }
 }
 
 // The same of codes.
 #[inline(always)]
-fn copy_codes(kept: CodeSlice<'_>, rows: RowSlice<'_>, codes: &mut [u32])
-    requires few { length (codes_in kept) < 2 ^ 32 }
-    requires rows { (at : ℕ) → at < length codes.old → row_in rows at < length (codes_in kept) }
-    ensures { (values : List Cell) → AreCodes values (codes_in kept.entry) → AreNulls values [] → AreCellsOf values (row_in rows.entry) (length codes.old) (kept_codes codes.new) }
+fn copy_codes(kept: CodeSlice<'_>, rows: &[u32], codes: &mut [u32])
+    requires { (at : ℕ) → at < length codes.old → get_or rows.now at 0 < length (codes_in kept) }
+    ensures { (values : List Cell) → AreCodes values (codes_in kept.entry) → AreNulls values [] → AreCellsOf values rows.now (length codes.old) (kept_codes codes.new) }
 {
     for at in 0..codes.len() {
-        codes[at] = kept.get(rows.at(at));
+        codes[at] = kept.get(row_at(rows, at) as usize);
     }
 }
 
 // The numbers of some rows of a column of numbers that has no null.
-fn copy_column_numbers(column: &Column, rows: RowSlice<'_>, numbers: &mut [i64])
+fn copy_column_numbers(column: &Column, rows: &[u32], numbers: &mut [i64])
     requires kind { column.now.kind ≡ kinds.Int }
     requires no_null { AreNulls column.now.values [] }
-    requires rows { (at : ℕ) → at < length numbers.old → row_in rows at < length column.now.values }
-    ensures values { AreCellsOf column.now.values (row_in rows.entry) (length numbers.old) (kept_numbers numbers.new) }
+    requires rows { (at : ℕ) → at < length numbers.old → get_or rows.now at 0 < length column.now.values }
+    ensures values { AreCellsOf column.now.values rows.now (length numbers.old) (kept_numbers numbers.new) }
     ensures kinds { AreOfKind kinds.Int (kept_numbers numbers.new) }
 {
-    // For the prover: a column has fewer than 2^32 rows.
-    let _rows = column.len();
     match column.numbers() {
         NumberSlice::One(kept) => copy_numbers(NumberSlice::One(kept), rows, numbers),
         NumberSlice::Two(kept) => copy_numbers(NumberSlice::Two(kept), rows, numbers),
@@ -62,14 +57,12 @@ fn copy_column_numbers(column: &Column, rows: RowSlice<'_>, numbers: &mut [i64])
 }
 
 // The codes of some rows of a column of texts that has no null.
-fn copy_column_codes(column: &Column, rows: RowSlice<'_>, codes: &mut [u32])
+fn copy_column_codes(column: &Column, rows: &[u32], codes: &mut [u32])
     requires kind { column.now.kind ≡ kinds.Text }
     requires no_null { AreNulls column.now.values [] }
-    requires rows { (at : ℕ) → at < length codes.old → row_in rows at < length column.now.values }
-    ensures { AreCellsOf column.now.values (row_in rows.entry) (length codes.old) (kept_codes codes.new) }
+    requires rows { (at : ℕ) → at < length codes.old → get_or rows.now at 0 < length column.now.values }
+    ensures { AreCellsOf column.now.values rows.now (length codes.old) (kept_codes codes.new) }
 {
-    // For the prover: a column has fewer than 2^32 rows.
-    let _rows = column.len();
     match column.codes().numbers {
         NumberSlice::One(kept) => copy_codes(codes_of(NumberSlice::One(kept)), rows, codes),
         NumberSlice::Two(kept) => copy_codes(codes_of(NumberSlice::Two(kept)), rows, codes),
@@ -114,7 +107,7 @@ pub(crate) fn list_numbers(
     ensures kinds { IfOk result (λ listed. listed ≡ true → AreOfKind kinds.Int (kept_numbers numbers.new.items)) }
 {
     let table = &tables[column.table];
-    let rows = rows_of(block, column.place);
+    let rows = block.rows(column.place);
     let column = table.column(column.column);
     if !is_int_without_null(column) {
         return Ok(false);
@@ -136,7 +129,7 @@ pub(crate) fn list_codes(
     ensures { IfOk result (λ listed. listed ≡ true → kept_codes codes.new.items ≡ map (λ rows. cell_in tables.now rows column) block.now) }
 {
     let table = &tables[column.table];
-    let rows = rows_of(block, column.place);
+    let rows = block.rows(column.place);
     let column = table.column(column.column);
     if !is_text_without_null(column) {
         return Ok(false);

@@ -2,7 +2,7 @@ use Rattle.std.proofs.Common.{◌≡◌, ◌∙◌, Some, length, refl, ap, subs
 use Rattle.std.specs.Vec.{with_items}
 use Rattle.std.proofs.lemmas.List.{length-map, with_items_is}
 use Rattle.ssb_plan.specs.Inputs.{values_of}
-use Rattle.ssb_groups.specs.Refs.{AreCellsOf, row_in}
+use Rattle.ssb_groups.specs.Refs.{AreCellsOf}
 use Rattle.ssb_groups.specs.Tallies.{kept_codes}
 use Rattle.ssb_keys.specs.declared.kept.Kept.TheVariants as kept
 use Rattle.ssb_groups.proofs.ColumnFacts.{cells-of-block, table-here, values-here}
@@ -23,5 +23,5 @@ returns c = λ yes.
     let values : values_of tables r ≡ c.column-column.result.now.values =
     values-here tables (Some r) r c.index-tables-column.result c.column-column.result.now refl (table-here tables r.table c.index-tables-column.result c.requires.column.table c.index-tables-column.is) c.column-column.ensures.column in
     ap kept_codes written
-    ∙ cells-of-block tables r block (row_in c.rows_of-rows.result) (kept_codes ns) c.rows_of-rows.ensures
-    (subst (λ vs. AreCellsOf vs (row_in c.rows_of-rows.result) (length block) (kept_codes ns)) (sym values) (subst (λ n. AreCellsOf c.column-column.result.now.values (row_in c.rows_of-rows.result) n (kept_codes ns)) count are))
+    ∙ cells-of-block tables r block c.rows-rows.result.now (kept_codes ns) c.rows-rows.ensures
+    (subst (λ vs. AreCellsOf vs c.rows-rows.result.now (length block) (kept_codes ns)) (sym values) (subst (λ n. AreCellsOf c.column-column.result.now.values c.rows-rows.result.now n (kept_codes ns)) count are))

@@ -1,4 +1,4 @@
-use Rattle.std.proofs.Common.{arith, get_or, subst, sym}
+use Rattle.std.proofs.Common.{◌≡◌, arith, get_or, length, subst, sym}
 use Rattle.std.proofs.lemmas.List.{length-map}
 use Rattle.ssb_groups.specs.Joining.{JoinsTotal, values_by}
 use Rattle.ssb_groups.specs.Keys.{IsKept, kept_total, spelt_cell}
